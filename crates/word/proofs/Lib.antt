@@ -1,0 +1,6 @@
+pub mod Place
+pub mod Integers
+pub mod Window
+pub mod ByteRange
+pub mod Runs
+pub mod TwosComplement

@@ -1,0 +1,298 @@
+-- Laws of `place` and `part`. Where the offset is within the list, place d at xs is three runs, take at d, xs and drop (at + length xs) d,
+-- and the first is `at` long. So each law cuts a list at the two seams, and what follows from a cut is stated for a byte (getD), a front
+-- (take), a rest (drop) and a part. The laws of two places say how they join, and those at the end what the borrow checker hands back of a
+-- lent part of a slice.
+use mathlib.Core.Path.{_≡_, refl, sym, ap, _∙_}
+use mathlib.Core.Logic.{_⊎_, inl, inr, ⊎-elim}
+use mathlib.Core.Bool.{Bool, true, false}
+use mathlib.Core.List.{List, [], _∷_, _++_, append-assoc, append-nil}
+use Prim.Native.Nat.{ℕ, zero, suc, _+_, _-_, _<_, _≤_}
+use native.Mathlib.Nat.{add-zero, zero-add, add-assoc, suc-add, le-refl}
+use native.Mathlib.Numerals.{add-one}
+use native.Mathlib.Omega.{arith}
+use lib.Dec.{ltb}
+use lib.ListN.{length, getD, take, drop, set, length-append, length-take, length-drop, take-append-drop, drop-of-length-le, List·getD-append}
+use lib.Seq.{length-take-le, take-all, take-nil, take-at, drop-at, take-take, take-add, drop-drop, take-append-le, drop-append-le, take-append-add, drop-append-add, getD-take, getD-drop, set-split, sets, sets-eq}
+use borrow.Author.Tests.{ltb-true, ltb-false}
+use borrow.Rule.Slice.PartMut.{midOf, putMid}
+use Rattle.word.specs.Place.{place, part}
+
+-- one or the other, by the test
+pub lt-or-ge : (m n : ℕ) → (m < n) ⊎ (n ≤ m)
+lt-or-ge m n = pick (ltb m n) refl
+  where
+    pick : (b : Bool) → ltb m n ≡ b → (m < n) ⊎ (n ≤ m)
+    pick true e = inl (ltb-true m n e)
+    pick false e = inr (ltb-false m n e)
+
+-- ---- parts
+
+pub part-length : (d : List ℕ) (a n : ℕ) → a + n ≤ length d → length (part d a n) ≡ n
+part-length d a n h = length-take-le n (drop a d) (simp length-drop (omega arith))
+
+pub part-byte : (d : List ℕ) (a n i : ℕ) → i < n → getD (part d a n) i 0 ≡ getD d (a + i) 0
+part-byte d a n i h = getD-take n (drop a d) i 0 h ∙ getD-drop a d i 0
+
+pub part-drop : (d : List ℕ) (a i n : ℕ) → part (drop a d) i n ≡ part d (a + i) n
+part-drop d a i n = ap (take n) (drop-drop i a d)
+
+-- a part is what is left of a front
+pub drop-take : (a n : ℕ) (d : List ℕ) → drop a (take (a + n) d) ≡ part d a n
+drop-take zero n d = ap (λ (k : ℕ). take k d) (zero-add n)
+drop-take (suc a) n [] = ap (drop (suc a)) (take-nil (suc a + n)) ∙ sym (take-nil n)
+drop-take (suc a) n (x ∷ d) = ap (λ (k : ℕ). drop (suc a) (take k (x ∷ d))) (suc-add a n) ∙ drop-take a n d
+
+pub part-part : (d : List ℕ) (a n i m : ℕ) → i + m ≤ n → part (part d a n) i m ≡ part d (a + i) m
+part-part d a n i m h =
+    let s : n ≡ i + (n - i) = omega arith in
+    ap (λ (k : ℕ). part (take k (drop a d)) i m) s
+    ∙ ap (take m) (drop-take i (n - i) (drop a d))
+    ∙ take-take m (n - i) (drop i (drop a d)) (omega arith)
+    ∙ part-drop d a i m
+
+pub part-take : (d : List ℕ) (n a m : ℕ) → a + m ≤ n → part (take n d) a m ≡ part d a m
+part-take d n a m h = part-part d 0 n a m h ∙ ap (λ (k : ℕ). part d k m) (zero-add a)
+
+-- two parts, one after the other
+pub part-add : (d : List ℕ) (a n m : ℕ) → part d a (n + m) ≡ part d a n ++ part d (a + n) m
+part-add d a n m = take-add n m (drop a d) ∙ ap (λ (r : List ℕ). part d a n ++ take m r) (drop-drop n a d)
+
+-- parts of two lists
+pub part-left : (xs ys : List ℕ) (a n : ℕ) → a + n ≤ length xs → part (xs ++ ys) a n ≡ part xs a n
+part-left xs ys a n h =
+    let k : length (drop a xs) ≡ length xs - a = length-drop a xs in
+    ap (take n) (drop-append-le a xs ys (omega arith)) ∙ take-append-le n (drop a xs) ys (omega arith)
+
+pub part-right : (xs ys : List ℕ) (a n : ℕ) → part (xs ++ ys) (length xs + a) n ≡ part ys a n
+part-right xs ys a n = ap (take n) (drop-append-add xs ys a)
+
+-- ---- one place
+
+module _ (d : List ℕ) (at : ℕ) (xs : List ℕ) where
+  -- the definition, as an equation
+  pub place-is : place d at xs ≡ take at d ++ xs ++ drop (at + length xs) d
+  unfolding place
+  place-is = refl
+
+  pub place-runs : place d at xs ≡ take at d ++ (xs ++ drop (at + length xs) d)
+  place-runs = place-is ∙ append-assoc (take at d) xs (drop (at + length xs) d)
+
+  pub place-length : at + length xs ≤ length d → length (place d at xs) ≡ length d
+  place-length h = rw place-is (simp (length-append, length-take, length-drop) (omega arith))
+
+  -- up to the end of what is placed
+  pub place-front : at ≤ length d → take (at + length xs) (place d at xs) ≡ take at d ++ xs
+  place-front h =
+      let t : length (take at d) ≡ at = length-take-le at d h in
+      rw place-is (take-at (take at d ++ xs) (drop (at + length xs) d) (at + length xs) (rw (length-append, t) refl))
+
+  pub place-take : (n : ℕ) → at ≤ length d → n ≤ at → take n (place d at xs) ≡ take n d
+  place-take n h k =
+      let t : length (take at d) ≡ at = length-take-le at d h in
+      rw place-runs (take-append-le n (take at d) (xs ++ drop (at + length xs) d) (omega arith) ∙ take-take n at d k)
+
+  pub place-drop-at : at ≤ length d → drop at (place d at xs) ≡ xs ++ drop (at + length xs) d
+  place-drop-at h = rw place-runs (drop-at (take at d) (xs ++ drop (at + length xs) d) at (length-take-le at d h))
+
+  -- past what is placed, also where the offset is past the end
+  pub place-drop-after : (a : ℕ) → at + length xs ≤ a → drop a (place d at xs) ≡ drop a d
+  place-drop-after a h = ⊎-elim out within (lt-or-ge (length d) at)
+    where
+      out : length d < at → drop a (place d at xs) ≡ drop a d
+      out k =
+          let s : length (place d at xs) ≤ a = rw place-is (simp (length-append, length-take, length-drop) (omega arith)) in
+          drop-of-length-le (place d at xs) {i = a} s ∙ sym (drop-of-length-le d {i = a} (omega arith))
+
+      within : at ≤ length d → drop a (place d at xs) ≡ drop a d
+      within k =
+          let t : length (take at d) ≡ at = length-take-le at d k in
+          let n : ℕ = a - (at + length xs) in
+          let s : a ≡ at + length xs + n = omega arith in
+          let e : drop (at + length xs) (place d at xs) ≡ drop (at + length xs) d =
+          rw place-is (drop-at (take at d ++ xs) (drop (at + length xs) d) (at + length xs) (rw (length-append, t) refl)) in
+          ap (λ (i : ℕ). drop i (place d at xs)) s
+          ∙ sym (drop-drop n (at + length xs) (place d at xs))
+          ∙ ap (drop n) e
+          ∙ drop-drop n (at + length xs) d
+          ∙ ap (λ (i : ℕ). drop i d) (sym s)
+
+  -- ---- a byte
+
+  pub place-inside : (k : ℕ) → at ≤ length d → k < length xs → getD (place d at xs) (at + k) 0 ≡ getD xs k 0
+  place-inside k h l =
+      sym (getD-drop at (place d at xs) k 0)
+      ∙ ap (λ (r : List ℕ). getD r k 0) (place-drop-at h)
+      ∙ List·getD-append xs (drop (at + length xs) d) 0 k l
+
+  pub place-before : (j : ℕ) → at ≤ length d → j < at → getD (place d at xs) j 0 ≡ getD d j 0
+  place-before j h l =
+      sym (getD-take at (place d at xs) j 0 l)
+      ∙ ap (λ (r : List ℕ). getD r j 0) (place-take at h (le-refl at))
+      ∙ getD-take at d j 0 l
+
+  pub place-after : (j : ℕ) → at + length xs ≤ j → getD (place d at xs) j 0 ≡ getD d j 0
+  place-after j h =
+      let e : getD (drop j (place d at xs)) 0 0 ≡ getD (drop j d) 0 0 = ap (λ (r : List ℕ). getD r 0 0) (place-drop-after j h) in
+      simp (getD-drop, add-zero) at e
+
+  pub place-other : (j : ℕ) → at ≤ length d → (j < at) ⊎ (at + length xs ≤ j) → getD (place d at xs) j 0 ≡ getD d j 0
+  place-other j h side = ⊎-elim (place-before j h) (place-after j) side
+
+  -- ---- a part
+
+  pub place-part-same : at ≤ length d → part (place d at xs) at (length xs) ≡ xs
+  place-part-same h = ap (take (length xs)) (place-drop-at h) ∙ take-at xs (drop (at + length xs) d) (length xs) refl
+
+  pub place-part-before : (a n : ℕ) → at ≤ length d → a + n ≤ at → part (place d at xs) a n ≡ part d a n
+  place-part-before a n h k = sym (drop-take a n (place d at xs)) ∙ ap (drop a) (place-take (a + n) h k) ∙ drop-take a n d
+
+  pub place-part-after : (a n : ℕ) → at + length xs ≤ a → part (place d at xs) a n ≡ part d a n
+  place-part-after a n h = ap (take n) (place-drop-after a h)
+
+  pub place-part-other : (a n : ℕ) → at ≤ length d → (a + n ≤ at) ⊎ (at + length xs ≤ a) → part (place d at xs) a n ≡ part d a n
+  place-part-other a n h side = ⊎-elim (place-part-before a n h) (place-part-after a n) side
+
+-- ---- what changes nothing
+
+pub place-none : (d : List ℕ) (at : ℕ) → place d at [] ≡ d
+place-none d at = place-is d at [] ∙ rw (add-zero, append-nil, take-append-drop)
+
+pub place-same : (d : List ℕ) (at n : ℕ) → at + n ≤ length d → place d at (part d at n) ≡ d
+place-same d at n h =
+    place-is d at (part d at n)
+    ∙ rw (part-length d at n h, ← drop-drop n at d, append-assoc, take-append-drop, take-append-drop)
+
+-- ---- a place in one of two lists
+
+pub place-left : (xs ys : List ℕ) (i : ℕ) (zs : List ℕ) → i + length zs ≤ length xs → place (xs ++ ys) i zs ≡ place xs i zs ++ ys
+place-left xs ys i zs h =
+    let k : i ≤ length xs = omega arith in
+    rw (place-is (xs ++ ys) i zs, place-is xs i zs, take-append-le i xs ys k, drop-append-le (i + length zs) xs ys h) (simp append-assoc)
+
+pub place-right : (xs ys : List ℕ) (i : ℕ) (zs : List ℕ) → place (xs ++ ys) (length xs + i) zs ≡ xs ++ place ys i zs
+place-right xs ys i zs =
+    rw (place-is (xs ++ ys) (length xs + i) zs, place-is ys i zs, take-append-add, add-assoc, drop-append-add) (simp append-assoc)
+
+-- a place in what follows the first a bytes is a place in the whole
+pub place-in-part : (d : List ℕ) (a i : ℕ) (xs : List ℕ) → take a d ++ place (drop a d) i xs ≡ place d (a + i) xs
+place-in-part d a i xs =
+    rw (place-is (drop a d) i xs, place-is d (a + i) xs, take-add a i d, drop-drop (i + length xs) a d, ← add-assoc a i (length xs)) (simp append-assoc)
+
+-- ---- two places
+
+module _ (d : List ℕ) (at : ℕ) (xs ys : List ℕ) (h : at ≤ length d) where
+  pub place-over : length xs ≤ length ys → place (place d at xs) at ys ≡ place d at ys
+  place-over l =
+      rw (
+        place-is (place d at xs) at ys,
+        place-is d at ys,
+        place-take d at xs at h (le-refl at),
+        place-drop-after d at xs (at + length ys) (omega arith),
+      )
+
+  pub place-again : length xs ≡ length ys → place (place d at xs) at ys ≡ place d at ys
+  place-again e = place-over (omega arith)
+
+  pub place-next : place (place d at xs) (at + length xs) ys ≡ place d at (xs ++ ys)
+  place-next =
+      rw (
+        place-is (place d at xs) (at + length xs) ys,
+        place-is d at (xs ++ ys),
+        place-front d at xs h,
+        place-drop-after d at xs (at + length xs + length ys) (omega arith),
+        length-append xs ys,
+        ← add-assoc at (length xs) (length ys),
+        append-assoc (take at d) xs ys,
+      )
+
+  pub place-inner : (k : ℕ) → k + length ys ≤ length xs → place (place d at xs) (at + k) ys ≡ place d at (place xs k ys)
+  place-inner k l =
+      let rest : List ℕ = drop (at + length xs) d in
+      rw (
+        ← place-in-part (place d at xs) at k ys,
+        place-take d at xs at h (le-refl at),
+        place-drop-at d at xs h,
+        place-left xs rest k ys l,
+        place-runs d at (place xs k ys),
+        place-length xs k ys l,
+      )
+
+-- the one that lies before may be done first or last
+pub place-commute : (d : List ℕ) (a : ℕ) (xs : List ℕ) (b : ℕ) (ys : List ℕ) → a + length xs ≤ b → b ≤ length d
+    → place (place d a xs) b ys ≡ place (place d b ys) a xs
+place-commute d a xs b ys l h =
+    let n : ℕ = b - (a + length xs) in
+    let s : b ≡ a + length xs + n = omega arith in
+    let t : length (take b d) ≡ b = length-take-le b d h in
+    let front : take b (place d a xs) ≡ take a d ++ xs ++ part d (a + length xs) n =
+    ap (λ (k : ℕ). take k (place d a xs)) s
+    ∙ take-add (a + length xs) n (place d a xs)
+    ∙ rw (place-front d a xs (omega arith), place-drop-after d a xs (a + length xs) (le-refl _)) in
+    let back : drop (a + length xs) (place d b ys) ≡ part d (a + length xs) n ++ (ys ++ drop (b + length ys) d) =
+    ap (drop (a + length xs)) (place-runs d b ys)
+    ∙ drop-append-le (a + length xs) (take b d) (ys ++ drop (b + length ys) d) (omega arith)
+    ∙ ap (λ (r : List ℕ). r ++ (ys ++ drop (b + length ys) d))
+    (ap (λ (k : ℕ). drop (a + length xs) (take k d)) s ∙ drop-take (a + length xs) n d) in
+    rw (
+      place-is (place d a xs) b ys,
+      place-is (place d b ys) a xs,
+      front,
+      back,
+      place-take d b ys a h (omega arith),
+      place-drop-after d a xs (b + length ys) (omega arith),
+    )
+    (simp append-assoc)
+
+-- ---- stores
+
+-- a store is a place of one byte
+pub place-one : (d : List ℕ) (at v : ℕ) → at < length d → set d at v ≡ place d at (v ∷ [])
+place-one d at v h = rw (set-split d at v h, place-runs d at (v ∷ []), ← add-one at)
+
+-- a run of stores is a place
+pub place-stores : (d : List ℕ) (at : ℕ) (vs : List ℕ) → at + length vs ≤ length d → sets d at vs ≡ place d at vs
+place-stores d at vs h = rw place-is (sets-eq vs d at h)
+
+-- a store right behind what is placed
+pub place-more : (d : List ℕ) (at : ℕ) (xs : List ℕ) (v : ℕ) → at + length xs < length d
+    → set (place d at xs) (at + length xs) v ≡ place d at (xs ++ (v ∷ []))
+place-more d at xs v h =
+    place-one (place d at xs) (at + length xs) v (rw (place-length d at xs (omega arith)) h) ∙ place-next d at xs (v ∷ []) (omega arith)
+
+-- ---- a lent part of a slice, as the borrow checker has it: midOf a k d is lent, and when it is back with ys the slice is putMid a k d ys
+
+-- `&s[a..e]` and `&mut s[a..e]`, with k = e - a
+pub lent-part : (d : List ℕ) (a k : ℕ) → midOf a k d ≡ part d a k
+lent-part d a k = refl
+
+-- `&s[a..]` and `&mut s[a..]`
+pub lent-tail : (d : List ℕ) (a : ℕ) → midOf a (length d - a) d ≡ drop a d
+lent-tail d a = take-all (length d - a) (drop a d) (simp length-drop (le-refl _))
+
+-- the part comes back as ys whole
+pub returned-whole : (d : List ℕ) (a k : ℕ) (ys : List ℕ) → length ys ≡ k → putMid a k d ys ≡ place d a ys
+returned-whole d a k ys e = rw (place-runs d a ys, drop-drop k a d, e)
+
+-- the tail comes back
+pub tail-back : (d : List ℕ) (a : ℕ) (ys : List ℕ) → putMid a (length d - a) d ys ≡ take a d ++ ys
+tail-back d a ys =
+    let e : drop (length d - a) (drop a d) ≡ [] = drop-of-length-le (drop a d) {i = length d - a} (simp length-drop (le-refl _)) in
+    rw (e, append-nil ys)
+
+-- the part comes back with xs placed in it
+pub returned-part : {last : List ℕ} (d : List ℕ) (a k i : ℕ) (xs : List ℕ) → a + k ≤ length d → i + length xs ≤ k
+    → last ≡ place (midOf a k d) i xs → putMid a k d last ≡ place d (a + i) xs
+returned-part d a k i xs h l e =
+    let f : i + length xs ≤ length (part d a k) = rw (part-length d a k h) l in
+    rw (e, ← place-left (part d a k) (drop k (drop a d)) i xs f, take-append-drop) (place-in-part d a i xs)
+
+-- the tail comes back with xs placed in it
+pub returned-tail : {last : List ℕ} (d : List ℕ) (a i : ℕ) (xs : List ℕ) → last ≡ place (midOf a (length d - a) d) i xs
+    → putMid a (length d - a) d last ≡ place d (a + i) xs
+returned-tail {last} d a i xs e =
+    tail-back d a last ∙ ap (λ (r : List ℕ). take a d ++ r) (e ∙ ap (λ (r : List ℕ). place r i xs) (lent-tail d a)) ∙ place-in-part d a i xs
+
+-- the same, at the tail's front
+pub returned-front : {last : List ℕ} (d : List ℕ) (a : ℕ) (xs : List ℕ) → last ≡ place (midOf a (length d - a) d) 0 xs
+    → putMid a (length d - a) d last ≡ place d a xs
+returned-front d a xs e = returned-tail d a 0 xs e ∙ ap (λ (k : ℕ). place d k xs) (add-zero a)
