@@ -1,0 +1,338 @@
+-- What the functions that test return, by what the tests found. Each law's premises are what is known at one `return`, so that
+-- `search answers` finds them there wherever they stand; a callee's result is a variable with what the callee ensures of it.
+use Prim.Native.Nat.{ℕ, _+_, _*_, _-_, _/_, _%_, _^_, _≤_, _<_}
+use native.Mathlib.Omega.{arith}
+use mathlib.Core.Path.{_≡_, refl, sym, ap, _∙_}
+use mathlib.Core.Bool.{Bool, true, false, not}
+use mathlib.Core.List.{List, append-nil}
+use mathlib.Core.Logic.{⊎-elim}
+use lib.Dec.{leb, eqb}
+use lib.IntN.{ℤ}
+use lib.Signed.{mag}
+use mir.Syntax.{w32}
+use mir.Val.{toZ, ofZ}
+use lib.ListN.{length, replicate, length-replicate, drop-of-length-le}
+use borrow.Author.Tests.{le-leb, lt-leb, eq-eqb, ne-eqb, not-true, not-false}
+use Rattle.word.proofs.Place.{lt-or-ge, place-is, place-next}
+use Rattle.word.specs.Integer.{u16At, u32At, le}
+use Rattle.word.specs.Place.{place}
+use Rattle.word.specs.Signed.{signedOf, bitsOf}
+use Rattle.word.proofs.TwosComplement.{back-of}
+use Rattle.layout.specs.Sizes.{blocksWithin, mstPermitted, xrfPermitted, addressOf, blockAt, offsetAt, endMoved, recordLength, tagPermitted}
+use Rattle.layout.specs.Entry.{wellPlaced, markedPlace, placeOf, markBits, entryOf, encodeOf}
+use Rattle.layout.specs.Control.{nextOf, endOf, numbersRight, endRight, controlRight, controlOf, withNext, withEnd, formattedMst}
+use Rattle.layout.specs.CrossReference.{xrfBlock, slotAt, headBits, headRight, slotFree, entryAt, withEntry, withHeads, formattedXrf}
+use Rattle.layout.specs.Leader.{leaderBytes, leaderOf, firstBytes}
+use Rattle.layout.specs.declared.leader.Leader.{Leader}
+use Rattle.layout.specs.declared.control.Control.the-variants.{Right, Wrong}
+use Rattle.layout.specs.declared.sizes.Block.{Block}
+use Rattle.layout.specs.declared.entry.Mark.{Mark}
+use Rattle.layout.specs.declared.entry.Mark.the-variants.{Settled, Changed, New}
+use Rattle.layout.specs.declared.entry.Place.{Place}
+use Rattle.layout.specs.declared.entry.Entry.{Entry}
+use Rattle.layout.specs.declared.entry.Entry.the-variants.{Malformed, At}
+use Rattle.layout.proofs.Tests.{tests, and-false}
+use Rattle.layout.proofs.Facts.{end-stays, end-moves, blocks-facts}
+use Rattle.layout.proofs.ControlRecord.{next-length}
+use Rattle.layout.proofs.CrossReference.{heads-more}
+use Rattle.layout.proofs.LeaderBytes.{leader-is, first-bytes-leader}
+
+-- ---- sizes
+
+module _ (most n : ℕ) where
+  pub blocks-broken : (n % 512 ≡ 0 → ⊥) → false ≡ blocksWithin most n
+  unfolding blocksWithin
+  blocks-broken h = rw (ne-eqb _ _ h)
+
+  pub blocks-none : n < 512 → false ≡ blocksWithin most n
+  unfolding blocksWithin
+  blocks-none h = rw (lt-leb _ _ h, and-false)
+
+  pub blocks-rest : n % 512 ≡ 0 → 512 ≤ n → leb n (512 * most) ≡ blocksWithin most n
+  unfolding blocksWithin
+  blocks-rest h k = rw (eq-eqb _ _ h, le-leb _ _ k)
+
+module _ (n : ℕ) where
+  pub length-odd : (n % 2 ≡ 0 → ⊥) → false ≡ recordLength n
+  unfolding recordLength
+  length-odd h = rw (ne-eqb _ _ h)
+
+  pub length-short : n < 18 → false ≡ recordLength n
+  unfolding recordLength
+  length-short h = rw (lt-leb _ _ h, and-false)
+
+  pub length-rest : n % 2 ≡ 0 → 18 ≤ n → leb n 32766 ≡ recordLength n
+  unfolding recordLength
+  length-rest h k = rw (eq-eqb _ _ h, le-leb _ _ k)
+
+  pub tag-none : n < 1 → false ≡ tagPermitted n
+  unfolding tagPermitted
+  tag-none h = rw (lt-leb _ _ h)
+
+  pub tag-rest : 1 ≤ n → leb n 32767 ≡ tagPermitted n
+  unfolding tagPermitted
+  tag-rest h = rw (le-leb _ _ h)
+
+  pub end-after : 500 ≤ n % 512 → (n / 512 + 1) * 512 ≡ endMoved n
+  end-after h = sym (end-moves n h)
+
+  pub end-here : n % 512 < 500 → n ≡ endMoved n
+  end-here h = sym (end-stays n h)
+
+pub ruleset size-answers = (blocks-broken, blocks-none, blocks-rest, length-odd, length-short, length-rest, tag-none, tag-rest, end-after, end-here)
+
+-- ---- places
+
+module _ (end b p : ℕ) where
+  pub placed-no-block : b < 1 → false ≡ wellPlaced end b p
+  unfolding wellPlaced
+  placed-no-block h = rw (lt-leb _ _ h)
+
+  pub placed-odd : (p % 2 ≡ 0 → ⊥) → false ≡ wellPlaced end b p
+  unfolding wellPlaced
+  placed-odd h = rw (ne-eqb _ _ h, and-false)
+
+  pub placed-late : 498 < p → false ≡ wellPlaced end b p
+  unfolding wellPlaced
+  placed-late h = rw (lt-leb _ _ h, and-false)
+
+  module _ (at : ℕ) (e : at ≡ addressOf b p) where
+    pub placed-low : at < 64 → false ≡ wellPlaced end b p
+    unfolding wellPlaced
+    placed-low h = rw (← e, lt-leb _ _ h, and-false)
+
+    pub placed-rest : 1 ≤ b → p % 2 ≡ 0 → p ≤ 498 → 64 ≤ at → leb (at + 18) end ≡ wellPlaced end b p
+    unfolding wellPlaced
+    placed-rest h i j k = rw (← e, le-leb _ _ h, eq-eqb _ _ i, le-leb _ _ j, le-leb _ _ k)
+
+module _ (end b low : ℕ) (d w : Bool) (e : w ≡ wellPlaced end b (low % 512)) where
+  pub place-malformed : not w ≡ true → Malformed ≡ placeOf end b d low
+  unfolding placeOf
+  place-malformed h = rw (← e, not-true w h)
+
+  pub place-marked : (r : Entry) → not w ≡ false → r ≡ markedPlace b (low % 512) d (low / 512) → r ≡ placeOf end b d low
+  unfolding placeOf
+  place-marked r h s = rw (← e, not-false w h, s)
+
+module _ (b : Block) (p k : ℕ) (d : Bool) where
+  pub marked-settled : k ≡ 0 → At (record { block = b; offset = p; deleted = d; mark = Settled }) ≡ markedPlace (b .0) p d k
+  unfolding markedPlace
+  marked-settled e = rw e
+
+  pub marked-changed : k ≡ 1 → At (record { block = b; offset = p; deleted = d; mark = Changed }) ≡ markedPlace (b .0) p d k
+  unfolding markedPlace
+  marked-changed e = rw e
+
+  pub marked-new : k ≡ 2 → At (record { block = b; offset = p; deleted = d; mark = New }) ≡ markedPlace (b .0) p d k
+  unfolding markedPlace
+  marked-new e = rw e
+
+  pub marked-both : (k ≡ 0 → ⊥) → (k ≡ 1 → ⊥) → (k ≡ 2 → ⊥) → Malformed ≡ markedPlace (b .0) p d k
+  unfolding markedPlace
+  marked-both f g h = rw (ne-eqb k 0 f, ne-eqb k 1 g, ne-eqb k 2 h)
+
+module _ (m : Mark) where
+  pub bits-settled : m ≡ Settled → 0 ≡ markBits m
+  unfolding markBits
+  bits-settled e = rw e
+
+  pub bits-changed : m ≡ Changed → 512 ≡ markBits m
+  unfolding markBits
+  bits-changed e = rw e
+
+  pub bits-new : m ≡ New → 1024 ≡ markBits m
+  unfolding markBits
+  bits-new e = rw e
+
+pub ruleset mark-answers = (bits-settled, bits-changed, bits-new, arith)
+
+pub ruleset place-answers =
+    (placed-no-block, placed-odd, placed-late, placed-low, placed-rest, place-malformed, place-marked, marked-settled, marked-changed, marked-new, marked-both)
+
+-- ---- the control record
+
+-- n - 1 is tested, so that nothing wraps
+less-one : (n capacity : ℕ) → 1 ≤ n → leb (n - 1) capacity ≡ leb n (capacity + 1)
+less-one n capacity h =
+    ⊎-elim
+    (λ k. lt-leb (n - 1) capacity (omega arith) ∙ sym (lt-leb n (capacity + 1) k))
+    (λ k. le-leb (n - 1) capacity (omega arith) ∙ sym (le-leb n (capacity + 1) k))
+    (lt-or-ge (capacity + 1) n)
+
+module _ (mst : List ℕ) (capacity : ℕ) where
+  pub number-wrong : (n : ℕ) → n ≡ u32At mst 0 → (n ≡ 0 → ⊥) → false ≡ numbersRight mst capacity
+  unfolding numbersRight
+  number-wrong n e h = rw (← e, ne-eqb n 0 h)
+
+  pub type-wrong : (t : ℕ) → t ≡ u16At mst 14 → (t ≡ 0 → ⊥) → false ≡ numbersRight mst capacity
+  unfolding numbersRight
+  type-wrong t e h = rw (← e, ne-eqb t 0 h, and-false)
+
+  module _ (next : ℕ) (e : next ≡ u32At mst 4) where
+    pub next-none : next < 1 → false ≡ numbersRight mst capacity
+    unfolding numbersRight nextOf
+    next-none h = rw (← e, lt-leb 1 next h, and-false)
+
+    pub next-rest : (n t : ℕ) → n ≡ u32At mst 0 → n ≡ 0 → t ≡ u16At mst 14 → t ≡ 0 → 1 ≤ next → leb (next - 1) capacity ≡ numbersRight mst capacity
+    unfolding numbersRight nextOf
+    next-rest n t p h q i k = rw (← p, ← q, ← e, eq-eqb n 0 h, eq-eqb t 0 i, le-leb 1 next k) (less-one next capacity k)
+
+module _ (mst : List ℕ) where
+  module _ (b : ℕ) (e : b ≡ u32At mst 8) where
+    pub end-no-block : b < 1 → false ≡ endRight mst
+    unfolding endRight
+    end-no-block h = rw (← e, lt-leb 1 b h)
+
+    pub end-is : (p r : ℕ) → p ≡ u16At mst 12 → r ≡ addressOf b p → r ≡ endOf mst
+    unfolding endOf
+    end-is p r f s = rw (s, e, f)
+
+  module _ (p : ℕ) (e : p ≡ u16At mst 12) where
+    pub end-odd : (p % 2 ≡ 0 → ⊥) → false ≡ endRight mst
+    unfolding endRight
+    end-odd h = rw (← e, ne-eqb _ _ h, and-false)
+
+    pub end-late : 498 < p → false ≡ endRight mst
+    unfolding endRight
+    end-late h = rw (← e, lt-leb p 498 h, and-false)
+
+    pub end-low : (r : ℕ) → r ≡ endOf mst → r < 64 → false ≡ endRight mst
+    unfolding endRight
+    end-low r f h = rw (← f, lt-leb 64 r h, and-false)
+
+    pub end-rest : (b r : ℕ) → b ≡ u32At mst 8 → 1 ≤ b → p % 2 ≡ 0 → p ≤ 498 → r ≡ endOf mst → 64 ≤ r → leb r (length mst) ≡ endRight mst
+    unfolding endRight
+    end-rest b r f h i j g k = rw (← f, ← e, ← g, le-leb 1 b h, eq-eqb _ _ i, le-leb p 498 j, le-leb 64 r k)
+
+  end-long : (t : Bool) → endRight mst ≡ t → length mst < 64 → endRight mst ≡ false
+  unfolding endRight
+  end-long true e h = let q = simp tests at e in absurd (omega arith)
+  end-long false e h = e
+
+  module _ (capacity : ℕ) where
+    pub control-short : length mst < 64 → Wrong ≡ controlOf mst capacity
+    unfolding controlOf controlRight
+    control-short h = rw (end-long (endRight mst) refl h, and-false)
+
+    module _ (numbers : Bool) (e : numbers ≡ numbersRight mst capacity) where
+      pub control-numbers : not numbers ≡ true → Wrong ≡ controlOf mst capacity
+      unfolding controlOf controlRight
+      control-numbers h = rw (← e, not-true numbers h)
+
+      module _ (end : Bool) (f : end ≡ endRight mst) where
+        pub control-end : not end ≡ true → Wrong ≡ controlOf mst capacity
+        unfolding controlOf controlRight
+        control-end h = rw (← f, not-true end h, and-false)
+
+        pub control-block : not end ≡ false → 1 ≤ u32At mst 8
+        unfolding endRight
+        control-block h = let q = simp tests at (sym f ∙ not-false end h) in q .0 .0 .0 .0
+
+        pub control-right : (n r : ℕ) → not numbers ≡ false → not end ≡ false → n ≡ u32At mst 4 → r ≡ endOf mst → Right (record { 0 = n }) r ≡ controlOf mst capacity
+        unfolding controlOf controlRight nextOf
+        control-right n r h i p q = rw (← e, ← f, not-false numbers h, not-false end i, p, q)
+
+pub ruleset control-answers =
+    (number-wrong, type-wrong, next-none, next-rest, end-no-block, end-is, end-odd, end-late, end-low, end-rest, control-short, control-numbers, control-end, control-block, control-right, arith)
+
+-- ---- the cross-reference file
+
+module _ (n k : ℕ) where
+  pub head-last : k ≡ n → 4294967296 - k ≡ headBits n k
+  unfolding headBits
+  head-last e = rw (eq-eqb k n e)
+
+  pub head-plain : (k ≡ n → ⊥) → k ≡ headBits n k
+  unfolding headBits
+  head-plain h = rw (ne-eqb k n h)
+
+module _ (xrf : List ℕ) where
+  pub head-tested : (k r s : ℕ) → r ≡ u32At xrf ((k - 1) * 512) → s ≡ headBits (length xrf / 512) k → eqb r s ≡ headRight xrf k
+  unfolding headRight
+  head-tested k r s e f = rw (e, f)
+
+  module _ (m at : ℕ) (e : at ≡ slotAt m) where
+    pub slot-tested : (r : ℕ) → r ≡ u32At xrf at → eqb r 0 ≡ slotFree xrf m
+    unfolding slotFree
+    slot-tested r f = rw (f, e)
+
+  module _ (end m : ℕ) (right : Bool) (e : right ≡ headRight xrf (xrfBlock m)) where
+    pub entry-no-head : not right ≡ true → Malformed ≡ entryAt xrf end m
+    unfolding entryAt
+    entry-no-head h = rw (← e, not-true right h)
+
+    pub entry-told : (at : ℕ) (z : ℤ) (r : Entry) → not right ≡ false → at ≡ slotAt m → mag z < 2 ^ 31 → z ≡ signedOf (u32At xrf at)
+        → r ≡ entryOf end (toZ w32 (ofZ w32 z)) → r ≡ entryAt xrf end m
+    unfolding entryAt
+    entry-told at z r h i j k l = rw (← e, not-false right h, l, back-of j k, i)
+
+  pub entry-put : (m at : ℕ) (pl : Place) (z : ℤ) (out : List ℕ) → at ≡ slotAt m → mag z < 2 ^ 31 → z ≡ encodeOf pl
+      → out ≡ place xrf at (le 4 (bitsOf (toZ w32 (ofZ w32 z)))) → out ≡ withEntry xrf m pl
+  unfolding withEntry
+  entry-put m at pl z out h i j k = rw (k, h, back-of i j)
+
+  pub head-put : (n k h : ℕ) (cur out : List ℕ) → cur ≡ withHeads n k xrf → h ≡ headBits n (k + 1) → out ≡ place cur (k * 512) (le 4 h)
+      → out ≡ withHeads n (k + 1) xrf
+  head-put n k h cur out e i j = rw (j, e, i, heads-more n xrf k)
+
+pub ruleset xrf-answers = (head-last, head-plain, head-tested, slot-tested, entry-no-head, entry-told, entry-put, head-put)
+
+-- ---- writes
+
+-- a place over the whole list
+place-whole : (d xs : List ℕ) → length xs ≡ length d → place d 0 xs ≡ xs
+place-whole d xs e =
+    place-is d 0 xs ∙ rw (drop-of-length-le d {i = 0 + length xs} (omega arith), append-nil xs)
+
+module _ (mst zero : List ℕ) (h : mstPermitted (length mst) ≡ true) (e : zero ≡ place mst 0 (replicate (length mst) 0)) where
+  pub long-zero : 64 ≤ length zero
+  long-zero =
+      let f = blocks-facts 1048575 (length mst) h in
+      let l : length (replicate {A = ℕ} (length mst) 0) ≡ length mst = length-replicate (length mst) 0 in
+      rw (e, place-whole mst (replicate (length mst) 0) l) (omega arith)
+
+  pub long-next : (n : ℕ) (next : List ℕ) → next ≡ withNext zero n → 64 ≤ length next
+  long-next n next q = rw (q, next-length zero n long-zero) long-zero
+
+module _ (mst out : List ℕ) where
+  pub next-put : (n : ℕ) → out ≡ place mst 4 (le 4 n) → out ≡ withNext mst n
+  unfolding withNext
+  next-put n e = e
+
+  pub end-put : (b p e : ℕ) (half : List ℕ) → half ≡ place mst 8 (le 4 b) → b ≡ blockAt e → out ≡ place half 12 (le 2 p) → p ≡ offsetAt e
+      → 64 ≤ length mst → out ≡ withEnd mst e
+  unfolding withEnd
+  end-put b p e half h i j k long = rw (j, h, i, k) (place-next mst 8 (le 4 (blockAt e)) (le 2 (offsetAt e)) (omega arith))
+
+  pub mst-put : (zero next : List ℕ) → zero ≡ place mst 0 (replicate (length mst) 0) → next ≡ withNext zero 1 → out ≡ withEnd next 64 → out ≡ formattedMst (length mst)
+  unfolding formattedMst
+  mst-put zero next h i j = rw (j, i, h, place-whole mst (replicate (length mst) 0) (length-replicate (length mst) 0))
+
+module _ (xrf zero : List ℕ) (h : xrfPermitted (length xrf) ≡ true) (e : zero ≡ place xrf 0 (replicate (length xrf) 0)) where
+  zero-is : zero ≡ replicate (length xrf) 0
+  zero-is = e ∙ place-whole xrf (replicate (length xrf) 0) (length-replicate (length xrf) 0)
+
+  pub zero-permitted : xrfPermitted (length zero) ≡ true
+  zero-permitted = rw (zero-is, length-replicate) h
+
+  pub xrf-put : (out : List ℕ) → out ≡ withHeads (length zero / 512) (length zero / 512) zero → out ≡ formattedXrf (length xrf)
+  unfolding formattedXrf
+  xrf-put out i = rw (i, zero-is, length-replicate)
+
+pub ruleset write-answers = (zero-permitted, xrf-put, long-zero, long-next, next-put, end-put, mst-put, arith)
+
+-- ---- leaders
+
+module _ (s : List ℕ) where
+  pub leader-told : (m mfrl b mfbwp base nvf status : ℕ) → m ≡ u32At s 0 → mfrl ≡ u16At s 4 → b ≡ u32At s 6 → mfbwp ≡ u16At s 10
+      → base ≡ u16At s 12 → nvf ≡ u16At s 14 → status ≡ u16At s 16
+      → record { mfn = record { 0 = m }; mfrl = mfrl; mfbwb = record { 0 = b }; mfbwp = mfbwp; base = base; nvf = nvf; status = status } ≡ leaderOf s
+  leader-told m mfrl b mfbwp base nvf status h i j k l n o = sym (leader-is s _ (sym h) (sym i) (sym j) (sym k) (sym l) (sym n) (sym o))
+
+  pub leader-read : (b : List ℕ) (l : Leader) → b ≡ firstBytes s → l ≡ leaderOf b → l ≡ leaderOf s
+  leader-read b l e f = f ∙ ap leaderOf e ∙ first-bytes-leader s
+
+  pub leader-put : (b out : List ℕ) (l : Leader) → b ≡ leaderBytes l → out ≡ place s 0 b → out ≡ place s 0 (leaderBytes l)
+  leader-put b out l e f = f ∙ ap (place s 0) e
+
+pub ruleset leader-answers = (leader-told, leader-read, leader-put)

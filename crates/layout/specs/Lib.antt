@@ -1,0 +1,6 @@
+pub mod Sizes
+pub mod Entry
+pub mod CrossReference
+pub mod Control
+pub mod Leader
+pub mod Rows

@@ -1,0 +1,112 @@
+// The control record. Bytes 16 to 63 are never read, and only format writes them.
+use crate::sizes::Block;
+use crate::sizes::Mfn;
+use word::integer::u16_at;
+use word::integer::u32_at;
+ghost use mathlib.Core.Path.{_≡_};
+ghost use mathlib.Core.Bool.{true};
+ghost use Prim.Native.Nat.{_+_, _≤_, _<_};
+ghost use lib.ListN.{length};
+ghost use Rattle.word.specs.Integer.{u32At};
+ghost use Rattle.layout.specs.Sizes.{mstPermitted};
+ghost use Rattle.layout.specs.Control.{endOf, numbersRight, endRight, controlOf, withNext, withEnd, formattedMst};
+
+// What the control record says, where it is right.
+pub enum Control {
+    Right { next: Mfn, end: usize },
+    Wrong,
+}
+
+fn numbers_right(mst: &[u8], capacity: usize) -> bool
+    requires { ⌜ 64 ≤ length (now mst) ⌝ }
+    ensures { λ r. ⌜ r ≡ numbersRight (now (mst .entry)) capacity ⌝ }
+{
+    if u32_at(mst, 0) != 0 {
+        return false;
+    }
+    if u16_at(mst, 14) != 0 {
+        return false;
+    }
+    let next = u32_at(mst, 4);
+    if next < 1 {
+        return false;
+    }
+    next as usize - 1 <= capacity
+}
+
+// The end that the control record gives; its block counts from 1.
+fn end_of(mst: &[u8]) -> usize
+    requires { ⌜ (64 ≤ length (now mst)) × (1 ≤ u32At (now mst) 8) ⌝ }
+    ensures { λ r. ⌜ r ≡ endOf (now (mst .entry)) ⌝ }
+{
+    crate::sizes::address(Block(u32_at(mst, 8)), u16_at(mst, 12))
+}
+
+fn end_right(mst: &[u8]) -> bool
+    requires { ⌜ 64 ≤ length (now mst) ⌝ }
+    ensures { λ r. ⌜ r ≡ endRight (now (mst .entry)) ⌝ }
+{
+    if u32_at(mst, 8) < 1 {
+        return false;
+    }
+    let offset = u16_at(mst, 12);
+    if offset % 2 != 0 {
+        return false;
+    }
+    if 498 < offset {
+        return false;
+    }
+    let end = end_of(mst);
+    if end < 64 {
+        return false;
+    }
+    end <= mst.len()
+}
+
+// Reads the control record of an MST, for a capacity.
+pub fn read_control(mst: &[u8], capacity: usize) -> Control
+    ensures { λ r. ⌜ r ≡ controlOf (now (mst .entry)) capacity ⌝ }
+{
+    if mst.len() < 64 {
+        return Control::Wrong;
+    }
+    if !numbers_right(mst, capacity) {
+        return Control::Wrong;
+    }
+    if !end_right(mst) {
+        return Control::Wrong;
+    }
+    Control::Right {
+        next: Mfn(u32_at(mst, 4)),
+        end: end_of(mst),
+    }
+}
+
+// Writes NXTMFN.
+pub fn put_next(mst: &mut [u8], next: Mfn)
+    requires { ⌜ 64 ≤ length (now mst) ⌝ }
+    ensures { λ _. ⌜ now (mst .exit) ≡ withNext (now (mst .entry)) (next .0) ⌝ }
+{
+    word::integer::put_u32(mst, 4, next.0)
+}
+
+// Writes the end.
+pub fn put_end(mst: &mut [u8], end: usize)
+    requires { ⌜ (64 ≤ length (now mst)) × (end < 2199023255040) ⌝ }
+    ensures { λ _. ⌜ now (mst .exit) ≡ withEnd (now (mst .entry)) end ⌝ }
+{
+    let b = crate::sizes::block_at(end);
+    word::integer::put_u32(mst, 8, b.0);
+    word::integer::put_u16(mst, 12, crate::sizes::offset_at(end));
+}
+
+// Empties an MST of permitted length.
+pub fn format_mst(mst: &mut [u8])
+    requires { ⌜ mstPermitted (length (now mst)) ≡ true ⌝ }
+    ensures { λ _. ⌜ now (mst .exit) ≡ formattedMst (length (now (mst .entry))) ⌝ }
+{
+    let n = mst.len();
+    word::bytes::fill(mst, 0, n, 0);
+    put_next(mst, Mfn(1));
+    put_end(mst, 64);
+}

@@ -1,0 +1,146 @@
+-- The tests of `specs/` as facts on numbers: a test that came out true gives a record of facts, and the facts give the test back. Callers
+-- read the records and never the tests.
+use Prim.Native.Nat.{ℕ, suc, _+_, _*_, _-_, _%_, _≤_}
+use native.Mathlib.Omega.{arith}
+use mathlib.Core.Path.{_≡_, refl}
+use mathlib.Core.Bool.{Bool, true, false, cond}
+use mathlib.Core.List.{List}
+use lib.ListN.{length}
+use Rattle.layout.specs.Sizes.{recordLength, tagPermitted}
+use Rattle.layout.specs.Leader.{leaderOf}
+use Rattle.layout.specs.declared.leader.Leader.{Leader}
+use Rattle.layout.proofs.Tests.{tests}
+use Rattle.layout.proofs.Facts.{record-length-facts}
+use Rattle.record.specs.Directory.{tagAt, posAt, lenAt, directoryRight}
+use Rattle.record.specs.Record.{statusFor, leaderRight, recordRight, testOf, noBack, Readable}
+use Rattle.record.specs.Draft.{sum, tagsPermitted, needOf, draftRight}
+use Rattle.record.specs.declared.test.Tested.the-variants.{WellFormed, Broken}
+
+-- ---- the directory
+
+-- entry i of a right directory, after lengths that sum to pos, and the k entries behind it
+pub record EntryFacts (rec : List ℕ) (room k i pos : ℕ) : Type 0 where
+  pub tag : tagPermitted (tagAt rec i) ≡ true
+  pub pos-is : posAt rec i ≡ pos
+  pub len : pos + lenAt rec i ≤ room
+  pub rest : directoryRight rec room k (i + 1) (pos + lenAt rec i) ≡ true
+
+module _ (rec : List ℕ) (room k i pos : ℕ) where
+  pub entry-facts : directoryRight rec room (suc k) i pos ≡ true → EntryFacts rec room k i pos
+  unfolding directoryRight
+  entry-facts e = let q = simp tests at e in record { tag = q .0 .0 .0; pos-is = q .0 .0 .1; len = q .0 .1; rest = q .1 }
+
+  pub entry-from : EntryFacts rec room k i pos → directoryRight rec room (suc k) i pos ≡ true
+  unfolding directoryRight
+  entry-from f = simp tests (((f .tag, f .pos-is), f .len), f .rest)
+
+-- ---- the leader
+
+pub record LeaderFacts (m : ℕ) (deleted : Bool) (left : ℕ) (l : Leader) : Type 0 where
+  pub mfn : l .mfn .0 ≡ m
+  pub mfrl : recordLength (l .mfrl) ≡ true
+  pub even : l .mfrl % 2 ≡ 0
+  pub low : 18 ≤ l .mfrl
+  pub high : l .mfrl ≤ 32766
+  pub record-in : l .mfrl ≤ left
+  pub base-is : l .base ≡ 18 + 6 * l .nvf
+  pub base-in : l .base ≤ l .mfrl
+  pub status : l .status ≡ statusFor deleted
+
+module _ (m : ℕ) (deleted : Bool) (left : ℕ) (l : Leader) where
+  pub leader-facts : leaderRight m deleted left l ≡ true → LeaderFacts m deleted left l
+  unfolding leaderRight
+  leader-facts e =
+      let q = simp tests at e in
+      let r = record-length-facts (l .mfrl) (q .0 .0 .0 .0 .1) in
+      record {
+        mfn = q .0 .0 .0 .0 .0;
+        mfrl = q .0 .0 .0 .0 .1;
+        even = r .even;
+        low = r .low;
+        high = r .high;
+        record-in = q .0 .0 .0 .1;
+        base-is = q .0 .0 .1;
+        base-in = q .0 .1;
+        status = q .1;
+      }
+
+  pub leader-from : l .mfn .0 ≡ m → recordLength (l .mfrl) ≡ true → l .mfrl ≤ left → l .base ≡ 18 + 6 * l .nvf → l .base ≤ l .mfrl
+      → l .status ≡ statusFor deleted → leaderRight m deleted left l ≡ true
+  unfolding leaderRight
+  leader-from a b c d e f = simp tests (((((a, b), c), d), e), f)
+
+-- ---- the record
+
+pub record RightFacts (rec : List ℕ) (m : ℕ) (deleted : Bool) : Type 0 where
+  pub leader : LeaderFacts m deleted (length rec) (leaderOf rec)
+  pub directory : directoryRight rec (leaderOf rec .mfrl - leaderOf rec .base) (leaderOf rec .nvf) 0 0 ≡ true
+
+module _ (rec : List ℕ) (m : ℕ) (deleted : Bool) where
+  pub right-facts : recordRight rec m deleted ≡ true → RightFacts rec m deleted
+  unfolding recordRight
+  right-facts e =
+      let q = simp tests at e in
+      record { leader = leader-facts m deleted (length rec) (leaderOf rec) (q .0); directory = q .1 }
+
+  pub right-from : leaderRight m deleted (length rec) (leaderOf rec) ≡ true
+      → directoryRight rec (leaderOf rec .mfrl - leaderOf rec .base) (leaderOf rec .nvf) 0 0 ≡ true → recordRight rec m deleted ≡ true
+  unfolding recordRight
+  right-from a b = simp tests (a, b)
+
+  pub right-readable : recordRight rec m deleted ≡ true → Readable rec
+  right-readable e =
+      let f = right-facts e in
+      record {
+        base-is = f .leader .base-is;
+        base-in = f .leader .base-in;
+        record-in = f .leader .record-in;
+        short = f .leader .high;
+        directory = f .directory;
+      }
+
+-- ---- the test and the back pointer
+
+module _ (rec : List ℕ) (m : ℕ) (deleted : Bool) where
+  -- a record that was tested well formed
+  pub test-right : (l : Leader) → testOf rec m deleted ≡ WellFormed l → recordRight rec m deleted ≡ true
+  unfolding testOf
+  test-right l e = go (recordRight rec m deleted) e
+    where
+      go : (b : Bool) → cond b (WellFormed (leaderOf rec)) Broken ≡ WellFormed l → b ≡ true
+      go true h = refl
+      go false h = let z : _≡_ {A = ℕ} 0 1 = cc in absurd (omega arith)
+
+  pub test-from : recordRight rec m deleted ≡ true → testOf rec m deleted ≡ WellFormed (leaderOf rec)
+  unfolding testOf
+  test-from e = rw e
+
+  pub test-leader : (l : Leader) → testOf rec m deleted ≡ WellFormed l → leaderOf rec ≡ l
+  test-leader l e = let h = test-from (test-right l e) in cc
+
+pub record NoBackFacts (l : Leader) : Type 0 where
+  pub block : l .mfbwb .0 ≡ 0
+  pub offset : l .mfbwp ≡ 0
+
+module _ (l : Leader) where
+  pub no-back-facts : noBack l ≡ true → NoBackFacts l
+  unfolding noBack
+  no-back-facts e = let q = simp tests at e in record { block = q .0; offset = q .1 }
+
+  pub no-back-from : l .mfbwb .0 ≡ 0 → l .mfbwp ≡ 0 → noBack l ≡ true
+  unfolding noBack
+  no-back-from a b = simp tests (a, b)
+
+-- ---- the draft
+
+pub record DraftFacts (tags lens bytes : List ℕ) : Type 0 where
+  pub equal : length tags ≡ length lens
+  pub tags-right : tagsPermitted tags ≡ true
+  pub total : sum lens ≡ length bytes
+  pub need : needOf (length tags) (length bytes) ≤ 32766
+
+pub draft-facts : (tags lens bytes : List ℕ) → draftRight tags lens bytes ≡ true → DraftFacts tags lens bytes
+unfolding draftRight
+draft-facts tags lens bytes e =
+    let q = simp tests at e in
+    record { equal = q .0 .0 .0; tags-right = q .0 .0 .1; total = q .0 .1; need = q .1 }

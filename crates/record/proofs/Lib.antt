@@ -1,0 +1,11 @@
+pub mod Facts
+pub mod DirectoryTest
+pub mod FieldData
+pub mod Search
+pub mod RecordTest
+pub mod Local
+pub mod Find
+pub mod Draftable
+pub mod Trip
+pub mod DraftFields
+pub mod Writing

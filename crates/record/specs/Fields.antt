@@ -1,0 +1,51 @@
+-- The fields that a record's directory names, and the search among them. Document 01, "Records" and answer 12.
+use Prim.Native.Nat.{ℕ, zero, suc, _+_, _-_}
+use mathlib.Core.Bool.{Bool, cond}
+use mathlib.Core.List.{List, [], _∷_}
+use mathlib.Core.Option.{Option, some, none}
+use lib.Dec.{eqb}
+use Rattle.word.specs.Place.{part}
+use Rattle.layout.specs.Leader.{leaderOf}
+use Rattle.record.specs.Directory.{tagAt, posAt, lenAt}
+use Rattle.record.specs.declared.fields.Found.{Found}
+use Rattle.record.specs.declared.fields.Found.the-variants.{At, Missing}
+
+-- a field: its tag and its bytes
+pub record Field : Type 0 where
+  pub tag : ℕ
+  pub bytes : List ℕ
+
+-- the field of directory entry i: LEN bytes from BASE + POS on
+abbrev pub fieldAt : List ℕ → ℕ → ℕ → Field
+fieldAt rec base i = record { tag = tagAt rec i; bytes = part rec (base + posAt rec i) (lenAt rec i) }
+
+-- k fields from entry i on
+unfoldable pub fieldsFrom : List ℕ → ℕ → ℕ → ℕ → List Field
+fieldsFrom rec base zero i = []
+fieldsFrom rec base (suc k) i = fieldAt rec base i ∷ fieldsFrom rec base k (i + 1)
+
+-- the fields of a record, in directory order
+unfoldable pub fieldsOf : List ℕ → List Field
+fieldsOf rec = fieldsFrom rec (leaderOf rec .base) (leaderOf rec .nvf) 0
+
+-- the bytes of the occ-th field of a tag, counted from 1
+unfoldable pub fieldNamed : List Field → ℕ → ℕ → Option (List ℕ)
+fieldNamed [] tag occ = none
+fieldNamed (f ∷ fs) tag occ =
+    cond (eqb (f .tag) tag) (cond (eqb occ 1) (some (f .bytes)) (fieldNamed fs tag (occ - 1))) (fieldNamed fs tag occ)
+
+-- where in the record the occ-th field of a tag lies, among k entries from entry i on
+unfoldable pub findFrom : List ℕ → ℕ → ℕ → ℕ → ℕ → ℕ → Found
+findFrom rec base zero i tag occ = Missing
+findFrom rec base (suc k) i tag occ =
+    cond (eqb (tagAt rec i) tag)
+    (cond (eqb occ 1) (At (base + posAt rec i) (lenAt rec i)) (findFrom rec base k (i + 1) tag (occ - 1)))
+    (findFrom rec base k (i + 1) tag occ)
+
+unfoldable pub findOf : List ℕ → ℕ → ℕ → Found
+findOf rec tag occ = findFrom rec (leaderOf rec .base) (leaderOf rec .nvf) 0 tag occ
+
+-- the bytes that lie there
+abbrev pub foundBytes : List ℕ → Found → Option (List ℕ)
+foundBytes rec (At start len) = some (part rec start len)
+foundBytes rec Missing = none

@@ -1,0 +1,5 @@
+pub mod Directory
+pub mod Fields
+pub mod Record
+pub mod Draft
+pub mod Bytes

@@ -1,0 +1,69 @@
+// The draft of a record: three lent slices, tags, lengths and data.
+use layout::sizes::Tag;
+ghost use mathlib.Core.Path.{_≡_};
+ghost use mathlib.Core.Bool.{true};
+ghost use Prim.Native.Nat.{_+_, _*_, _≤_};
+ghost use lib.ListN.{length};
+ghost use Rattle.record.specs.Draft.{sum, upTo, tagsPermitted, needOf, draftRight};
+
+// The sum of the lengths, or 32,767 where it is more than 32,766.
+fn total(lens: &[u16]) -> usize
+    ensures { λ r. ⌜ r ≡ upTo 32766 (sum (now (lens .entry))) ⌝ }
+{
+    let mut s: usize = 0;
+    let mut i = 0;
+    while i < lens.len() {
+        s += lens[i] as usize;
+        if 32766 < s {
+            return 32767;
+        }
+        i += 1;
+    }
+    s
+}
+
+// Whether every tag is in range.
+fn tags_permitted(tags: &[u16]) -> bool
+    ensures { λ r. ⌜ r ≡ tagsPermitted (now (tags .entry)) ⌝ }
+{
+    let mut i = 0;
+    while i < tags.len() {
+        if !layout::sizes::tag_permitted(Tag(tags[i])) {
+            return false;
+        }
+        i += 1;
+    }
+    true
+}
+
+// The bytes that a record of so many fields and so much data needs.
+pub fn need(fields: usize, size: usize) -> usize
+    requires { ⌜ (fields ≤ 65535) × (size ≤ 65535) ⌝ }
+    ensures { λ r. ⌜ r ≡ needOf fields size ⌝ }
+{
+    (18 + 6 * fields + size + 1) / 2 * 2
+}
+
+// Whether a draft is right.
+pub fn draft_right(tags: &[u16], lens: &[u16], data: &[u8]) -> bool
+    ensures { λ r. ⌜ r ≡ draftRight (now (tags .entry)) (now (lens .entry)) (now («data» .entry)) ⌝ }
+{
+    let n = tags.len();
+    let size = data.len();
+    if n != lens.len() {
+        return false;
+    }
+    if 5458 < n {
+        return false;
+    }
+    if 32766 < size {
+        return false;
+    }
+    if 32766 < need(n, size) {
+        return false;
+    }
+    if !tags_permitted(tags) {
+        return false;
+    }
+    total(lens) == size
+}

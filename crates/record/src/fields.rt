@@ -1,0 +1,68 @@
+// The fields of a record that passed its test, and the search among them.
+use crate::directory::len_at;
+use crate::directory::pos_at;
+use crate::directory::tag_at;
+use layout::sizes::Tag;
+use word::integer::u16_at;
+ghost use mathlib.Core.Path.{_≡_};
+ghost use Prim.Native.Nat.{_+_, _*_, _-_, _≤_, _<_};
+ghost use lib.ListN.{length};
+ghost use Rattle.word.specs.Place.{part};
+ghost use Rattle.record.specs.Fields.{fieldsOf, findOf};
+ghost use Rattle.record.specs.Bytes.{dataOf};
+ghost use Rattle.record.specs.Record.{Readable};
+
+// Where in its record a field lies.
+pub enum Found {
+    At { start: usize, len: usize },
+    Missing,
+}
+
+// Finds the field of a tag by its occurrence, counted from 1.
+pub fn find_field(rec: &[u8], tag: Tag, occurrence: u32) -> Found
+    requires { ⌜ Readable (now rec) ⌝ }
+    ensures { λ r. ⌜ r ≡ findOf (now (rec .entry)) (tag .0) occurrence ⌝ }
+{
+    if occurrence < 1 {
+        return Found::Missing;
+    }
+    let base = u16_at(rec, 12) as usize;
+    let nvf = u16_at(rec, 14) as usize;
+    let mut left = occurrence;
+    let mut i: usize = 0;
+    while i < nvf {
+        let t = tag_at(rec, i);
+        if t.0 == tag.0 {
+            if left == 1 {
+                return Found::At {
+                    start: base + pos_at(rec, i),
+                    len: len_at(rec, i),
+                };
+            }
+            left -= 1;
+        }
+        i += 1;
+    }
+    Found::Missing
+}
+
+// The bytes of a field that was found.
+pub fn field_part(rec: &[u8], start: usize, len: usize) -> &[u8]
+    requires { ⌜ start + len ≤ length (now rec) ⌝ }
+    ensures { λ r. ⌜ now r ≡ part (now (rec .entry)) start len ⌝ }
+{
+    let end = start + len;
+    &rec[start..end]
+}
+
+// How many bytes of data the fields have: the last entry's POS plus its LEN.
+pub fn data_length(rec: &[u8]) -> usize
+    requires { ⌜ Readable (now rec) ⌝ }
+    ensures { λ r. ⌜ r ≡ length (dataOf (fieldsOf (now (rec .entry)))) ⌝ }
+{
+    let nvf = u16_at(rec, 14) as usize;
+    if nvf == 0 {
+        return 0;
+    }
+    pos_at(rec, nvf - 1) + len_at(rec, nvf - 1)
+}

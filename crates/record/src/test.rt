@@ -1,0 +1,87 @@
+// The record test: leader first, then one walk over the directory. MFRL is compared with what is left before anything believes it.
+use layout::entry::Mark;
+use layout::leader::Leader;
+use layout::sizes::Mfn;
+ghost use mathlib.Core.Path.{_≡_};
+ghost use Prim.Native.Nat.{_+_, _≤_};
+ghost use lib.ListN.{length};
+ghost use Rattle.record.specs.Record.{statusFor, leaderRight, testOf, noBack, backRight};
+
+pub enum Tested {
+    WellFormed(Leader),
+    Broken,
+}
+
+// The STATUS of a record that is deleted or not.
+pub fn status_for(deleted: bool) -> u16
+    ensures { λ r. ⌜ r ≡ statusFor deleted ⌝ }
+{
+    if deleted { 1 } else { 0 }
+}
+
+// Whether a leader is right for MFN `m` with `left` bytes before the end.
+fn leader_right(m: Mfn, deleted: bool, left: usize, l: Leader) -> bool
+    ensures { λ r. ⌜ r ≡ leaderRight (m .0) deleted left l ⌝ }
+{
+    if l.mfn.0 != m.0 {
+        return false;
+    }
+    if !layout::sizes::record_length(l.mfrl as usize) {
+        return false;
+    }
+    if left < l.mfrl as usize {
+        return false;
+    }
+    if l.base as usize != 18 + 6 * (l.nvf as usize) {
+        return false;
+    }
+    if l.mfrl < l.base {
+        return false;
+    }
+    l.status == status_for(deleted)
+}
+
+// Tests the record at the front of `rec`, which ends at the store's end, for MFN `m`, all but its back pointer.
+pub fn test_record(rec: &[u8], m: Mfn, deleted: bool) -> Tested
+    ensures { λ r. ⌜ r ≡ testOf (now (rec .entry)) (m .0) deleted ⌝ }
+{
+    let left = rec.len();
+    if left < 18 {
+        return Tested::Broken;
+    }
+    let l = layout::leader::read_leader(rec);
+    if !leader_right(m, deleted, left, l) {
+        return Tested::Broken;
+    }
+    let nvf = l.nvf as usize;
+    let room = (l.mfrl - l.base) as usize;
+    if crate::directory::directory_right(rec, nvf, room) {
+        Tested::WellFormed(l)
+    } else {
+        Tested::Broken
+    }
+}
+
+// Whether both parts of the back pointer are 0.
+pub fn no_back(l: Leader) -> bool
+    ensures { λ r. ⌜ r ≡ noBack l ⌝ }
+{
+    if l.mfbwb.0 != 0 {
+        return false;
+    }
+    l.mfbwp == 0
+}
+
+// Whether the back pointer of a leader is right under a mark.
+pub fn back_right(end: usize, mark: Mark, l: Leader) -> bool
+    ensures { λ r. ⌜ r ≡ backRight end mark l ⌝ }
+{
+    match mark {
+        Mark::Settled => no_back(l),
+        Mark::Changed => {
+            let b = l.mfbwb;
+            layout::entry::well_placed(end, b, l.mfbwp)
+        }
+        Mark::New => no_back(l),
+    }
+}
