@@ -1,5 +1,5 @@
--- Drafts. The sum and the tags of a draft's lists, turn by turn; what a right draft is, as facts; the need; and the fields of a draft, whose
--- directory grows by one entry with each field and whose data is the draft's data.
+-- Drafts: the sum of the lengths and the test of the tags, turn by turn; the need; what `draft_right` answers; and the directory of a draft's
+-- fields, which grows by one entry with each field.
 use Prim.Native.Nat.{ℕ, zero, suc, _+_, _*_, _%_, _<_, _≤_, zero-le}
 use native.Mathlib.Nat.{add-zero, zero-add, add-assoc, add-le-add, le-refl, le-of-suc-le-suc, not-suc-le-zero}
 use native.Mathlib.Numerals.{add-one}

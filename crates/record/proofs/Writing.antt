@@ -8,7 +8,7 @@ use mathlib.Core.List.{List, _++_, append-assoc}
 use lib.ListN.{length, getD, take, replicate, length-append}
 use lib.Seq.{length-take-le, take-all}
 use borrow.Rule.Slice.PartMut.{midOf, putMid}
-use Rattle.word.specs.Integer.{u16At, le}
+use Rattle.word.specs.Integer.{le}
 use Rattle.word.specs.Place.{place, part}
 use Rattle.word.proofs.Place.{part-length, place-length, place-part-after, place-none, place-same, place-next, place-commute, returned-front}
 use Rattle.word.proofs.ByteRange.{Bytes}
@@ -17,24 +17,24 @@ use Rattle.layout.specs.declared.leader.Leader.{Leader}
 use Rattle.layout.proofs.LeaderBytes.{leader-length}
 use Rattle.record.specs.Fields.{Field, fieldsOf}
 use Rattle.record.specs.Record.{Readable}
-use Rattle.record.specs.Draft.{sum, needOf, draftRight, draftFields}
-use Rattle.record.specs.Bytes.{dataOf, entryBytes, directoryBytes, usedBy, needFor, recordBytes}
+use Rattle.record.specs.Draft.{sum, draftRight, draftFields}
+use Rattle.record.specs.Bytes.{dataOf, entryBytes, directoryBytes, usedBy, recordBytes}
 use Rattle.record.proofs.Facts.{draft-facts}
-use Rattle.record.proofs.FieldData.{directory-length, used-is, body-part}
-use Rattle.record.proofs.Draftable.{need-used, draft-count, draft-data, readable-used}
-use Rattle.record.proofs.DraftFields.{need-facts, sum-more, sum-take-le, entry-more}
+use Rattle.record.proofs.FieldData.{directory-length, body-part}
+use Rattle.record.proofs.Draftable.{draft-count, draft-data, readable-used}
+use Rattle.record.proofs.DraftFields.{need-facts, total-more, sum-take-le, entry-more}
 
 -- a place right behind what is placed, `next` bytes on
-then : {cur : List ℕ} (d : List ℕ) (at next : ℕ) (xs ys : List ℕ) → at ≤ length d → cur ≡ place d at xs → next ≡ at + length xs
+placed-next : {cur : List ℕ} (d : List ℕ) (at next : ℕ) (xs ys : List ℕ) → at ≤ length d → cur ≡ place d at xs → next ≡ at + length xs
     → place cur next ys ≡ place d at (xs ++ ys)
-then d at next xs ys h e n = rw (e, n) (place-next d at xs ys h)
+placed-next d at next xs ys h e n = rw (e, n) (place-next d at xs ys h)
 
 -- ---- an entry, and the directory of a draft
 
 pub entry-put : {a b c : List ℕ} (d : List ℕ) (at tag pos len : ℕ) → at + 6 ≤ length d
     → a ≡ place d at (le 2 tag) → b ≡ place a (at + 2) (le 2 pos) → c ≡ place b (at + 4) (le 2 len) → c ≡ place d at (entryBytes tag pos len)
 entry-put d at tag pos len h e f g =
-    g ∙ then d at (at + 4) (le 2 tag ++ le 2 pos) (le 2 len) (omega arith) (f ∙ then d at (at + 2) (le 2 tag) (le 2 pos) (omega arith) e refl) refl
+    g ∙ placed-next d at (at + 4) (le 2 tag ++ le 2 pos) (le 2 len) (omega arith) (f ∙ placed-next d at (at + 2) (le 2 tag) (le 2 pos) (omega arith) e refl) refl
 
 module _ (d tags lens bytes : List ℕ) (right : draftRight tags lens bytes ≡ true) (room : 18 + 6 * length tags ≤ length d) where
   -- the loop over the fields: after i turns the first i entries stand at 18, and pos is the sum of their lengths
@@ -44,7 +44,7 @@ module _ (d tags lens bytes : List ℕ) (right : draftRight tags lens bytes ≡ 
 
   module _ (i pos : ℕ) (p : pos ≡ sum (take i lens)) where
     pub entries-sum : i < length tags → pos + getD lens i 0 ≡ sum (take (i + 1) lens)
-    entries-sum h = let f = draft-facts tags lens bytes right in omega (arith, sum-more i lens (omega arith))
+    entries-sum h = let f = draft-facts tags lens bytes right in total-more lens pos i p (omega arith)
 
     pub entries-fit : i < length tags → pos + getD lens i 0 ≤ 32766
     entries-fit h =
@@ -60,7 +60,7 @@ module _ (d tags lens bytes : List ℕ) (right : draftRight tags lens bytes ≡ 
         let fs : List Field = draftFields tags lens bytes in
         let k : length (take i fs) ≡ i = length-take-le i fs (omega (arith, draft-count tags lens bytes right)) in
         g
-        ∙ then d 18 (18 + 6 * i) (directoryBytes 0 (take i fs)) (entryBytes (getD tags i 0) pos (getD lens i 0)) (omega arith) e
+        ∙ placed-next d 18 (18 + 6 * i) (directoryBytes 0 (take i fs)) (entryBytes (getD tags i 0) pos (getD lens i 0)) (omega arith) e
         (omega (arith, directory-length 0 (take i fs)))
         ∙ ap (λ (n : ℕ). place d 18 (directoryBytes 0 (take i fs) ++ entryBytes (getD tags i 0) n (getD lens i 0))) p
         ∙ ap (place d 18) (sym (entry-more i tags lens bytes h (omega arith) (omega arith)))
@@ -73,11 +73,7 @@ module _ (d tags lens bytes : List ℕ) (right : draftRight tags lens bytes ≡ 
 
 -- ---- the record of a draft
 
-module _ (d : List ℕ) (l : Leader) (tags lens bytes : List ℕ) (right : draftRight tags lens bytes ≡ true)
-    (need : needOf (length tags) (length bytes) ≤ l .mfrl) (room : l .mfrl ≤ length d) where
-  pub used-within : 18 + 6 * length tags + length bytes ≤ l .mfrl
-  used-within = let n = need-facts (length tags) (length bytes) in omega arith
-
+module _ (d : List ℕ) (l : Leader) (tags lens bytes : List ℕ) (right : draftRight tags lens bytes ≡ true) where
   -- out after each of the four writes
   pub record-written : {D₁ D₂ D₃ D₄ : List ℕ} → D₁ ≡ place d 0 (leaderBytes l) → D₂ ≡ place D₁ 18 (directoryBytes 0 (draftFields tags lens bytes))
       → D₃ ≡ place D₂ (18 + 6 * length tags) bytes
@@ -93,25 +89,13 @@ module _ (d : List ℕ) (l : Leader) (tags lens bytes : List ℕ) (right : draft
       let zeros : List ℕ = replicate (l .mfrl - used) 0 in
       let m : length head ≡ 18 = leader-length l in
       let n : length dir ≡ 6 * length tags = directory-length 0 fs ∙ ap (λ (k : ℕ). 6 * k) (draft-count tags lens bytes right) in
-      let s₂ : D₂ ≡ place d 0 (head ++ dir) = e₂ ∙ then d 0 18 head dir (omega arith) e₁ (omega arith) in
-      let s₃ : D₃ ≡ place d 0 (head ++ dir ++ bytes) = e₃ ∙ then d 0 base (head ++ dir) bytes (omega arith) s₂ (simp length-append (omega arith)) in
+      let s₂ : D₂ ≡ place d 0 (head ++ dir) = e₂ ∙ placed-next d 0 18 head dir (omega arith) e₁ (omega arith) in
+      let s₃ : D₃ ≡ place d 0 (head ++ dir ++ bytes) = e₃ ∙ placed-next d 0 base (head ++ dir) bytes (omega arith) s₂ (simp length-append (omega arith)) in
       let s₄ : D₄ ≡ place d 0 (head ++ dir ++ bytes ++ zeros) =
-      e₄ ∙ then d 0 used (head ++ dir ++ bytes) zeros (omega arith) s₃ (simp length-append (omega arith)) in
+      e₄ ∙ placed-next d 0 used (head ++ dir ++ bytes) zeros (omega arith) s₃ (simp length-append (omega arith)) in
       rw (draft-data tags lens bytes right, draft-count tags lens bytes right) s₄
 
 -- ---- a record's own fields again
-
--- what the record uses, as it is read from the record
-module _ (rec : List ℕ) (r : Readable rec) (base size : ℕ) (b : base ≡ u16At rec 12) (s : size ≡ length (dataOf (fieldsOf rec))) where
-  pub used-read : base + size ≡ usedBy (fieldsOf rec)
-  unfolding leaderOf
-  used-read = omega (arith, used-is rec r)
-
-  pub used-in : (18 ≤ base + size) × (base + size ≤ leaderOf rec .mfrl)
-  used-in = omega (arith, used-read, readable-used rec r)
-
-  pub used-needed : (n : ℕ) → needFor (fieldsOf rec) ≤ n → base + size ≤ n
-  used-needed n h = omega (arith, used-read, need-used (fieldsOf rec))
 
 module _ (rec : List ℕ) (l : Leader) (r : Readable rec) (small : Bytes rec) (used : ℕ) (u : used ≡ usedBy (fieldsOf rec)) where
   -- leader, body and zeros are the record's bytes
@@ -143,8 +127,8 @@ module _ (rec : List ℕ) (l : Leader) (r : Readable rec) (small : Bytes rec) (u
       let kept : place rec 0 head ≡ place rec 0 (head ++ body) =
       sym (place-same (place rec 0 head) 18 (used - 18) (omega arith))
       ∙ ap (place (place rec 0 head) 18) (place-part-after rec 0 head 18 (used - 18) (omega arith))
-      ∙ then rec 0 18 head body (omega arith) refl (omega arith) in
-      e₂ ∙ then rec 0 used (head ++ body) zeros (omega arith) (e₁ ∙ kept) (simp length-append (omega arith)) ∙ ap (place rec 0) (sym record-runs)
+      ∙ placed-next rec 0 18 head body (omega arith) refl (omega arith) in
+      e₂ ∙ placed-next rec 0 used (head ++ body) zeros (omega arith) (e₁ ∙ kept) (simp length-append (omega arith)) ∙ ap (place rec 0) (sym record-runs)
 
   pub record-copied : {D₁ W D₃ : List ℕ} (to : ℕ) → leaderOf rec .mfrl ≤ to → to + l .mfrl ≤ length rec → used ≤ l .mfrl
       → D₁ ≡ place rec (to + 18) (part rec 18 (used - 18)) → W ≡ place (midOf to (length D₁ - to) D₁) 0 (leaderBytes l)
@@ -161,5 +145,5 @@ module _ (rec : List ℕ) (l : Leader) (r : Readable rec) (small : Bytes rec) (u
       returned-front D₁ to head e₂
       ∙ ap (λ (x : List ℕ). place x to head) e₁
       ∙ sym (place-commute rec to head (to + 18) body (omega arith) (omega arith))
-      ∙ then rec to (to + 18) head body (omega arith) refl (omega arith) in
-      e₃ ∙ then rec to (to + used) (head ++ body) zeros (omega arith) both (simp length-append (omega arith)) ∙ ap (place rec to) (sym record-runs)
+      ∙ placed-next rec to (to + 18) head body (omega arith) refl (omega arith) in
+      e₃ ∙ placed-next rec to (to + used) (head ++ body) zeros (omega arith) both (simp length-append (omega arith)) ∙ ap (place rec to) (sym record-runs)

@@ -11,7 +11,7 @@ ghost use Rattle.layout.specs.Leader.{leaderOf};
 ghost use Rattle.record.specs.Fields.{fieldsOf};
 ghost use Rattle.record.specs.Record.{Readable};
 ghost use Rattle.record.specs.Draft.{sum, needOf, draftRight, draftFields};
-ghost use Rattle.record.specs.Bytes.{entryBytes, directoryBytes, needFor, recordBytes, leaderFor};
+ghost use Rattle.record.specs.Bytes.{entryBytes, directoryBytes, usedBy, needFor, recordBytes, leaderFor};
 
 // The leader of a record of `nvf` fields.
 pub fn leader_for(mfn: Mfn, mfrl: u16, back: Block, offset: u16, deleted: bool, nvf: u16) -> Leader
@@ -70,6 +70,14 @@ pub fn write_record(out: &mut [u8], l: Leader, tags: &[u16], lens: &[u16], data:
     word::bytes::fill(out, used, mfrl - used, 0);
 }
 
+// The bytes of the record at the front of `rec` up to the end of its data.
+fn used_by(rec: &[u8]) -> usize
+    requires { ⌜ Readable (now rec) ⌝ }
+    ensures { λ r. ⌜ (r ≡ usedBy (fieldsOf (now (rec .entry)))) × (18 ≤ r) × (r ≤ leaderOf (now (rec .entry)) .mfrl) ⌝ }
+{
+    word::integer::u16_at(rec, 12) as usize + crate::fields::data_length(rec)
+}
+
 // Rewrites the record at the front of `rec` in place, with its own fields, under the leader `l`.
 pub fn rewrite_record(rec: &mut [u8], l: Leader)
     requires { ⌜ Readable (now rec) ⌝ }
@@ -77,7 +85,7 @@ pub fn rewrite_record(rec: &mut [u8], l: Leader)
     ensures { λ _. ⌜ now (rec .exit) ≡ place (now (rec .entry)) 0 (recordBytes l (fieldsOf (now (rec .entry)))) ⌝ }
 {
     let mfrl = l.mfrl as usize;
-    let used = word::integer::u16_at(rec, 12) as usize + crate::fields::data_length(rec);
+    let used = used_by(rec);
     layout::leader::put_leader(rec, l);
     word::bytes::fill(rec, used, mfrl - used, 0);
 }
@@ -89,7 +97,7 @@ pub fn copy_record(rec: &mut [u8], to: usize, l: Leader)
     ensures { λ _. ⌜ now (rec .exit) ≡ place (now (rec .entry)) to (recordBytes l (fieldsOf (now (rec .entry)))) ⌝ }
 {
     let mfrl = l.mfrl as usize;
-    let used = word::integer::u16_at(rec, 12) as usize + crate::fields::data_length(rec);
+    let used = used_by(rec);
     word::bytes::copy_within(rec, 18, to + 18, used - 18);
     layout::leader::put_leader(&mut rec[to..], l);
     word::bytes::fill(rec, to + used, mfrl - used, 0);

@@ -50,7 +50,7 @@ returns c =
     let w = k .before .before .before .before in
     let h = w .before .before .before .before in
     let s = h .before .before .before .before .before .before .before in
-    record-written _ (s .args .l) _ _ _ (s .pre .0) (s .pre .1 .0) (s .pre .1 .1) (h .put-leader .ensures) (w .put-directory .ensures)
+    record-written _ (s .args .l) _ _ _ (s .pre .0) (h .put-leader .ensures) (w .put-directory .ensures)
     (k .copy-to .ensures) (z .fill .ensures)
 
 pub write-record-spec : {M : Type 1} → statement M

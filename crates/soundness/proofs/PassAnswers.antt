@@ -1,0 +1,440 @@
+-- What the functions of the steps and the passes return, by what their steps found. Each law's premises are what is known at one place of the code, so that
+-- `search` finds them there; a callee's result is a variable with what the callee ensures of it. The invariants of the two passes are records,
+-- with one law for each event: none yet, one more, and what the pass says at its end.
+use Prim.Native.Nat.{ℕ, _+_, _*_, _-_, _≤_, _<_}
+use native.Mathlib.Omega.{arith}
+use mathlib.Core.Path.{_≡_, refl, sym, ap, _∙_}
+use mathlib.Core.Logic.{⊎-elim}
+use mathlib.Core.Bool.{Bool, true, false, not, _&&_, cond}
+use mathlib.Core.List.{List, [], _∷_}
+use lib.Dec.{eqb, leb}
+use lib.ListN.{length}
+use borrow.Author.Tests.{le-leb, lt-leb, lt-ltb, le-ltb, eq-eqb, ne-eqb, not-true, not-false}
+use types.Run.{OneOf}
+use denote.Enum.Declared.{tagOf}
+use Rattle.word.specs.Integer.{u16At, u32At}
+use Rattle.word.specs.Place.{part}
+use Rattle.layout.specs.Sizes.{capacityOf, addressOf, endMoved, recordLength}
+use Rattle.layout.specs.Entry.{placeAddress}
+use Rattle.layout.specs.CrossReference.{slotFree, entryAt}
+use Rattle.layout.specs.Control.{nextOf, endOf}
+use Rattle.layout.specs.Leader.{leaderOf}
+use Rattle.layout.specs.declared.sizes.Mfn.{Mfn}
+use Rattle.layout.specs.declared.entry.Mark.{Mark}
+use Rattle.layout.specs.declared.entry.Mark.the-variants.{Settled, Changed, New}
+use Rattle.layout.specs.declared.entry.Place.{Place}
+use Rattle.layout.specs.declared.entry.Entry.{Entry}
+use Rattle.layout.specs.declared.entry.Entry.the-variants.{Gone, Malformed, At}
+use Rattle.layout.specs.declared.leader.Leader.{Leader}
+use Rattle.layout.proofs.entry.Entry as entry
+use Rattle.layout.proofs.entry.Mark as mark
+use Rattle.layout.proofs.Tests.{and-false}
+use Rattle.layout.proofs.Facts.{well-placed-facts}
+use Rattle.layout.proofs.CrossReference.{entry-well-placed}
+use Rattle.store.specs.Answer.{numberOf, after}
+use Rattle.store.specs.Reading.{mfnKnown, entryFor, placeIn, isMalformed, isGone, isChanged, leaderAt, backAddress, recordFine, versionFine}
+use Rattle.store.specs.Steps.{gateOf, knownIf, knownBoth}
+use Rattle.store.specs.Views.{knownAnswer}
+use Rattle.store.specs.declared.answer.Answer.{Answer}
+use Rattle.store.specs.declared.answer.Answer.the-variants.{Done, BadEntry, PhysicallyDeleted, BadRecord}
+use Rattle.store.specs.declared.gate.Gate.the-variants.{Open}
+use Rattle.store.specs.declared.gate.Known.{Known}
+use Rattle.store.specs.declared.gate.Known.the-variants.{Record, Refused}
+use Rattle.store.proofs.Gates.{gate-open, fine-facts, back-changed}
+use Rattle.soundness.specs.Sound.{allTo, elem, implies, restFree, stepRight, nextStep, steps, arrives}
+use Rattle.soundness.specs.Passes.{bit, count, sumTo, namesOf, entryFine, entriesFine, namedTotal, tallyOf, entryTally, namedUnder, refusedTally, hit, walkOf, Names}
+use Rattle.soundness.specs.declared.passes.Tally.{Tally}
+use Rattle.soundness.specs.declared.passes.Tally.the-variants.{Named, Wrong}
+use Rattle.soundness.proofs.Stepping.{next-up, next-near, steps-more, steps-end, arrives-more, arrives-end}
+use Rattle.soundness.proofs.Counting.{Passed, passed-before, passed-none, passed-more, passed-fails, passed-done, bit-le, sumTo-more}
+use Rattle.soundness.proofs.Deciding.{entry-fine}
+
+-- ---- stepping
+
+module _ (mst : List ℕ) (end s n : ℕ) (e : n ≡ u16At mst (s + 4)) where
+  module _ (t : Bool) (h : t ≡ recordLength n) where
+    pub step-wrong : not t ≡ true → false ≡ stepRight mst end s
+    unfolding stepRight
+    step-wrong q = rw (← e, ← h, not-true t q)
+
+    pub step-rest : not t ≡ false → leb (s + n) end ≡ stepRight mst end s
+    unfolding stepRight
+    step-rest q = rw (← e, ← h, not-false t q)
+
+  pub next-on : (t : Bool) (r : ℕ) → t ≡ stepRight mst end s → not t ≡ false → r ≡ endMoved (s + n) → r ≡ nextStep mst end s
+  unfolding nextStep
+  next-on t r h q f = rw (f, ← e, ← h, not-false t q)
+
+pub next-past : (mst : List ℕ) (end s : ℕ) (t : Bool) → t ≡ stepRight mst end s → not t ≡ true → end + 1 ≡ nextStep mst end s
+unfolding nextStep
+next-past mst end s t h q = rw (← h, not-true t q)
+
+pub ruleset step-answers = (step-wrong, step-rest, next-on, next-past, arith)
+
+-- ---- the XRF
+
+module _ (p : ℕ → Bool) (m : ℕ) (t : Bool) (e : t ≡ p m) where
+  pub one-more : 1 ≤ m → Passed p m → not t ≡ false → Passed p (m + 1)
+  one-more lo h q = passed-more p m lo h (sym e ∙ not-false t q)
+
+  pub one-fails : (n : ℕ) → 1 ≤ m → m ≤ n → not t ≡ true → false ≡ allTo n p
+  one-fails n lo hi q = passed-fails p m n lo hi (sym e ∙ not-true t q)
+
+-- the slots before m are 0, of those from NXTMFN on
+pub record FreeBefore (xrf : List ℕ) (next m : ℕ) : Type 0 where
+  pub all : Passed (λ (i : ℕ). implies (leb next i) (slotFree xrf i)) m
+
+module _ (xrf : List ℕ) (next : ℕ) where
+  pub free-none : FreeBefore xrf next next
+  free-none = record { all = passed-before (λ (i : ℕ). implies (leb next i) (slotFree xrf i)) next (λ i lo hi. rw (lt-leb next i hi)) }
+
+  module _ (m : ℕ) (late : next ≤ m) (t : Bool) (e : t ≡ slotFree xrf m) where
+    asked : t ≡ implies (leb next m) (slotFree xrf m)
+    asked = rw (le-leb next m late) e
+
+    pub free-more : 1 ≤ m → FreeBefore xrf next m → not t ≡ false → FreeBefore xrf next (m + 1)
+    free-more lo h q = record { all = one-more (λ (i : ℕ). implies (leb next i) (slotFree xrf i)) m t asked lo (h .all) q }
+
+    pub free-fails : (last : ℕ) → last ≡ capacityOf (length xrf) → 1 ≤ m → m ≤ last → not t ≡ true → false ≡ restFree xrf next
+    unfolding restFree
+    free-fails last c lo hi q =
+        one-fails (λ (i : ℕ). implies (leb next i) (slotFree xrf i)) m t asked (capacityOf (length xrf)) lo (omega arith) q
+
+  pub free-done : (m last : ℕ) → FreeBefore xrf next m → last ≡ capacityOf (length xrf) → last < m → m ≤ last + 1 → true ≡ restFree xrf next
+  unfolding restFree
+  free-done m last h c lo hi =
+      passed-done (λ (i : ℕ). implies (leb next i) (slotFree xrf i)) m (capacityOf (length xrf)) (h .all) (omega arith) (omega arith)
+
+pub ruleset free-answers = (free-none, free-more, free-fails, free-done, arith)
+
+-- ---- behind an open gate
+
+module _ (mst xrf : List ℕ) (next : Mfn) (end : ℕ) (g : gateOf mst xrf ≡ Open next end) where
+  pub open-next : next .0 ≡ nextOf mst
+  open-next = gate-open mst xrf next end g .next-is
+
+  pub open-low : 1 ≤ next .0
+  open-low = let f = gate-open mst xrf next end g in omega arith
+
+  pub open-few : next .0 ≤ 520193
+  open-few = let f = gate-open mst xrf next end g in omega arith
+
+  pub open-end : end ≡ endOf mst
+  open-end = gate-open mst xrf next end g .end-is
+
+  pub open-end-low : 64 ≤ end
+  open-end-low = let f = gate-open mst xrf next end g in omega arith
+
+  pub open-end-in : end ≤ length mst
+  open-end-in = let f = gate-open mst xrf next end g in omega arith
+
+  pub open-mst : length mst ≤ 536870400
+  open-mst = gate-open mst xrf next end g .sizes .mst-high
+
+  pub open-xrf : length xrf ≤ 2097152
+  open-xrf = gate-open mst xrf next end g .sizes .xrf-high
+
+  pub open-capacity : (m : ℕ) → m < next .0 → m ≤ capacityOf (length xrf)
+  open-capacity m h = let f = gate-open mst xrf next end g in omega arith
+
+  pub open-step : (s : ℕ) → s + 18 ≤ end → s + 4 ≤ length mst
+  open-step s h = let f = gate-open mst xrf next end g in omega arith
+
+-- ---- the first pass
+
+pub refused-gone : (a : Answer) (n : ℕ) → n ≡ numberOf a → n ≡ 7 → Named 0 ≡ refusedTally a
+refused-gone a n e h = rw (← e, h)
+
+pub refused-other : (a : Answer) (n : ℕ) → n ≡ numberOf a → (n ≡ 7 → ⊥) → Wrong ≡ refusedTally a
+refused-other a n e h = rw (← e, ne-eqb n 7 h)
+
+-- the record of a known MFN with its settled version, by the kind of entry
+knownEntry : List ℕ → ℕ → Entry → Known
+knownEntry mst m Gone = Refused PhysicallyDeleted
+knownEntry mst m Malformed = Refused BadEntry
+knownEntry mst m (At p) = cond (recordFine mst m p && versionFine mst m p) (Record p (leaderAt mst p)) (Refused BadRecord)
+
+both-entry : (mst xrf : List ℕ) (m : ℕ) → mfnKnown mst m ≡ true → knownBoth mst xrf m ≡ knownEntry mst m (entryFor mst xrf m)
+unfolding knownBoth knownIf after numberOf knownEntry
+both-entry mst xrf m k = rw k (go (entryFor mst xrf m))
+  where
+    refusal : Entry → Answer
+    refusal e =
+        cond (isMalformed e) BadEntry
+        (cond (isGone e) PhysicallyDeleted
+        (cond (not (recordFine mst m (placeIn e) && versionFine mst m (placeIn e))) BadRecord Done))
+
+    go : (e : Entry) → after (refusal e) (Record (placeIn e) (leaderAt mst (placeIn e))) (Refused (refusal e)) ≡ knownEntry mst m e
+    go Gone = refl
+    go Malformed = refl
+    go (At p) = ok (recordFine mst m p && versionFine mst m p)
+      where
+        ok : (b : Bool) → after (cond (not b) BadRecord Done) (Record p (leaderAt mst p)) (Refused (cond (not b) BadRecord Done))
+            ≡ cond b (Record p (leaderAt mst p)) (Refused BadRecord)
+        ok true = refl
+        ok false = refl
+
+-- what is counted of it
+tallyKnown : Known → Tally
+tallyKnown (Record p l) = Named (namedUnder (p .mark))
+tallyKnown (Refused a) = refusedTally a
+
+tally-entry : (mst : List ℕ) (m : ℕ) (e : Entry) → tallyKnown (knownEntry mst m e) ≡ entryTally mst m e
+unfolding tallyKnown knownEntry entryTally entryFine namesOf numberOf
+tally-entry mst m Gone = refl
+tally-entry mst m Malformed = refl
+tally-entry mst m (At p) = go (recordFine mst m p && versionFine mst m p) (isChanged (p .mark)) refl
+  where
+    go : (b t : Bool) → isChanged (p .mark) ≡ t
+        → tallyKnown (cond b (Record p (leaderAt mst p)) (Refused BadRecord))
+        ≡ cond b (Named (length (placeAddress p ∷ cond (isChanged (p .mark)) (backAddress (leaderAt mst p) ∷ []) []))) Wrong
+    go true true c = rw c
+    go true false c = rw c
+    go false t c = refl
+
+module _ (mst xrf : List ℕ) (next : Mfn) (end : ℕ) (g : gateOf mst xrf ≡ Open next end) where
+  known-is : (m : ℕ) → 1 ≤ m → m < next .0 → mfnKnown mst m ≡ true
+  unfolding mfnKnown
+  known-is m lo hi =
+      let f = gate-open mst xrf next end g in
+      let k : m < nextOf mst = omega arith in
+      rw (le-leb 1 m lo, lt-ltb m (nextOf mst) k)
+
+  module _ (m : ℕ) (lo : 1 ≤ m) (hi : m < next .0) (k : Known) (e : k ≡ knownBoth mst xrf m) where
+    counted : tallyKnown k ≡ entryTally mst m (entryFor mst xrf m)
+    counted = ap tallyKnown (e ∙ both-entry mst xrf m (known-is m lo hi)) ∙ tally-entry mst m (entryFor mst xrf m)
+
+    pub tally-refused : (a b : Answer) (r : Tally) → k ≡ Refused a → b ≡ knownAnswer k → r ≡ refusedTally b → r ≡ entryTally mst m (entryFor mst xrf m)
+    unfolding tallyKnown
+    tally-refused a b r q u v =
+        let w : b ≡ a = u ∙ ap knownAnswer q in
+        v ∙ ap refusedTally w ∙ sym (ap tallyKnown q) ∙ counted
+
+    pub tally-found : (p : Place) (l : Leader) (n : ℕ) → k ≡ Record p l → n ≡ namedUnder (p .mark) → Named n ≡ entryTally mst m (entryFor mst xrf m)
+    unfolding tallyKnown
+    tally-found p l n q u = ap Named u ∙ sym (ap tallyKnown q) ∙ counted
+
+-- the tally of the entries before m
+pub record Tallied (mst xrf : List ℕ) (m named : ℕ) : Type 0 where
+  pub fine : Passed (λ (i : ℕ). entryFine mst i (entryFor mst xrf i)) m
+  pub named-is : named ≡ sumTo (m - 1) (λ (i : ℕ). length (namesOf mst (entryFor mst xrf i)))
+  pub few : named ≤ 2 * (m - 1)
+
+-- a tally tells both of its parts
+pub named-parts : (t : Bool) (n named : ℕ) → cond t (Named n) Wrong ≡ Named named → (t ≡ true) × (n ≡ named)
+named-parts true n named e = (refl, (cc))
+named-parts false n named e = let z : _≡_ {A = ℕ} 0 1 = cc in absurd (omega arith)
+
+pub wrong-part : (t : Bool) (n : ℕ) → cond t (Named n) Wrong ≡ Wrong → t ≡ false
+wrong-part true n e = let z : _≡_ {A = ℕ} 0 1 = cc in absurd (omega arith)
+wrong-part false n e = refl
+
+names-few : (mst : List ℕ) (e : Entry) → length (namesOf mst e) ≤ 2
+unfolding namesOf
+names-few mst Gone = omega arith
+names-few mst Malformed = omega arith
+names-few mst (At p) = go (isChanged (p .mark))
+  where
+    go : (t : Bool) → length (placeAddress p ∷ cond t (backAddress (leaderAt mst p) ∷ []) []) ≤ 2
+    go true = omega arith
+    go false = omega arith
+
+module _ (mst xrf : List ℕ) where
+  pub tally-none : Tallied mst xrf 1 0
+  unfolding sumTo
+  tally-none = record { fine = passed-none (λ (i : ℕ). entryFine mst i (entryFor mst xrf i)); named-is = refl; few = omega arith }
+
+  module _ (m : ℕ) (t : Tally) (e : t ≡ entryTally mst m (entryFor mst xrf m)) where
+    module _ (n : ℕ) (h : t ≡ Named n) where
+      parts : (entryFine mst m (entryFor mst xrf m) ≡ true) × (length (namesOf mst (entryFor mst xrf m)) ≡ n)
+      unfolding entryTally
+      parts = named-parts (entryFine mst m (entryFor mst xrf m)) (length (namesOf mst (entryFor mst xrf m))) n (sym e ∙ h)
+
+      pub tally-few : n ≤ 2
+      tally-few = omega (arith, parts .1, names-few mst (entryFor mst xrf m))
+
+      pub tally-more : (named : ℕ) → 1 ≤ m → Tallied mst xrf m named → Tallied mst xrf (m + 1) (named + n)
+      tally-more named lo w =
+          let s = sumTo-more m (λ (i : ℕ). length (namesOf mst (entryFor mst xrf i))) lo in
+          record {
+            fine = passed-more (λ (i : ℕ). entryFine mst i (entryFor mst xrf i)) m lo (w .fine) (parts .0);
+            named-is = omega (arith, w .named-is, parts .1, s);
+            few = omega (arith, w .few, tally-few);
+          }
+
+    pub tally-wrong : (next : Mfn) (end : ℕ) → gateOf mst xrf ≡ Open next end → t ≡ Wrong → 1 ≤ m → m < next .0 → Wrong ≡ tallyOf mst xrf
+    unfolding tallyOf entriesFine entryTally
+    tally-wrong next end g h lo hi =
+        let n = open-next mst xrf next end g in
+        let f = wrong-part (entryFine mst m (entryFor mst xrf m)) (length (namesOf mst (entryFor mst xrf m))) (sym e ∙ h) in
+        rw (sym (passed-fails (λ (i : ℕ). entryFine mst i (entryFor mst xrf i)) m (nextOf mst - 1) lo (omega arith) f))
+
+  pub tally-done : (m named : ℕ) (next : Mfn) (end : ℕ) → gateOf mst xrf ≡ Open next end → Tallied mst xrf m named → m ≤ next .0 → next .0 ≤ m
+      → Named named ≡ tallyOf mst xrf
+  unfolding tallyOf entriesFine namedTotal
+  tally-done m named next end g w lo hi =
+      let l = open-low mst xrf next end g in
+      let h : m ≡ nextOf mst = omega (arith, open-next mst xrf next end g) in
+      let f = passed-done (λ (i : ℕ). entryFine mst i (entryFor mst xrf i)) m (nextOf mst - 1) (w .fine) (omega arith) (omega arith) in
+      rw (sym f) (ap Named (rw h at (w .named-is)))
+
+pub ruleset tally-answers =
+    (refused-gone, refused-other, tally-refused, tally-found, tally-none, tally-few, tally-more, tally-wrong, tally-done, open-low, arith)
+
+-- ---- the second pass
+
+-- under the other marks a place names only itself
+other-mark : (k : Mark) → OneOf (0 ∷ 2 ∷ []) (tagOf mark.the-type k) → isChanged k ≡ false
+other-mark Settled v = refl
+other-mark Changed v = ⊎-elim (λ (z : _≡_ {A = ℕ} 1 0). absurd (omega arith)) (λ (z : _≡_ {A = ℕ} 1 2). absurd (omega arith)) v
+other-mark New v = refl
+
+-- the leader that is read for the back place
+module _ (mst : List ℕ) (end : ℕ) (p : Place) (w : Names mst end p) (at : ℕ) (e : at ≡ placeAddress p) (l : Leader) (u : l ≡ leaderOf (part mst at (end - at))) where
+  leader-is : l ≡ leaderAt mst p
+  leader-is = u ∙ rw (e, w .end-is)
+
+  pub hit-block : p .mark ≡ Changed → 1 ≤ l .mfbwb .0
+  hit-block c = rw leader-is (w .back-block c)
+
+module _ (mst : List ℕ) (p : Place) (s at : ℕ) (e : at ≡ placeAddress p) where
+  pub hit-place : at ≡ s → 1 ≡ bit (elem s (namesOf mst (At p)))
+  unfolding bit namesOf elem
+  hit-place h = rw (eq-eqb s (placeAddress p) (sym h ∙ e))
+
+  module _ (d : at ≡ s → ⊥) where
+    elsewhere : eqb s (placeAddress p) ≡ false
+    elsewhere = ne-eqb s (placeAddress p) (λ q. d (e ∙ sym q))
+
+    pub hit-no-back : OneOf (0 ∷ 2 ∷ []) (tagOf mark.the-type (p .mark)) → 0 ≡ bit (elem s (namesOf mst (At p)))
+    unfolding bit namesOf elem
+    hit-no-back o = rw (elsewhere, other-mark (p .mark) o)
+
+    module _ (end : ℕ) (w : Names mst end p) (c : p .mark ≡ Changed) (l : Leader) (u : l ≡ leaderOf (part mst at (end - at)))
+        (b : ℕ) (v : b ≡ addressOf (l .mfbwb .0) (l .mfbwp)) where
+      back-is : b ≡ backAddress (leaderAt mst p)
+      back-is = v ∙ ap backAddress (leader-is mst end p w at e l u)
+
+      pub hit-back : b ≡ s → 1 ≡ bit (elem s (namesOf mst (At p)))
+      unfolding bit namesOf elem
+      hit-back h = rw (elsewhere, c, eq-eqb s (backAddress (leaderAt mst p)) (sym h ∙ back-is))
+
+      pub hit-not-back : (b ≡ s → ⊥) → 0 ≡ bit (elem s (namesOf mst (At p)))
+      unfolding bit namesOf elem
+      hit-not-back h = rw (elsewhere, c, ne-eqb s (backAddress (leaderAt mst p)) (λ q. h (back-is ∙ sym q)))
+
+no-names : (mst : List ℕ) (e : Entry) (s : ℕ) → OneOf (0 ∷ 1 ∷ []) (tagOf entry.the-type e) → elem s (namesOf mst e) ≡ false
+unfolding namesOf elem
+no-names mst Gone s o = refl
+no-names mst Malformed s o = refl
+no-names mst (At p) s o = ⊎-elim (λ (z : _≡_ {A = ℕ} 2 0). absurd (omega arith)) (λ (z : _≡_ {A = ℕ} 2 1). absurd (omega arith)) o
+
+module _ (mst xrf : List ℕ) (s m : ℕ) (e : m ≡ u32At mst s) where
+  pub hit-low : m < 1 → 0 ≡ bit (hit mst xrf s)
+  unfolding bit hit mfnKnown
+  hit-low h = rw (← e, lt-leb 1 m h)
+
+  module _ (next : Mfn) (end : ℕ) (g : gateOf mst xrf ≡ Open next end) where
+    pub hit-high : next .0 ≤ m → 0 ≡ bit (hit mst xrf s)
+    unfolding bit hit mfnKnown
+    hit-high h =
+        let f = gate-open mst xrf next end g in
+        let k : nextOf mst ≤ m = omega arith in
+        rw (← e, le-ltb m (nextOf mst) k, and-false)
+
+    module _ (lo : 1 ≤ m) (hi : m < next .0) (n : Entry) (u : n ≡ entryAt xrf end m) where
+      entry-is : entryFor mst xrf m ≡ n
+      entry-is = ap (λ (x : ℕ). entryAt xrf x m) (sym (gate-open mst xrf next end g .end-is)) ∙ sym u
+
+      hit-is : hit mst xrf s ≡ elem s (namesOf mst n)
+      unfolding hit
+      hit-is = rw (← e, known-is mst xrf next end g m lo hi, entry-is)
+
+      pub hit-no-place : OneOf (0 ∷ 1 ∷ []) (tagOf entry.the-type n) → 0 ≡ bit (hit mst xrf s)
+      unfolding bit
+      hit-no-place o = rw (hit-is, no-names mst n s o)
+
+      module _ (p : Place) (h : n ≡ At p) where
+        pub hit-told : (r : ℕ) → r ≡ bit (elem s (namesOf mst (At p))) → r ≡ bit (hit mst xrf s)
+        hit-told r q = q ∙ ap bit (sym (hit-is ∙ ap (λ (x : Entry). elem s (namesOf mst x)) h))
+
+        place-fine : entriesFine mst xrf ≡ true → recordFine mst m p ≡ true
+        unfolding entryFine
+        place-fine fine =
+            let f = gate-open mst xrf next end g in
+            let q : entryFine mst m (At p) ≡ true =
+            sym (ap (entryFine mst m) (entry-is ∙ h)) ∙ entry-fine mst xrf (f .next-low) fine m lo (omega arith) in
+            and-left (recordFine mst m p) (versionFine mst m p) q
+          where
+            and-left : (a b : Bool) → a && b ≡ true → a ≡ true
+            and-left true b v = refl
+            and-left false b v = v
+
+        pub hit-names : entriesFine mst xrf ≡ true → Names mst end p
+        hit-names fine =
+            let f = gate-open mst xrf next end g in
+            let w = well-placed-facts end (p .block .0) (p .offset) (entry-well-placed xrf end m p (sym u ∙ h)) in
+            record {
+              end-is = f .end-is;
+              end-in = omega arith;
+              block = w .block;
+              room = w .room;
+              back-block =
+                λ c. back-changed (endOf mst) p (leaderAt mst p) (fine-facts mst m p (place-fine fine) .back) c .facts .block;
+            }
+
+pub ruleset hit-answers =
+    (hit-place, hit-no-back, hit-block, hit-back, hit-not-back, hit-low, hit-high, hit-no-place, hit-told, hit-names, open-step, open-capacity, open-xrf, arith)
+
+pub bit-small : (r : ℕ) (b : Bool) → r ≡ bit b → r ≤ 1
+bit-small r b e = omega (arith, bit-le b)
+
+-- the walk has come to `at`
+pub record Walked (mst xrf : List ℕ) (end hits at : ℕ) : Type 0 where
+  pub hits-are : count (hit mst xrf) (steps mst end 64) ≡ hits + count (hit mst xrf) (steps mst end at)
+  pub way : arrives mst end 64 ≡ arrives mst end at
+  pub few : hits ≤ at
+  pub near : at ≤ end + 12
+
+module _ (mst xrf : List ℕ) (end : ℕ) where
+  pub walk-none : (next : Mfn) → gateOf mst xrf ≡ Open next end → Walked mst xrf end 0 64
+  walk-none next g =
+      let h = open-end-low mst xrf next end g in
+      record { hits-are = omega arith; way = refl; few = omega arith; near = omega arith }
+
+  module _ (hits at : ℕ) (w : Walked mst xrf end hits at) where
+    pub walk-more : (r next : ℕ) → at + 18 ≤ end → r ≡ bit (hit mst xrf at) → next ≡ nextStep mst end at → Walked mst xrf end (hits + r) next
+    unfolding count
+    walk-more r next room h n =
+        let q : count (hit mst xrf) (steps mst end 64) ≡ hits + (bit (hit mst xrf at) + count (hit mst xrf) (steps mst end (nextStep mst end at))) =
+        rw (steps-more mst end at room) at (w .hits-are) in
+        rw n
+        (record {
+          hits-are = omega (arith, q, h);
+          way = w .way ∙ arrives-more mst end at room;
+          few = omega (arith, w .few, h, bit-le (hit mst xrf at), next-up mst end at room);
+          near = next-near mst end at room;
+        })
+
+    module _ (named : ℕ) (next : Mfn) (g : gateOf mst xrf ≡ Open next end) (full : end < at + 18) where
+      end-is : end ≡ endOf mst
+      end-is = open-end mst xrf next end g
+
+      arrived : arrives mst (endOf mst) 64 ≡ eqb at end
+      arrived = rw (← end-is) (w .way ∙ arrives-end mst end at full)
+
+      pub walk-lost : (at ≡ end → ⊥) → false ≡ walkOf mst xrf named
+      unfolding walkOf
+      walk-lost d = rw (arrived, ne-eqb at end d)
+
+      pub walk-done : at ≡ end → eqb hits named ≡ walkOf mst xrf named
+      unfolding walkOf count
+      walk-done h =
+          let q : count (hit mst xrf) (steps mst end 64) ≡ hits + 0 = rw (steps-end mst end at full) at (w .hits-are) in
+          let c : count (hit mst xrf) (steps mst (endOf mst) 64) ≡ hits = rw (← end-is) (omega (arith, q)) in
+          rw (arrived, eq-eqb at end h, c)
+
+pub walk-rises : (mst : List ℕ) (end at next : ℕ) → next ≡ nextStep mst end at → at + 18 ≤ end → at < next
+walk-rises mst end at next h room = omega (arith, next-up mst end at room)
+
+pub ruleset walk-answers = (walk-none, walk-more, walk-lost, walk-done, open-end-in, open-mst, arith)

@@ -1,0 +1,95 @@
+-- What the passes of the check find. Each entry names a place, and under the changed mark a back place. The first pass over the MFNs asks all of
+-- an entry but whether these are steps, and counts them; the second walks the steps, and counts those that the entry of the MFN written there
+-- names. That the two counts agree exactly if every entry names steps only is a law (proofs/Deciding.antt), and no part of what is promised.
+use Prim.Native.Nat.{ℕ, zero, suc, _+_, _-_, _≤_}
+use mathlib.Core.Path.{_≡_}
+use mathlib.Core.Bool.{Bool, true, false, _&&_, cond}
+use mathlib.Core.List.{List, [], _∷_}
+use lib.Dec.{eqb}
+use lib.ListN.{length}
+use Rattle.word.specs.Integer.{u32At}
+use Rattle.layout.specs.Entry.{placeAddress}
+use Rattle.layout.specs.Control.{nextOf, endOf}
+use Rattle.layout.specs.declared.entry.Mark.{Mark}
+use Rattle.layout.specs.declared.entry.Mark.the-variants.{Changed}
+use Rattle.layout.specs.declared.entry.Place.{Place}
+use Rattle.layout.specs.declared.entry.Entry.{Entry}
+use Rattle.layout.specs.declared.entry.Entry.the-variants.{Gone, Malformed, At}
+use Rattle.store.specs.Answer.{numberOf}
+use Rattle.store.specs.Reading.{mfnKnown, entryFor, isChanged, leaderAt, backAddress, recordFine, versionFine}
+use Rattle.store.specs.declared.answer.Answer.{Answer}
+use Rattle.soundness.specs.Sound.{allTo, elem, steps, arrives}
+use Rattle.soundness.specs.declared.passes.Tally.{Tally}
+use Rattle.soundness.specs.declared.passes.Tally.the-variants.{Named, Wrong}
+
+-- ---- counting
+
+-- 1 where the test holds, else 0
+unfoldable pub bit : Bool → ℕ
+bit true = 1
+bit false = 0
+
+-- how many of a list pass
+unfoldable pub count : (ℕ → Bool) → List ℕ → ℕ
+count p [] = 0
+count p (x ∷ xs) = bit (p x) + count p xs
+
+-- the sum over 1 to n
+unfoldable pub sumTo : ℕ → (ℕ → ℕ) → ℕ
+sumTo zero f = 0
+sumTo (suc k) f = sumTo k f + f (suc k)
+
+-- ---- the first pass
+
+-- the addresses that an entry names: its place, and under the changed mark its back place
+unfoldable pub namesOf : List ℕ → Entry → List ℕ
+namesOf mst Gone = []
+namesOf mst Malformed = []
+namesOf mst (At p) = placeAddress p ∷ cond (isChanged (p .mark)) (backAddress (leaderAt mst p) ∷ []) []
+
+-- an entry is right but for the steps: gone, or a place with a well-formed record and, if changed, a well-formed settled version
+unfoldable pub entryFine : List ℕ → ℕ → Entry → Bool
+entryFine mst m Gone = true
+entryFine mst m Malformed = false
+entryFine mst m (At p) = recordFine mst m p && versionFine mst m p
+
+-- every entry below NXTMFN
+unfoldable pub entriesFine : List ℕ → List ℕ → Bool
+entriesFine mst xrf = allTo (nextOf mst - 1) (λ m. entryFine mst m (entryFor mst xrf m))
+
+-- how many addresses the entries below NXTMFN name
+unfoldable pub namedTotal : List ℕ → List ℕ → ℕ
+namedTotal mst xrf = sumTo (nextOf mst - 1) (λ m. length (namesOf mst (entryFor mst xrf m)))
+
+unfoldable pub tallyOf : List ℕ → List ℕ → Tally
+tallyOf mst xrf = cond (entriesFine mst xrf) (Named (namedTotal mst xrf)) Wrong
+
+-- the same for one entry
+unfoldable pub entryTally : List ℕ → ℕ → Entry → Tally
+entryTally mst m e = cond (entryFine mst m e) (Named (length (namesOf mst e))) Wrong
+
+-- how many addresses a place names, by its mark
+abbrev pub namedUnder : Mark → ℕ
+namedUnder mark = cond (isChanged mark) 2 1
+
+-- the tally of an entry whose record is refused: 7, physically deleted, is right and names nothing
+abbrev pub refusedTally : Answer → Tally
+refusedTally a = cond (eqb (numberOf a) 7) (Named 0) Wrong
+
+-- ---- the second pass
+
+-- the entry of the MFN written at the step s names this step
+unfoldable pub hit : List ℕ → List ℕ → ℕ → Bool
+hit mst xrf s = mfnKnown mst (u32At mst s) && elem s (namesOf mst (entryFor mst xrf (u32At mst s)))
+
+-- one arrives at the end, and as many steps are named as the entries name addresses
+unfoldable pub walkOf : List ℕ → List ℕ → ℕ → Bool
+walkOf mst xrf named = arrives mst (endOf mst) 64 && eqb (count (hit mst xrf) (steps mst (endOf mst) 64)) named
+
+-- what is enough to read the addresses that a place names
+pub record Names (mst : List ℕ) (end : ℕ) (p : Place) : Type 0 where
+  pub end-is : end ≡ endOf mst
+  pub end-in : end ≤ length mst
+  pub block : 1 ≤ p .block .0
+  pub room : placeAddress p + 18 ≤ end
+  pub back-block : p .mark ≡ Changed → 1 ≤ leaderAt mst p .mfbwb .0

@@ -1,0 +1,104 @@
+-- A sound store, and the whole-store check. Document 01, "A sound store".
+use Prim.Native.Nat.{ℕ, zero, suc, _+_, _-_, _/_}
+use mathlib.Core.Bool.{Bool, true, false, not, _&&_, _||_, cond}
+use mathlib.Core.List.{List, [], _∷_}
+use lib.Dec.{eqb, leb}
+use lib.ListN.{length}
+use Rattle.word.specs.Integer.{u16At}
+use Rattle.layout.specs.Sizes.{capacityOf, endMoved, recordLength}
+use Rattle.layout.specs.Entry.{placeAddress}
+use Rattle.layout.specs.CrossReference.{headRight, slotFree}
+use Rattle.layout.specs.Control.{nextOf, endOf}
+use Rattle.layout.specs.declared.entry.Place.{Place}
+use Rattle.layout.specs.declared.entry.Entry.{Entry}
+use Rattle.layout.specs.declared.entry.Entry.the-variants.{Gone, Malformed, At}
+use Rattle.store.specs.Answer.{refuse, lowest}
+use Rattle.store.specs.Reading.{lengthsPermitted, controlFine, entryFor, isChanged, leaderAt, backAddress, recordFine, settledFine}
+use Rattle.store.specs.Refusals.{gated}
+use Rattle.store.specs.declared.answer.Answer.{Answer}
+use Rattle.store.specs.declared.answer.Answer.the-variants.{Unsound}
+
+-- each of 1 to n passes
+unfoldable pub allTo : ℕ → (ℕ → Bool) → Bool
+allTo zero p = true
+allTo (suc k) p = allTo k p && p (suc k)
+
+-- a is in the list
+unfoldable pub elem : ℕ → List ℕ → Bool
+elem a [] = false
+elem a (x ∷ xs) = eqb a x || elem a xs
+
+-- where the first holds, the second does
+abbrev pub implies : Bool → Bool → Bool
+implies true b = b
+implies false b = true
+
+-- every XRF block's first integer is right
+unfoldable pub headsRight : List ℕ → Bool
+headsRight xrf = allTo (length xrf / 512) (headRight xrf)
+
+-- slots from NXTMFN on are 0
+unfoldable pub restFree : List ℕ → ℕ → Bool
+restFree xrf next = allTo (capacityOf (length xrf)) (λ m. implies (leb next m) (slotFree xrf m))
+
+-- MFRL at a step
+abbrev pub mfrlAt : List ℕ → ℕ → ℕ
+mfrlAt mst s = u16At mst (s + 4)
+
+-- MFRL is even and in range, and the step ends at or before the end
+unfoldable pub stepRight : List ℕ → ℕ → ℕ → Bool
+stepRight mst end s = recordLength (mfrlAt mst s) && leb (s + mfrlAt mst s) end
+
+-- the next step: by MFRL, and over offsets 500 to 510; past the end where MFRL is not right
+unfoldable pub nextStep : List ℕ → ℕ → ℕ → ℕ
+nextStep mst end s = cond (stepRight mst end s) (endMoved (s + mfrlAt mst s)) (end + 1)
+
+-- the steps from an address on, at most n: each has 18 bytes before the end
+unfoldable pub stepsIn : ℕ → List ℕ → ℕ → ℕ → List ℕ
+stepsIn zero mst end at = []
+stepsIn (suc n) mst end at = cond (leb (at + 18) end) (at ∷ stepsIn n mst end (nextStep mst end at)) []
+
+-- stepping from an address on, at most n times, one arrives exactly at the end
+unfoldable pub arrivesIn : ℕ → List ℕ → ℕ → ℕ → Bool
+arrivesIn zero mst end at = eqb at end
+arrivesIn (suc n) mst end at = cond (leb (at + 18) end) (arrivesIn n mst end (nextStep mst end at)) (eqb at end)
+
+-- no walk has more steps than there are bytes to the end
+unfoldable pub steps : List ℕ → ℕ → ℕ → List ℕ
+steps mst end at = stepsIn (end - at) mst end at
+
+unfoldable pub arrives : List ℕ → ℕ → ℕ → Bool
+arrives mst end at = arrivesIn (end - at) mst end at
+
+-- a place is one of the steps with a well-formed record, and its back place, if changed, one with a well-formed settled version
+unfoldable pub placeSound : List ℕ → List ℕ → ℕ → Place → Bool
+placeSound mst l m p =
+    recordFine mst m p
+    && elem (placeAddress p) l
+    && implies (isChanged (p .mark)) (settledFine mst m p && elem (backAddress (leaderAt mst p)) l)
+
+-- an entry is -2048, or names one of the steps as above
+unfoldable pub entrySound : List ℕ → List ℕ → ℕ → Entry → Bool
+entrySound mst l m Gone = true
+entrySound mst l m Malformed = false
+entrySound mst l m (At p) = placeSound mst l m p
+
+-- every entry below NXTMFN
+unfoldable pub entriesSound : List ℕ → List ℕ → List ℕ → Bool
+entriesSound mst xrf l = allTo (nextOf mst - 1) (λ m. entrySound mst l m (entryFor mst xrf m))
+
+-- A SOUND STORE, its lengths and control record right: every XRF block's first integer is right, slots from NXTMFN on are 0; from address 64
+-- one arrives exactly at the end; every entry below NXTMFN is sound
+unfoldable pub bodySound : List ℕ → List ℕ → Bool
+bodySound mst xrf =
+    headsRight xrf
+    && restFree xrf (nextOf mst)
+    && arrives mst (endOf mst) 64
+    && entriesSound mst xrf (steps mst (endOf mst) 64)
+
+unfoldable pub soundOf : List ℕ → List ℕ → Bool
+soundOf mst xrf = lengthsPermitted mst xrf && controlFine mst xrf && bodySound mst xrf
+
+-- check: 1, 2, 14 or 0
+unfoldable pub checkAnswer : List ℕ → List ℕ → Answer
+checkAnswer mst xrf = lowest (gated mst xrf (refuse Unsound (not (bodySound mst xrf)) ∷ []))

@@ -1,0 +1,286 @@
+-- What the functions of the gate return, by what their steps found. Each law's premises are what is known at one place of the code, so that
+-- `search gate-answers` finds them there; a callee's result is a variable with what the callee ensures of it.
+use Prim.Native.Nat.{ℕ, _-_, _≤_, _<_}
+use native.Mathlib.Omega.{arith}
+use mathlib.Core.Path.{_≡_, refl, sym, ap, _∙_}
+use mathlib.Core.Logic.{⊎-elim}
+use mathlib.Core.Bool.{Bool, true, false, not, _&&_, cond}
+use mathlib.Core.List.{List, [], _∷_}
+use lib.Dec.{eqb}
+use lib.ListN.{length}
+use borrow.Author.Tests.{le-leb, lt-leb, lt-ltb, le-ltb, not-true, not-false}
+use types.Run.{OneOf}
+use denote.Enum.Declared.{tagOf}
+use Rattle.word.specs.Place.{part}
+use Rattle.layout.specs.Sizes.{mstPermitted, xrfPermitted, capacityOf, addressOf}
+use Rattle.layout.specs.Entry.{wellPlaced, placeAddress}
+use Rattle.layout.specs.CrossReference.{entryAt}
+use Rattle.layout.specs.Control.{endOf, nextOf, controlOf}
+use Rattle.layout.specs.Leader.{leaderOf}
+use Rattle.layout.specs.declared.sizes.Mfn.{Mfn}
+use Rattle.layout.specs.declared.control.Control.{Control}
+use Rattle.layout.specs.declared.control.Control.the-variants.{Right, Wrong}
+use Rattle.layout.specs.declared.entry.Mark.{Mark}
+use Rattle.layout.specs.declared.entry.Mark.the-variants.{Settled, Changed, New}
+use Rattle.layout.specs.declared.entry.Place.{Place}
+use Rattle.layout.specs.declared.entry.Entry.{Entry}
+use Rattle.layout.specs.declared.entry.Entry.the-variants.{Gone, Malformed, At}
+use Rattle.layout.specs.declared.leader.Leader.{Leader}
+use Rattle.layout.proofs.entry.Entry as entry
+use Rattle.layout.proofs.entry.Mark as mark
+use Rattle.layout.proofs.Tests.{and-false}
+use Rattle.layout.proofs.Facts.{well-placed-facts}
+use Rattle.layout.proofs.ControlRecord.{control-read}
+use Rattle.layout.proofs.CrossReference.{entry-well-placed}
+use Rattle.record.specs.Record.{recordRight, testOf, noBack, backRight}
+use Rattle.record.specs.declared.test.Tested.{Tested}
+use Rattle.record.specs.declared.test.Tested.the-variants.{WellFormed, Broken}
+use Rattle.store.specs.Answer.{numberOf, after}
+use Rattle.store.specs.Reading.{lengthsPermitted, controlFine, mfnKnown, entryFor, placeIn, isMalformed, isGone, isChanged, recordAt, leaderAt, backAddress, backFine, recordFine, settledFine, versionFine}
+use Rattle.store.specs.Gate.{entryAnswer, placeKnown, settledFrom}
+use Rattle.store.specs.Steps.{gateOf, knownIf, knownOf, knownBoth}
+use Rattle.store.specs.declared.answer.Answer.{Answer}
+use Rattle.store.specs.declared.answer.Answer.the-variants.{Done, BadLength, BadControl, NoSuchMfn, BadEntry, PhysicallyDeleted, BadRecord}
+use Rattle.store.specs.declared.gate.Gate.the-variants.{Open, Shut}
+use Rattle.store.specs.declared.gate.Known.{Known}
+use Rattle.store.specs.declared.gate.Known.the-variants.{Record, Refused}
+use Rattle.store.proofs.Gates.{gate-open, KnownFacts, known-facts, BackFacts, back-changed, refused-both}
+
+-- ---- lengths and control record
+
+module _ (mst xrf : List ℕ) where
+  module _ (w : Bool) (e : w ≡ mstPermitted (length mst)) where
+    pub lengths-no : not w ≡ true → false ≡ lengthsPermitted mst xrf
+    unfolding lengthsPermitted
+    lengths-no h = rw (← e, not-true w h)
+
+    pub lengths-rest : (r : Bool) → not w ≡ false → r ≡ xrfPermitted (length xrf) → r ≡ lengthsPermitted mst xrf
+    unfolding lengthsPermitted
+    lengths-rest r h s = rw (s, ← e, not-false w h)
+
+  module _ (w : Bool) (e : w ≡ lengthsPermitted mst xrf) where
+    pub gate-lengths : not w ≡ true → Shut BadLength ≡ gateOf mst xrf
+    unfolding gateOf after numberOf
+    gate-lengths h = rw (← e, not-true w h)
+
+    module _ (h : not w ≡ false) (n : ℕ) (s : n ≡ capacityOf (length xrf)) (k : Control) (u : k ≡ controlOf mst n) where
+      control-wrong : (t : Bool) (next : Mfn) (end : ℕ) → cond t (Right next end) Wrong ≡ Wrong → t ≡ false
+      control-wrong true next end p = let z : _≡_ {A = ℕ} 0 1 = cc in absurd (omega arith)
+      control-wrong false next end p = refl
+
+      read : controlOf mst (capacityOf (length xrf)) ≡ k
+      read = ap (controlOf mst) (sym s) ∙ sym u
+
+      pub gate-wrong : k ≡ Wrong → Shut BadControl ≡ gateOf mst xrf
+      unfolding controlOf gateOf after numberOf
+      gate-wrong v =
+          let q : controlFine mst xrf ≡ false = control-wrong (controlFine mst xrf) (record { 0 = nextOf mst }) (endOf mst) (read ∙ v) in
+          rw (← e, not-false w h, q)
+
+      pub gate-right : (next : Mfn) (end : ℕ) → k ≡ Right next end → Open next end ≡ gateOf mst xrf
+      unfolding gateOf after numberOf
+      gate-right next end v =
+          let q = control-read mst (capacityOf (length xrf)) next end (read ∙ v) in
+          rw (← e, not-false w h, q .right, q .end-is) (ap (λ (x : ℕ). Open (record { 0 = x }) (endOf mst)) (q .next-is))
+
+-- ---- the back pointer
+
+module _ (end : ℕ) (p : Place) (l : Leader) (w : Bool) (e : w ≡ backRight end (p .mark) l) where
+  pub back-wrong : not w ≡ true → false ≡ backFine end p l
+  unfolding backFine
+  back-wrong h = rw (← e, not-true w h)
+
+  module _ (h : not w ≡ false) where
+    pub back-other : OneOf (0 ∷ 2 ∷ []) (tagOf mark.the-type (p .mark)) → true ≡ backFine end p l
+    unfolding backFine
+    back-other o = rw (← e, not-false w h) (other (p .mark) o)
+      where
+        other : (k : Mark) → OneOf (0 ∷ 2 ∷ []) (tagOf mark.the-type k) → true ≡ not (isChanged k && eqb (backAddress l) (placeAddress p))
+        other Settled v = refl
+        other Changed v = ⊎-elim (λ (z : _≡_ {A = ℕ} 1 0). absurd (omega arith)) (λ (z : _≡_ {A = ℕ} 1 2). absurd (omega arith)) v
+        other New v = refl
+
+    pub back-block : p .mark ≡ Changed → 1 ≤ l .mfbwb .0
+    unfolding backRight
+    back-block c =
+        let q : wellPlaced end (l .mfbwb .0) (l .mfbwp) ≡ true = ap (λ (k : Mark). backRight end k l) (sym c) ∙ sym e ∙ not-false w h in
+        well-placed-facts end (l .mfbwb .0) (l .mfbwp) q .block
+
+    pub back-own : (a b : ℕ) → p .mark ≡ Changed → a ≡ addressOf (l .mfbwb .0) (l .mfbwp) → b ≡ placeAddress p → not (eqb a b) ≡ backFine end p l
+    unfolding backFine
+    back-own a b c s t = rw (s, t, ← e, not-false w h, c)
+
+-- ---- the record test
+
+tested-broken : (b : Bool) (l : Leader) → cond b (WellFormed l) Broken ≡ Broken → b ≡ false
+tested-broken true l p = let z : _≡_ {A = ℕ} 0 1 = cc in absurd (omega arith)
+tested-broken false l p = refl
+
+tested-right : (b : Bool) (l k : Leader) → cond b (WellFormed l) Broken ≡ WellFormed k → (b ≡ true) × (l ≡ k)
+tested-right true l k p = (refl, (cc))
+tested-right false l k p = let z : _≡_ {A = ℕ} 0 1 = cc in absurd (omega arith)
+
+module _ (rec : List ℕ) (m : ℕ) (d : Bool) where
+  test-broken : testOf rec m d ≡ Broken → recordRight rec m d ≡ false
+  unfolding testOf
+  test-broken p = tested-broken (recordRight rec m d) (leaderOf rec) p
+
+  test-right : (l : Leader) → testOf rec m d ≡ WellFormed l → (recordRight rec m d ≡ true) × (leaderOf rec ≡ l)
+  unfolding testOf
+  test-right l p = tested-right (recordRight rec m d) (leaderOf rec) l p
+
+module _ (end : ℕ) (p : Place) (w : wellPlaced end (p .block .0) (p .offset) ≡ true) where
+  pub place-block : 1 ≤ p .block .0
+  place-block = well-placed-facts end (p .block .0) (p .offset) w .block
+
+  pub place-before : (at : ℕ) → at ≡ placeAddress p → at ≤ end
+  place-before at a = let f = well-placed-facts end (p .block .0) (p .offset) w in omega arith
+
+module _ (mst : List ℕ) (end m : ℕ) (p : Place) (h : end ≡ endOf mst) (at : ℕ) (a : at ≡ placeAddress p) (t : Tested) (x : t ≡ testOf (part mst at (end - at)) m (p .deleted)) where
+  tested : testOf (recordAt mst p) m (p .deleted) ≡ t
+  tested = rw (← h, ← a, x)
+
+  pub place-broken : t ≡ Broken → Refused BadRecord ≡ placeKnown mst m p
+  unfolding placeKnown recordFine
+  place-broken b = rw (test-broken (recordAt mst p) m (p .deleted) (tested ∙ b))
+
+  module _ (l : Leader) (g : t ≡ WellFormed l) (w : Bool) (b : w ≡ backFine end p l) where
+    back-is : backFine (endOf mst) p (leaderAt mst p) ≡ w
+    back-is = let q = test-right (recordAt mst p) m (p .deleted) l (tested ∙ g) in rw (q .1, ← h, b)
+
+    pub place-back : not w ≡ true → Refused BadRecord ≡ placeKnown mst m p
+    unfolding placeKnown recordFine
+    place-back n = rw (back-is, not-true w n, and-false)
+
+    pub place-right : not w ≡ false → Record p l ≡ placeKnown mst m p
+    unfolding placeKnown recordFine
+    place-right n =
+        let q = test-right (recordAt mst p) m (p .deleted) l (tested ∙ g) in
+        rw (back-is, not-false w n, q .0, q .1)
+
+-- ---- the record of an MFN
+
+fine-cond : (b : Bool) (k : Known) → cond b k (Refused BadRecord) ≡ after (cond (not b) BadRecord Done) k (Refused (cond (not b) BadRecord Done))
+unfolding after numberOf
+fine-cond true k = refl
+fine-cond false k = refl
+
+-- 6 and 7
+abbrev entryList : Entry → Bool → Answer
+entryList e ok = cond (isMalformed e) BadEntry (cond (isGone e) PhysicallyDeleted (cond (not ok) BadRecord Done))
+
+no-place : (e : Entry) (ok : Bool) (k : Known) → OneOf (0 ∷ 1 ∷ []) (tagOf entry.the-type e)
+    → Refused (entryAnswer e) ≡ after (entryList e ok) k (Refused (entryList e ok))
+unfolding after numberOf
+no-place Gone ok k o = refl
+no-place Malformed ok k o = refl
+no-place (At p) ok k o = ⊎-elim (λ (z : _≡_ {A = ℕ} 2 0). absurd (omega arith)) (λ (z : _≡_ {A = ℕ} 2 1). absurd (omega arith)) o
+
+module _ (mst xrf : List ℕ) (m : ℕ) where
+  pub record-low : m < 1 → Refused NoSuchMfn ≡ knownOf mst xrf m
+  unfolding knownOf knownIf mfnKnown after numberOf
+  record-low h = rw (lt-leb 1 m h)
+
+  module _ (next : Mfn) (end : ℕ) (g : gateOf mst xrf ≡ Open next end) where
+    pub gate-end : end ≡ endOf mst
+    gate-end = gate-open mst xrf next end g .end-is
+
+    pub gate-end-in : end ≤ length mst
+    gate-end-in = let f = gate-open mst xrf next end g in omega arith
+
+    pub gate-xrf : length xrf ≤ 2097152
+    gate-xrf = gate-open mst xrf next end g .sizes .xrf-high
+
+    pub record-capacity : m < next .0 → m ≤ capacityOf (length xrf)
+    record-capacity h = let f = gate-open mst xrf next end g in omega arith
+
+    pub record-high : next .0 ≤ m → Refused NoSuchMfn ≡ knownOf mst xrf m
+    unfolding knownOf knownIf mfnKnown after numberOf
+    record-high h =
+        let f = gate-open mst xrf next end g in
+        let k : nextOf mst ≤ m = omega arith in
+        rw (le-ltb m (nextOf mst) k, and-false)
+
+    module _ (e : Entry) (u : e ≡ entryAt xrf end m) where
+      entry-is : entryFor mst xrf m ≡ e
+      entry-is = ap (λ (x : ℕ). entryAt xrf x m) (sym gate-end) ∙ sym u
+
+      pub record-placed : (p : Place) → e ≡ At p → wellPlaced end (p .block .0) (p .offset) ≡ true
+      record-placed p v = entry-well-placed xrf end m p (sym u ∙ v)
+
+      module _ (low : 1 ≤ m) (high : m < next .0) where
+        known-is : mfnKnown mst m ≡ true
+        unfolding mfnKnown
+        known-is =
+            let f = gate-open mst xrf next end g in
+            let k : m < nextOf mst = omega arith in
+            rw (le-leb 1 m low, lt-ltb m (nextOf mst) k)
+
+        pub record-no-place : (a : Answer) → OneOf (0 ∷ 1 ∷ []) (tagOf entry.the-type e) → a ≡ entryAnswer e → Refused a ≡ knownOf mst xrf m
+        unfolding knownOf knownIf after numberOf
+        record-no-place a o s =
+            rw (s, known-is, entry-is) (no-place e (recordFine mst m (placeIn e)) (Record (placeIn e) (leaderAt mst (placeIn e))) o)
+
+        pub record-told : (p : Place) (r : Known) → e ≡ At p → r ≡ placeKnown mst m p → r ≡ knownOf mst xrf m
+        unfolding knownOf knownIf placeKnown
+        record-told p r v s = rw (s, known-is, entry-is, v) (fine-cond (recordFine mst m p) (Record p (leaderAt mst p)))
+
+-- ---- the settled version
+
+module _ (mst : List ℕ) (end m at : ℕ) (t : Tested) (x : t ≡ testOf (part mst at (end - at)) m false) where
+  pub settled-broken : t ≡ Broken → false ≡ settledFrom mst end m at
+  unfolding settledFrom
+  settled-broken b = rw (test-broken (part mst at (end - at)) m false (sym x ∙ b))
+
+  pub settled-right : (l : Leader) (r : Bool) → t ≡ WellFormed l → r ≡ noBack l → r ≡ settledFrom mst end m at
+  unfolding settledFrom
+  settled-right l r g s =
+      let q = test-right (part mst at (end - at)) m false l (sym x ∙ g) in
+      rw (s, q .0, q .1)
+
+module _ (mst xrf : List ℕ) (m : ℕ) (k : Known) (e : k ≡ knownOf mst xrf m) where
+  pub both-refused : (a : Answer) → k ≡ Refused a → k ≡ knownBoth mst xrf m
+  both-refused a r = r ∙ refused-both mst xrf m a (sym e ∙ r)
+
+  module _ (p : Place) (l : Leader) (r : k ≡ Record p l) where
+    facts : KnownFacts mst xrf m p l
+    facts = known-facts mst xrf m p l (sym e ∙ r)
+
+    both-told : versionFine mst m p ≡ true → Record p l ≡ knownBoth mst xrf m
+    unfolding knownBoth knownIf after numberOf
+    both-told v = rw (facts .known, facts .entry, facts .record-fine, v, facts .leader-is)
+
+    pub both-other : OneOf (0 ∷ 2 ∷ []) (tagOf mark.the-type (p .mark)) → Record p l ≡ knownBoth mst xrf m
+    unfolding versionFine
+    both-other o = both-told (other (p .mark) o)
+      where
+        other : (k : Mark) → OneOf (0 ∷ 2 ∷ []) (tagOf mark.the-type k) → cond (isChanged k) (settledFine mst m p) true ≡ true
+        other Settled v = refl
+        other Changed v = ⊎-elim (λ (z : _≡_ {A = ℕ} 1 0). absurd (omega arith)) (λ (z : _≡_ {A = ℕ} 1 2). absurd (omega arith)) v
+        other New v = refl
+
+    module _ (c : p .mark ≡ Changed) where
+      back : BackFacts (endOf mst) p l
+      back = back-changed (endOf mst) p l (facts .facts .back) c
+
+      pub both-block : 1 ≤ l .mfbwb .0
+      both-block = back .facts .block
+
+      module _ (end at : ℕ) (h : end ≡ endOf mst) (a : at ≡ addressOf (l .mfbwb .0) (l .mfbwp)) where
+        pub both-before : at ≤ end
+        both-before = let f = back .facts in omega arith
+
+        module _ (w : Bool) (s : w ≡ settledFrom mst end m at) where
+          version-is : versionFine mst m p ≡ w
+          unfolding versionFine settledFine settledFrom
+          version-is = rw (c, ← facts .leader-is, ← h, ← a, s)
+
+          pub both-broken : w ≡ false → Refused BadRecord ≡ knownBoth mst xrf m
+          unfolding knownBoth knownIf after numberOf
+          both-broken n = rw (facts .known, facts .entry, facts .record-fine, version-is, n)
+
+          pub both-right : w ≡ true → Record p l ≡ knownBoth mst xrf m
+          both-right n = both-told (version-is ∙ n)
+
+pub ruleset gate-answers =
+    (lengths-no, lengths-rest, gate-lengths, gate-wrong, gate-right, back-wrong, back-other, back-block, back-own, place-block, place-before, place-broken, place-back, place-right, record-low, gate-end, gate-end-in, gate-xrf, record-capacity, record-high, record-placed, record-no-place, record-told, settled-broken, settled-right, both-refused, both-other, both-block, both-before, both-broken, both-right, arith)

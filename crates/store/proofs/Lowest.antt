@@ -1,0 +1,111 @@
+-- `lowest` gives the lowest: of a list of refusals whose numbers ascend, which is tested by computing, it is done exactly if none applies,
+-- and otherwise an answer that applies and whose number is at most that of every one that applies. The table of each call ascends, so that
+-- each call's answer is the lowest of its table.
+use Prim.Native.Nat.{ℕ, _≤_, _<_}
+use native.Mathlib.Omega.{arith}
+use mathlib.Core.Path.{_≡_, refl, sym, ap, _∙_}
+use mathlib.Core.Logic.{_⊎_, inl, inr, ⊎-elim}
+use mathlib.Core.Bool.{Bool, true, false, _&&_, cond}
+use mathlib.Core.List.{List, [], _∷_}
+use lib.Dec.{ltb}
+use Rattle.layout.proofs.Tests.{tests, false-true}
+use Rattle.store.specs.Answer.{numberOf, Refusal, lowest}
+use Rattle.store.specs.Refusals.{formatRefusals, formatAnswer, viewRefusals, viewAnswer, settledViewRefusals, settledViewAnswer, createRefusals, createAnswer, updateRefusals, updateAnswer, deleteRefusals, deleteAnswer, settleRefusals, settleAnswer, revertRefusals, revertAnswer}
+use Rattle.store.specs.declared.answer.Answer.{Answer}
+use Rattle.store.specs.declared.answer.Answer.the-variants.{Done}
+use Rattle.store.proofs.Gates.{done-number}
+
+-- the numbers ascend, all of them above n
+unfoldable pub above : ℕ → List Refusal → Bool
+above n [] = true
+above n (r ∷ rs) = ltb n (numberOf (r .answer)) && above (numberOf (r .answer)) rs
+
+-- they ascend, and none is 0
+abbrev pub ascends : List Refusal → Bool
+ascends rs = above 0 rs
+
+-- an answer is in the list, and applies
+abbrev pub Applies : List Refusal → Answer → Type 0
+Applies [] a = ⊥
+Applies (r ∷ rs) a = ((r .answer ≡ a) × (r .applies ≡ true)) ⊎ Applies rs a
+
+pub record IsLowest (rs : List Refusal) (a : Answer) : Type 0 where
+  pub none : a ≡ Done → (b : Answer) → Applies rs b → ⊥
+  pub done : ((b : Answer) → Applies rs b → ⊥) → a ≡ Done
+  pub applies : (a ≡ Done → ⊥) → Applies rs a
+  pub least : (b : Answer) → Applies rs b → numberOf a ≤ numberOf b
+
+above-applies : (n : ℕ) (rs : List Refusal) (b : Answer) → above n rs ≡ true → Applies rs b → n < numberOf b
+unfolding above
+above-applies n [] b e h = absurd h
+above-applies n (r ∷ rs) b e h =
+    let q = simp tests at e in
+    ⊎-elim
+    (λ w. rw (← w .0) (q .0))
+    (λ w. omega (arith, above-applies (numberOf (r .answer)) rs b (q .1) w, q .0))
+    h
+
+lowest-above : (n : ℕ) (rs : List Refusal) → above n rs ≡ true → IsLowest rs (lowest rs)
+unfolding above
+lowest-above n [] e =
+    record { none = λ d b h. h; done = λ h. refl; applies = λ h. absurd (h refl); least = λ b h. absurd h }
+lowest-above n (r ∷ rs) e = by (r .applies) refl (lowest-above (numberOf (r .answer)) rs (q .1))
+  where
+    q : (n < numberOf (r .answer)) × (above (numberOf (r .answer)) rs ≡ true)
+    q = simp tests at e
+
+    by : (t : Bool) → r .applies ≡ t → IsLowest rs (lowest rs) → IsLowest (r ∷ rs) (cond t (r .answer) (lowest rs))
+    by true a i =
+        record {
+          none = λ d. absurd (omega (arith, q .0, ap numberOf d ∙ done-number));
+          done = λ h. absurd (h (r .answer) (inl (refl, a)));
+          applies = λ h. inl (refl, a);
+          least = λ b. ⊎-elim (λ w. omega (arith, ap numberOf (w .0))) (λ w. omega (arith, above-applies (numberOf (r .answer)) rs b (q .1) w));
+        }
+    by false a i =
+        record {
+          none = λ d b. ⊎-elim (λ w. false-true (sym a ∙ w .1)) (i .none d b);
+          done = λ h. i .done (λ b w. h b (inr w));
+          applies = λ h. inr (i .applies h);
+          least = λ b. ⊎-elim (λ w. absurd (false-true (sym a ∙ w .1))) (i .least b);
+        }
+
+pub lowest-is-lowest : (rs : List Refusal) → ascends rs ≡ true → IsLowest rs (lowest rs)
+lowest-is-lowest rs e = lowest-above 0 rs e
+
+-- ---- the tables
+
+module _ (mst xrf : List ℕ) where
+  pub format-lowest : IsLowest (formatRefusals mst xrf) (formatAnswer mst xrf)
+  unfolding formatAnswer above numberOf
+  format-lowest = lowest-is-lowest (formatRefusals mst xrf) refl
+
+  module _ (tags lens bytes : List ℕ) where
+    pub create-lowest : IsLowest (createRefusals mst xrf tags lens bytes) (createAnswer mst xrf tags lens bytes)
+    unfolding createAnswer above numberOf
+    create-lowest = lowest-is-lowest (createRefusals mst xrf tags lens bytes) refl
+
+    pub update-lowest : (m : ℕ) → IsLowest (updateRefusals mst xrf m tags lens bytes) (updateAnswer mst xrf m tags lens bytes)
+    unfolding updateAnswer above numberOf
+    update-lowest m = lowest-is-lowest (updateRefusals mst xrf m tags lens bytes) refl
+
+  module _ (m : ℕ) where
+    pub view-lowest : (tag occ : ℕ) → IsLowest (viewRefusals mst xrf m tag occ) (viewAnswer mst xrf m tag occ)
+    unfolding viewAnswer above numberOf
+    view-lowest tag occ = lowest-is-lowest (viewRefusals mst xrf m tag occ) refl
+
+    pub settled-view-lowest : (tag occ : ℕ) → IsLowest (settledViewRefusals mst xrf m tag occ) (settledViewAnswer mst xrf m tag occ)
+    unfolding settledViewAnswer above numberOf
+    settled-view-lowest tag occ = lowest-is-lowest (settledViewRefusals mst xrf m tag occ) refl
+
+    pub delete-lowest : IsLowest (deleteRefusals mst xrf m) (deleteAnswer mst xrf m)
+    unfolding deleteAnswer above numberOf
+    delete-lowest = lowest-is-lowest (deleteRefusals mst xrf m) refl
+
+    pub settle-lowest : IsLowest (settleRefusals mst xrf m) (settleAnswer mst xrf m)
+    unfolding settleAnswer above numberOf
+    settle-lowest = lowest-is-lowest (settleRefusals mst xrf m) refl
+
+    pub revert-lowest : IsLowest (revertRefusals mst xrf m) (revertAnswer mst xrf m)
+    unfolding revertAnswer above numberOf
+    revert-lowest = lowest-is-lowest (revertRefusals mst xrf m) refl

@@ -1,0 +1,426 @@
+-- Which plan each call makes, by what its steps found. Each law's premises are what is known at one `return`, so that `search` finds them
+-- there wherever they stand; a step's result is a variable with what the step ensures of it.
+use Prim.Native.Nat.{ℕ, _+_, _*_, _-_, _/_, _%_, _≤_, _<_}
+use native.Mathlib.Omega.{arith}
+use mathlib.Core.Path.{_≡_, refl, sym, ap, _∙_}
+use mathlib.Core.Bool.{Bool, true, false, not, _&&_, _||_, cond}
+use mathlib.Core.List.{List, [], _∷_}
+use lib.Dec.{ltb, eqb}
+use lib.ListN.{length}
+use borrow.Author.Tests.{lt-ltb, le-ltb, eq-eqb, ne-eqb, not-true, not-false}
+use denote.Enum.Declared.{tagOf}
+use types.Run.{OneOf, miss}
+use Rattle.layout.specs.Sizes.{capacityOf}
+use Rattle.layout.specs.Control.{nextOf, endOf}
+use Rattle.layout.specs.CrossReference.{xrfBlock, headRight, slotFree}
+use Rattle.layout.specs.declared.sizes.Mfn.{Mfn}
+use Rattle.layout.specs.declared.entry.Mark.{Mark}
+use Rattle.layout.specs.declared.entry.Mark.the-variants.{Settled, Changed, New}
+use Rattle.layout.specs.declared.entry.Place.{Place}
+use Rattle.layout.specs.declared.leader.Leader.{Leader}
+use Rattle.layout.proofs.Tests.{and-false}
+use Rattle.layout.proofs.entry.Mark as mark
+use Rattle.record.specs.Draft.{needOf, draftRight, draftFields}
+use Rattle.record.specs.Bytes.{needFor}
+use Rattle.record.proofs.Draftable.{draft-need}
+use Rattle.store.specs.Answer.{numberOf, refuse, lowest, after}
+use Rattle.store.specs.Reading.{lengthsPermitted, controlFine, mfnKnown, entryFor, placeFor, isMalformed, isGone, isSettled, isNew, leaderAt, currentFields}
+use Rattle.store.specs.Refusals.{fine, bothFine, exceeds, createAnswer, updateAppends, updateAnswer, deleteAnswer, settleAnswer, revertAnswer}
+use Rattle.store.specs.Steps.{gateOf, knownIf, knownOf, knownBoth, settlePlan, revertPlan, slotAnswer, SlotAsked, createPlan, planIf, updatePlan, deletePlan, roomPlan}
+use Rattle.store.specs.Views.{gateAnswer, knownAnswer}
+use Rattle.store.specs.Writing.{RecordRead}
+use Rattle.store.specs.declared.answer.Answer.{Answer}
+use Rattle.store.specs.declared.answer.Answer.the-variants.{Done, BadLength, BadControl, BadDraft, NoSuchMfn, Full, BadEntry, PhysicallyDeleted, BadRecord, Deleted, NotPending, NeverSettled, NoField, NoRoom, Unsound}
+use Rattle.store.specs.declared.create.Creating.{Creating}
+use Rattle.store.specs.declared.create.Creating.the-variants.{Write, Unwritten}
+use Rattle.store.specs.declared.gate.Gate.{Gate}
+use Rattle.store.specs.declared.gate.Gate.the-variants.{Open, Shut}
+use Rattle.store.specs.declared.gate.Known.{Known}
+use Rattle.store.specs.declared.gate.Known.the-variants.{Record, Refused}
+use Rattle.store.specs.declared.versions.Plan.{Plan}
+use Rattle.store.specs.declared.versions.Plan.the-variants.{Append, InPlace, Refuse}
+use Rattle.store.proofs.answer.Answer as answer
+use Rattle.store.proofs.Told.{draft-fits, read-known}
+use Rattle.store.proofs.Gates.{Refusing, after-done, after-refused, gate-shut, OpenFacts, gate-open, known-refused, both-refused, KnownFacts, known-facts, BothFacts, both-facts}
+
+-- ---- variants that are left in an `else`
+
+pub not-done : (a : Answer) → OneOf (1 ∷ 2 ∷ 3 ∷ 4 ∷ 5 ∷ 6 ∷ 7 ∷ 8 ∷ 9 ∷ 10 ∷ 11 ∷ 12 ∷ 13 ∷ 14 ∷ []) (tagOf answer.the-type a) → Refusing a
+unfolding numberOf
+not-done Done v = absurd (miss (1 ∷ 2 ∷ 3 ∷ 4 ∷ 5 ∷ 6 ∷ 7 ∷ 8 ∷ 9 ∷ 10 ∷ 11 ∷ 12 ∷ 13 ∷ 14 ∷ []) 0 tt v)
+not-done BadLength v = λ z. omega arith
+not-done BadControl v = λ z. omega arith
+not-done BadDraft v = λ z. omega arith
+not-done NoSuchMfn v = λ z. omega arith
+not-done Full v = λ z. omega arith
+not-done BadEntry v = λ z. omega arith
+not-done PhysicallyDeleted v = λ z. omega arith
+not-done BadRecord v = λ z. omega arith
+not-done Deleted v = λ z. omega arith
+not-done NotPending v = λ z. omega arith
+not-done NeverSettled v = λ z. omega arith
+not-done NoField v = λ z. omega arith
+not-done NoRoom v = λ z. omega arith
+not-done Unsound v = λ z. omega arith
+
+pub not-settled : (k : Mark) → OneOf (1 ∷ 2 ∷ []) (tagOf mark.the-type k) → isSettled k ≡ false
+not-settled Settled v = absurd (miss (1 ∷ 2 ∷ []) 0 tt v)
+not-settled Changed v = refl
+not-settled New v = refl
+
+-- ---- plans by their answers
+
+module _ {A : Type 0} (answer : Answer) (new : A) (wrap : Answer → A) where
+  refused-is : (a : Answer) → answer ≡ a → Refusing a → wrap a ≡ after answer new (wrap answer)
+  refused-is a e h = rw e (sym (after-refused a new (wrap a) h))
+
+  done-is : (r : A) → answer ≡ Done → r ≡ new → r ≡ after answer new (wrap answer)
+  done-is r e q = q ∙ sym (after-done answer new (wrap answer) e)
+
+-- what is asked behind an open gate
+module _ (mst xrf : List ℕ) (g : Gate) (p : g ≡ gateOf mst xrf) (next : Mfn) (end : ℕ) (q : g ≡ Open next end) where
+  pub gate-asked : gateOf mst xrf ≡ Open next end
+  gate-asked = sym p ∙ q
+
+  pub room-asked : (need : ℕ) → need ≤ 32766 → (end ≤ 536870400) × (need ≤ 65536)
+  room-asked need h = let o = gate-open mst xrf next end gate-asked in (omega arith, omega arith)
+
+  pub draft-room-asked : (tags lens bytes : List ℕ) (d : Bool) (need : ℕ) → d ≡ draftRight tags lens bytes → not d ≡ false
+      → need ≡ needOf (length tags) (length bytes) → (end ≤ 536870400) × (need ≤ 65536)
+  draft-room-asked tags lens bytes d need e h n =
+      let f = draft-fits tags lens bytes (sym e ∙ not-false d h) in
+      room-asked need (omega arith)
+
+-- the gate's refusal is the answer of a call, whatever follows
+shut-answer : (mst xrf : List ℕ) (a rest : Answer) → gateOf mst xrf ≡ Shut a
+    → cond (not (lengthsPermitted mst xrf)) BadLength (cond (not (controlFine mst xrf)) BadControl rest) ≡ a
+shut-answer mst xrf a rest e = gate-shut mst xrf a e .answers (refuse rest true ∷ [])
+
+-- and so is that of a record that was not found
+abbrev namedAnswer : List ℕ → List ℕ → ℕ → Bool → Answer → Answer
+namedAnswer mst xrf m ok rest =
+    cond (not (mfnKnown mst m)) NoSuchMfn
+    (cond (isMalformed (entryFor mst xrf m)) BadEntry
+    (cond (isGone (entryFor mst xrf m)) PhysicallyDeleted
+    (cond (not ok) BadRecord rest)))
+
+-- ---- create
+
+module _ (mst xrf : List ℕ) (next end need : ℕ) (s : SlotAsked mst xrf next end need) (cap : ℕ) (c : cap ≡ capacityOf (length xrf)) where
+  pub slot-full : next ≡ cap + 1 → Full ≡ slotAnswer mst xrf need
+  unfolding slotAnswer
+  slot-full h = rw (← s .next-is, ← c, eq-eqb _ _ h)
+
+  module _ (h : next ≡ cap + 1 → ⊥) (b : Bool) (e : b ≡ headRight xrf ((next - 1) / 127 + 1)) where
+    pub slot-head : not b ≡ true → BadEntry ≡ slotAnswer mst xrf need
+    unfolding slotAnswer
+    slot-head i = rw (← s .next-is, ← c, ne-eqb _ _ h, ← e, not-true b i)
+
+    module _ (i : not b ≡ false) (f : Bool) (g : f ≡ slotFree xrf next) where
+      pub slot-taken : not f ≡ true → BadEntry ≡ slotAnswer mst xrf need
+      unfolding slotAnswer
+      slot-taken j = rw (← s .next-is, ← c, ne-eqb _ _ h, ← e, not-false b i, ← g, not-true f j)
+
+      module _ (j : not f ≡ false) where
+        pub slot-no-room : length mst < end + need → NoRoom ≡ slotAnswer mst xrf need
+        unfolding slotAnswer exceeds
+        slot-no-room k = rw (← s .next-is, ← c, ne-eqb _ _ h, ← e, not-false b i, ← g, not-false f j, ← s .end-is, lt-ltb _ _ k)
+
+        pub slot-done : end + need ≤ length mst → Done ≡ slotAnswer mst xrf need
+        unfolding slotAnswer exceeds
+        slot-done k = rw (← s .next-is, ← c, ne-eqb _ _ h, ← e, not-false b i, ← g, not-false f j, ← s .end-is, le-ltb _ _ k)
+
+pub ruleset slot-answers = (slot-full, slot-head, slot-taken, slot-no-room, slot-done)
+
+module _ (mst xrf tags lens bytes : List ℕ) (g : Gate) (p : g ≡ gateOf mst xrf) where
+  pub create-shut : (a r : Answer) → g ≡ Shut a → r ≡ gateAnswer g → Unwritten r ≡ createPlan mst xrf tags lens bytes
+  unfolding createPlan createAnswer
+  create-shut a r q s =
+      let e = sym p ∙ q in
+      let t : r ≡ a = rw q at s in
+      rw t (refused-is (createAnswer mst xrf tags lens bytes) _ Unwritten a (shut-answer mst xrf a _ e) (gate-shut mst xrf a e .refusing))
+
+  module _ (next : Mfn) (end : ℕ) (q : g ≡ Open next end) (d : Bool) (e : d ≡ draftRight tags lens bytes) where
+    opened : OpenFacts mst xrf next end
+    opened = gate-open mst xrf next end (sym p ∙ q)
+
+    pub create-no-draft : not d ≡ true → Unwritten BadDraft ≡ createPlan mst xrf tags lens bytes
+    unfolding createPlan createAnswer numberOf
+    create-no-draft h =
+        refused-is (createAnswer mst xrf tags lens bytes) _ Unwritten BadDraft
+        (rw (opened .lengths, opened .control, ← e, h))
+        (λ z. omega arith)
+
+    module _ (h : not d ≡ false) (need : ℕ) (n : need ≡ needOf (length tags) (length bytes)) where
+      own : needFor (draftFields tags lens bytes) ≡ need
+      own = draft-need tags lens bytes (sym e ∙ not-false d h) ∙ sym n
+
+      pub slot-asked : SlotAsked mst xrf (next .0) end need
+      slot-asked =
+          let o = opened in
+          let f = draft-fits tags lens bytes (sym e ∙ not-false d h) in
+          record {
+            next-is = o .next-is;
+            low = omega arith;
+            high = omega arith;
+            blocks = o .sizes .xrf-high;
+            end-is = o .end-is;
+            end-in = omega arith;
+            small = omega arith;
+          }
+
+      module _ (a : Answer) (s : a ≡ slotAnswer mst xrf need) where
+        through : createAnswer mst xrf tags lens bytes ≡ a
+        unfolding createAnswer slotAnswer
+        through = rw (opened .lengths, opened .control, ← e, h, own) (sym s)
+
+        pub create-no-slot : OneOf (1 ∷ 2 ∷ 3 ∷ 4 ∷ 5 ∷ 6 ∷ 7 ∷ 8 ∷ 9 ∷ 10 ∷ 11 ∷ 12 ∷ 13 ∷ 14 ∷ []) (tagOf answer.the-type a)
+            → Unwritten a ≡ createPlan mst xrf tags lens bytes
+        unfolding createPlan
+        create-no-slot v = refused-is (createAnswer mst xrf tags lens bytes) _ Unwritten a through (not-done a v)
+
+        pub create-written : a ≡ Done → Write next end need ≡ createPlan mst xrf tags lens bytes
+        unfolding createPlan
+        create-written v =
+            done-is (createAnswer mst xrf tags lens bytes) _ Unwritten (Write next end need) (through ∙ v)
+            (ap (λ (k : ℕ). Write (record { 0 = k }) end need) (opened .next-is)
+            ∙ ap (λ (k : ℕ). Write (record { 0 = nextOf mst }) k need) (opened .end-is)
+            ∙ ap (Write (record { 0 = nextOf mst }) (endOf mst)) (sym own))
+
+pub ruleset create-plans = (create-shut, create-no-draft, slot-asked, create-no-slot, create-written)
+
+-- ---- where a new version goes
+
+module _ (room end need : ℕ) (appends : Bool) (p : Place) (l : Leader) where
+  pub room-in-place : not appends ≡ true → InPlace p l ≡ roomPlan room end need appends p l
+  unfolding roomPlan
+  room-in-place h = rw (not-true appends h)
+
+  pub room-none : not appends ≡ false → room < end + need → Refuse NoRoom ≡ roomPlan room end need appends p l
+  unfolding roomPlan
+  room-none h k = rw (not-false appends h, lt-ltb _ _ k)
+
+  pub room-append : not appends ≡ false → end + need ≤ room → Append end p l ≡ roomPlan room end need appends p l
+  unfolding roomPlan
+  room-append h k = rw (not-false appends h, le-ltb _ _ k)
+
+pub ruleset room-plans = (room-in-place, room-none, room-append)
+
+module _ (p : Place) (l : Leader) (need : ℕ) where
+  pub appends-settled : p .mark ≡ Settled → true ≡ updateAppends p l need
+  unfolding updateAppends
+  appends-settled e = rw e
+
+  pub appends-pending : OneOf (1 ∷ 2 ∷ []) (tagOf mark.the-type (p .mark)) → ltb (l .mfrl) need ≡ updateAppends p l need
+  unfolding updateAppends
+  appends-pending v = rw (not-settled (p .mark) v)
+
+pub ruleset append-tests = (appends-settled, appends-pending)
+
+-- the plan of a call that is refused for want of room alone
+module _ (mst xrf : List ℕ) (m end need : ℕ) (p : Place) (l : Leader) (at : placeFor mst xrf m ≡ p) (is : l ≡ leaderAt mst p) (e : end ≡ endOf mst) where
+  room-planned : (a : Answer) (appends full : Bool) → exceeds mst need ≡ full → a ≡ cond (appends && full) NoRoom Done
+      → roomPlan (length mst) end need appends p l ≡ planIf a appends mst xrf m
+  unfolding roomPlan planIf exceeds after numberOf
+  room-planned a true true x h = rw (h, e, x)
+  room-planned a true false x h = rw (h, e, x, at, is)
+  room-planned a false full x h = rw (h, at, is)
+
+-- ---- update
+
+module _ (mst xrf : List ℕ) (m : ℕ) (tags lens bytes : List ℕ) (g : Gate) (p : g ≡ gateOf mst xrf) where
+  update-refused : (a : Answer) → updateAnswer mst xrf m tags lens bytes ≡ a → Refusing a → Refuse a ≡ updatePlan mst xrf m tags lens bytes
+  unfolding updatePlan planIf
+  update-refused a e h = refused-is (updateAnswer mst xrf m tags lens bytes) _ Refuse a e h
+
+  pub update-shut : (a r : Answer) → g ≡ Shut a → r ≡ gateAnswer g → Refuse r ≡ updatePlan mst xrf m tags lens bytes
+  unfolding updateAnswer
+  update-shut a r q s =
+      let e = sym p ∙ q in
+      let t : r ≡ a = rw q at s in
+      rw t (update-refused a (shut-answer mst xrf a _ e) (gate-shut mst xrf a e .refusing))
+
+  module _ (next : Mfn) (end : ℕ) (q : g ≡ Open next end) (d : Bool) (e : d ≡ draftRight tags lens bytes) where
+    update-opened : OpenFacts mst xrf next end
+    update-opened = gate-open mst xrf next end (sym p ∙ q)
+
+    pub update-no-draft : not d ≡ true → Refuse BadDraft ≡ updatePlan mst xrf m tags lens bytes
+    unfolding updateAnswer numberOf
+    update-no-draft h = update-refused BadDraft (rw (update-opened .lengths, update-opened .control, ← e, h)) (λ z. omega arith)
+
+    module _ (h : not d ≡ false) (k : Known) (u : k ≡ knownOf mst xrf m) where
+      pub update-unknown : (a r : Answer) → k ≡ Refused a → r ≡ knownAnswer k → Refuse r ≡ updatePlan mst xrf m tags lens bytes
+      unfolding updateAnswer
+      update-unknown a r v s =
+          let f = known-refused mst xrf m a (sym u ∙ v) in
+          let t : r ≡ a = rw v at s in
+          let rest : (x : Answer) → namedAnswer mst xrf m (fine mst xrf m) x ≡ a = λ x. f .answers (refuse x true ∷ []) in
+          rw t (update-refused a (rw (update-opened .lengths, update-opened .control, ← e, h) (rest _)) (f .refusing))
+
+      module _ (pl : Place) (l : Leader) (v : k ≡ Record pl l) where
+        update-known : KnownFacts mst xrf m pl l
+        update-known = known-facts mst xrf m pl l (sym u ∙ v)
+
+        pub update-deleted : pl .deleted ≡ true → Refuse Deleted ≡ updatePlan mst xrf m tags lens bytes
+        unfolding updateAnswer numberOf
+        update-deleted w =
+            let f = update-known in
+            update-refused Deleted
+            (rw (update-opened .lengths, update-opened .control, ← e, h, f .known, f .entry, f .record-fine, w))
+            (λ z. omega arith)
+
+        pub update-planned : (need : ℕ) (appends : Bool) (r : Plan) → pl .deleted ≡ false → need ≡ needOf (length tags) (length bytes)
+            → appends ≡ updateAppends pl l need → r ≡ roomPlan (length mst) end need appends pl l → r ≡ updatePlan mst xrf m tags lens bytes
+        unfolding updatePlan updateAnswer
+        update-planned need appends r w n x s =
+            let f = update-known in
+            let own : needFor (draftFields tags lens bytes) ≡ need = draft-need tags lens bytes (sym e ∙ not-false d h) ∙ sym n in
+            let y : updateAppends (placeFor mst xrf m) (leaderAt mst (placeFor mst xrf m)) (needFor (draftFields tags lens bytes)) ≡ appends =
+            rw (own, f .place-is, ← f .leader-is) (sym x) in
+            let a : updateAnswer mst xrf m tags lens bytes ≡ cond (appends && exceeds mst need) NoRoom Done =
+            rw (update-opened .lengths, update-opened .control, ← e, h, f .known, y, own, f .entry, f .record-fine, w) in
+            s ∙ room-planned mst xrf m end need pl l (f .place-is) (f .leader-is) (update-opened .end-is) (updateAnswer mst xrf m tags lens bytes) appends (exceeds mst need) refl a
+            ∙ ap (λ (b : Bool). planIf (updateAnswer mst xrf m tags lens bytes) b mst xrf m) (sym y)
+
+pub ruleset update-plans = (gate-asked, update-shut, update-no-draft, update-unknown, update-deleted, update-planned)
+
+-- ---- delete
+
+module _ (mst xrf : List ℕ) (m : ℕ) (g : Gate) (p : g ≡ gateOf mst xrf) where
+  delete-refused : (a : Answer) → deleteAnswer mst xrf m ≡ a → Refusing a → Refuse a ≡ deletePlan mst xrf m
+  unfolding deletePlan planIf
+  delete-refused a e h = refused-is (deleteAnswer mst xrf m) _ Refuse a e h
+
+  pub delete-shut : (a r : Answer) → g ≡ Shut a → r ≡ gateAnswer g → Refuse r ≡ deletePlan mst xrf m
+  unfolding deleteAnswer
+  delete-shut a r q s =
+      let e = sym p ∙ q in
+      let t : r ≡ a = rw q at s in
+      rw t (delete-refused a (shut-answer mst xrf a _ e) (gate-shut mst xrf a e .refusing))
+
+  module _ (next : Mfn) (end : ℕ) (q : g ≡ Open next end) (k : Known) (u : k ≡ knownOf mst xrf m) where
+    delete-opened : OpenFacts mst xrf next end
+    delete-opened = gate-open mst xrf next end (sym p ∙ q)
+
+    pub delete-unknown : (a r : Answer) → k ≡ Refused a → r ≡ knownAnswer k → Refuse r ≡ deletePlan mst xrf m
+    unfolding deleteAnswer
+    delete-unknown a r v s =
+        let f = known-refused mst xrf m a (sym u ∙ v) in
+        let t : r ≡ a = rw v at s in
+        let rest : (x : Answer) → namedAnswer mst xrf m (fine mst xrf m) x ≡ a = λ x. f .answers (refuse x true ∷ []) in
+        rw t (delete-refused a (rw (delete-opened .lengths, delete-opened .control) (rest _)) (f .refusing))
+
+    module _ (pl : Place) (l : Leader) (v : k ≡ Record pl l) where
+      delete-known : KnownFacts mst xrf m pl l
+      delete-known = known-facts mst xrf m pl l (sym u ∙ v)
+
+      pub delete-deleted : pl .deleted ≡ true → Refuse Deleted ≡ deletePlan mst xrf m
+      unfolding deleteAnswer numberOf
+      delete-deleted w =
+          let f = delete-known in
+          delete-refused Deleted (rw (delete-opened .lengths, delete-opened .control, f .known, f .entry, f .record-fine, w)) (λ z. omega arith)
+
+      module _ (w : pl .deleted ≡ false) where
+        pub own-need-asked : RecordRead mst end pl l
+        own-need-asked = read-known mst xrf m next end delete-opened pl l delete-known
+
+        pub delete-in-place : OneOf (1 ∷ 2 ∷ []) (tagOf mark.the-type (pl .mark)) → InPlace pl l ≡ deletePlan mst xrf m
+        unfolding deletePlan deleteAnswer planIf
+        delete-in-place x =
+            let f = delete-known in
+            let y : isSettled (pl .mark) ≡ false = not-settled (pl .mark) x in
+            let a : deleteAnswer mst xrf m ≡ Done =
+            rw (delete-opened .lengths, delete-opened .control, f .known, f .entry, f .record-fine, w, y) in
+            done-is (deleteAnswer mst xrf m) _ Refuse (InPlace pl l) a (rw (f .place-is, y, ← f .leader-is))
+
+        pub delete-planned : (need : ℕ) (r : Plan) → pl .mark ≡ Settled → need ≡ needFor (currentFields mst pl) → r ≡ roomPlan (length mst) end need true pl l
+            → r ≡ deletePlan mst xrf m
+        unfolding deletePlan deleteAnswer
+        delete-planned need r x n s =
+            let f = delete-known in
+            let y : isSettled (placeFor mst xrf m .mark) ≡ true = rw (f .place-is, x) in
+            let a : deleteAnswer mst xrf m ≡ cond (true && exceeds mst need) NoRoom Done =
+            rw (delete-opened .lengths, delete-opened .control, f .known, y, n, f .place-is, f .entry, f .record-fine, w) in
+            s ∙ room-planned mst xrf m end need pl l (f .place-is) (f .leader-is) (delete-opened .end-is) (deleteAnswer mst xrf m) true (exceeds mst need) refl a
+            ∙ ap (λ (b : Bool). planIf (deleteAnswer mst xrf m) b mst xrf m) (sym y)
+
+pub ruleset delete-plans = (gate-asked, delete-shut, delete-unknown, delete-deleted, own-need-asked, delete-in-place, delete-planned)
+
+-- ---- settle and revert
+
+module _ (mst xrf : List ℕ) (m : ℕ) (g : Gate) (p : g ≡ gateOf mst xrf) where
+  pub settle-shut : (a r : Answer) → g ≡ Shut a → r ≡ gateAnswer g → Refused r ≡ settlePlan mst xrf m
+  unfolding settlePlan knownIf settleAnswer
+  settle-shut a r q s =
+      let e = sym p ∙ q in
+      let t : r ≡ a = rw q at s in
+      rw t (refused-is (settleAnswer mst xrf m) _ Refused a (shut-answer mst xrf a _ e) (gate-shut mst xrf a e .refusing))
+
+  pub revert-shut : (a r : Answer) → g ≡ Shut a → r ≡ gateAnswer g → Refused r ≡ revertPlan mst xrf m
+  unfolding revertPlan knownIf revertAnswer
+  revert-shut a r q s =
+      let e = sym p ∙ q in
+      let t : r ≡ a = rw q at s in
+      rw t (refused-is (revertAnswer mst xrf m) _ Refused a (shut-answer mst xrf a _ e) (gate-shut mst xrf a e .refusing))
+
+  module _ (next : Mfn) (end : ℕ) (q : g ≡ Open next end) (k : Known) where
+    settling-opened : OpenFacts mst xrf next end
+    settling-opened = gate-open mst xrf next end (sym p ∙ q)
+
+    module _ (u : k ≡ knownOf mst xrf m) where
+      pub settle-unknown : (a : Answer) → k ≡ Refused a → k ≡ settlePlan mst xrf m
+      unfolding settlePlan knownIf settleAnswer
+      settle-unknown a v =
+          let f = known-refused mst xrf m a (sym u ∙ v) in
+          let rest : (x : Answer) → namedAnswer mst xrf m (fine mst xrf m) x ≡ a = λ x. f .answers (refuse x true ∷ []) in
+          v ∙ refused-is (settleAnswer mst xrf m) _ Refused a (rw (settling-opened .lengths, settling-opened .control) (rest _)) (f .refusing)
+
+      module _ (pl : Place) (l : Leader) (v : k ≡ Record pl l) where
+        settle-answer : settleAnswer mst xrf m ≡ cond (isSettled (pl .mark)) NotPending Done
+        unfolding settleAnswer
+        settle-answer =
+            let f = known-facts mst xrf m pl l (sym u ∙ v) in
+            rw (settling-opened .lengths, settling-opened .control, f .known, f .entry, f .record-fine)
+
+        pub settle-settled : pl .mark ≡ Settled → Refused NotPending ≡ settlePlan mst xrf m
+        unfolding settlePlan knownIf numberOf
+        settle-settled x = refused-is (settleAnswer mst xrf m) _ Refused NotPending (settle-answer ∙ rw x) (λ z. omega arith)
+
+        pub settle-planned : OneOf (1 ∷ 2 ∷ []) (tagOf mark.the-type (pl .mark)) → Record pl l ≡ settlePlan mst xrf m
+        unfolding settlePlan knownIf
+        settle-planned x =
+            let f = known-facts mst xrf m pl l (sym u ∙ v) in
+            done-is (settleAnswer mst xrf m) _ Refused (Record pl l) (settle-answer ∙ rw (not-settled (pl .mark) x)) (rw (f .place-is, ← f .leader-is))
+
+    module _ (u : k ≡ knownBoth mst xrf m) where
+      pub revert-unknown : (a : Answer) → k ≡ Refused a → k ≡ revertPlan mst xrf m
+      unfolding revertPlan knownIf revertAnswer
+      revert-unknown a v =
+          let f = both-refused mst xrf m a (sym u ∙ v) in
+          let rest : (x : Answer) → namedAnswer mst xrf m (bothFine mst xrf m) x ≡ a = λ x. f .answers (refuse x true ∷ []) in
+          v ∙ refused-is (revertAnswer mst xrf m) _ Refused a (rw (settling-opened .lengths, settling-opened .control) (rest _)) (f .refusing)
+
+      module _ (pl : Place) (l : Leader) (v : k ≡ Record pl l) where
+        revert-answer : revertAnswer mst xrf m ≡ cond (isSettled (pl .mark)) NotPending (cond (isNew (pl .mark)) NeverSettled Done)
+        unfolding revertAnswer
+        revert-answer =
+            let f = both-facts mst xrf m pl l (sym u ∙ v) in
+            rw (settling-opened .lengths, settling-opened .control, f .current .known, f .current .entry, f .current .record-fine, f .version-fine)
+
+        pub revert-settled : pl .mark ≡ Settled → Refused NotPending ≡ revertPlan mst xrf m
+        unfolding revertPlan knownIf numberOf
+        revert-settled x = refused-is (revertAnswer mst xrf m) _ Refused NotPending (revert-answer ∙ rw x) (λ z. omega arith)
+
+        pub revert-new : pl .mark ≡ New → Refused NeverSettled ≡ revertPlan mst xrf m
+        unfolding revertPlan knownIf numberOf
+        revert-new x = refused-is (revertAnswer mst xrf m) _ Refused NeverSettled (revert-answer ∙ rw x) (λ z. omega arith)
+
+        pub revert-planned : pl .mark ≡ Changed → Record pl l ≡ revertPlan mst xrf m
+        unfolding revertPlan knownIf
+        revert-planned x =
+            let f = both-facts mst xrf m pl l (sym u ∙ v) .current in
+            done-is (revertAnswer mst xrf m) _ Refused (Record pl l) (revert-answer ∙ rw x) (rw (f .place-is, ← f .leader-is))
+
+pub ruleset settle-plans = (gate-asked, settle-shut, settle-unknown, settle-settled, settle-planned)
+
+pub ruleset revert-plans = (gate-asked, revert-shut, revert-unknown, revert-settled, revert-planned, revert-new)

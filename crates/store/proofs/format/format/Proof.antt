@@ -1,0 +1,50 @@
+use Rattle.store.proofs.Results.{format-refused, format-asks-mst, format-asks-xrf, format-done}
+use borrow.Author.Needs.{needs}
+use Rattle.store.proofs.format.format.Statement.{statement}
+use Rattle.store.proofs.format.format.Tie as tie
+use Rattle.store.proofs.format.format.Reads as reads
+use Rattle.store.proofs.format.format.Lts as lts
+use Rattle.layout.proofs.control.format_mst.Reads as format-mst-reads
+use Rattle.layout.proofs.cross_reference.format_xrf.Reads as format-xrf-reads
+use Rattle.store.proofs.gate.lengths_permitted.Reads as lengths-permitted-reads
+
+lengths-permitted-requires : tie.Need-lengths-permitted-requires
+lengths-permitted-requires c κs = search needs
+
+same-length : tie.Need-same-length
+same-length c = search needs
+
+same-length-2 : tie.Need-same-length-2
+same-length-2 c = search needs
+
+returns : tie.Need-returns
+returns c = format-refused _ _ _ (c .before .lengths-permitted .ensures) (c .if1 .taken)
+
+format-mst-requires : tie.Need-format-mst-requires
+format-mst-requires c κs = search format-asks-mst
+
+format-xrf-requires : tie.Need-format-xrf-requires
+format-xrf-requires c κs = search format-asks-xrf
+
+same-length-3 : tie.Need-same-length-3
+same-length-3 c = search needs
+
+same-length-4 : tie.Need-same-length-4
+same-length-4 c = search needs
+
+returns-2 : tie.Need-returns-2
+returns-2 c = format-done _ _ _ (c .before .before .before .before .before .before .before .before .before .lengths-permitted .ensures) (c .before .before .before .before .before .before .before .before .if1 .left) _ _ (c .before .before .before .before .before .before .format-mst .ensures) (c .before .before .format-xrf .ensures)
+
+pub format-spec : {M : Type 1} → statement M
+format-spec =
+    tie.close
+    (tie.spec
+    lengths-permitted-requires
+    same-length
+    same-length-2
+    returns
+    format-mst-requires
+    format-xrf-requires
+    same-length-3
+    same-length-4
+    returns-2)

@@ -1,0 +1,50 @@
+use Rattle.store.proofs.Writes.{back-cleared, mark-removed}
+use borrow.Author.Needs.{needs}
+use Rattle.store.proofs.settling.settle_place.Statement.{statement}
+use Rattle.store.proofs.settling.settle_place.Tie as tie
+use Rattle.store.proofs.settling.settle_place.Reads as reads
+use Rattle.store.proofs.settling.settle_place.Lts as lts
+use Rattle.layout.proofs.cross_reference.put_entry.Reads as put-entry-reads
+use Rattle.layout.proofs.entry.place_address.Reads as place-address-reads
+use Rattle.record.proofs.writer.clear_back.Reads as clear-back-reads
+
+place-address-requires : tie.Need-place-address-requires
+place-address-requires c κs = search needs
+
+sub-clear-back : tie.Need-sub-clear-back
+sub-clear-back c = search needs
+
+part-clear-back-start : tie.Need-part-clear-back-start
+part-clear-back-start c = search needs
+
+part-clear-back-end : tie.Need-part-clear-back-end
+part-clear-back-end c = search needs
+
+clear-back-requires : tie.Need-clear-back-requires
+clear-back-requires c κs = search needs
+
+put-entry-requires : tie.Need-put-entry-requires
+put-entry-requires c κs = search needs
+
+same-length : tie.Need-same-length
+same-length c = search needs
+
+same-length-2 : tie.Need-same-length-2
+same-length-2 c = search needs
+
+returns : tie.Need-returns
+returns c = (back-cleared _ _ _ _ (c .before .before .before .before .before .before .before .before .before .before .before .before .pre .1) _ (c .before .before .before .before .before .before .before .before .before .place-address .ensures) _ (c .before .before .before .before .before .before .before .clear-back .ensures), mark-removed _ _ _ _ (c .before .before .put-entry .ensures))
+
+pub settle-place-spec : {M : Type 1} → statement M
+settle-place-spec =
+    tie.close
+    (tie.spec
+    place-address-requires
+    sub-clear-back
+    part-clear-back-start
+    part-clear-back-end
+    clear-back-requires
+    put-entry-requires
+    same-length
+    same-length-2
+    returns)

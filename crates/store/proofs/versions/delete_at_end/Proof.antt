@@ -1,0 +1,54 @@
+use mathlib.Core.Path.{refl}
+use Rattle.store.proofs.Told.{read-own}
+use Rattle.store.proofs.Writes.{at-end-version, size-version, copy-versioned, entry-asked, entered}
+use borrow.Author.Needs.{needs}
+use Rattle.store.proofs.versions.delete_at_end.Statement.{statement}
+use Rattle.store.proofs.versions.delete_at_end.Tie as tie
+use Rattle.store.proofs.versions.delete_at_end.Reads as reads
+use Rattle.store.proofs.versions.delete_at_end.Lts as lts
+use Rattle.layout.proofs.cross_reference.put_entry.Reads as put-entry-reads
+use Rattle.store.proofs.create.end_place.Reads as end-place-reads
+use Rattle.store.proofs.versions.append_copy.Reads as append-copy-reads
+use Rattle.store.proofs.versions.own_need.Reads as own-need-reads
+use Rattle.store.proofs.versions.version_leader.Reads as version-leader-reads
+
+own-need-requires : tie.Need-own-need-requires
+own-need-requires c κs = search needs
+
+cast-version-leader : tie.Need-cast-version-leader
+cast-version-leader c = search needs
+
+version-leader-requires : tie.Need-version-leader-requires
+version-leader-requires c κs = search needs
+
+append-copy-requires : tie.Need-append-copy-requires
+append-copy-requires c κs = search (read-own, at-end-version, size-version)
+
+end-place-requires : tie.Need-end-place-requires
+end-place-requires c κs = search needs
+
+put-entry-requires : tie.Need-put-entry-requires
+put-entry-requires c κs = entry-asked _ _ _ _ (c .before .end-place .result) _ (c .before .before .before .before .before .before .before .before .before .before .before .pre .0) (c .before .before .before .before .before .before .before .before .before .before .before .pre .1 .1) (c .before .end-place .ensures .1 .0) (c .before .end-place .ensures .1 .1)
+
+same-length : tie.Need-same-length
+same-length c = search needs
+
+same-length-2 : tie.Need-same-length-2
+same-length-2 c = search needs
+
+returns : tie.Need-returns
+returns c = (copy-versioned _ _ _ _ _ _ _ _ _ (c .before .before .before .before .before .before .before .before .before .before .before .before .before .before .pre .1 .0) (c .before .before .before .before .before .before .before .before .before .before .own-need .ensures .0) (c .before .before .before .before .before .before .before .before .before .version-leader .ensures .0) (c .before .before .before .before .before .before .before .append-copy .ensures), entered _ _ _ _ _ _ _ _ _ _ (c .before .before .before .before .before .before .before .before .before .before .before .before .before .before .pre .1 .1) refl (c .before .before .before .before .end-place .ensures .0) (c .before .before .put-entry .ensures))
+
+pub delete-at-end-spec : {M : Type 1} → statement M
+delete-at-end-spec =
+    tie.close
+    (tie.spec
+    own-need-requires
+    cast-version-leader
+    version-leader-requires
+    append-copy-requires
+    end-place-requires
+    put-entry-requires
+    same-length
+    same-length-2
+    returns)

@@ -1,0 +1,46 @@
+use Rattle.store.proofs.Writes.{own-lent-readable, own-counted, own-need}
+use borrow.Author.Needs.{needs}
+use Rattle.store.proofs.versions.own_need.Statement.{statement}
+use Rattle.store.proofs.versions.own_need.Tie as tie
+use Rattle.store.proofs.versions.own_need.Reads as reads
+use Rattle.store.proofs.versions.own_need.Lts as lts
+use Rattle.layout.proofs.entry.place_address.Reads as place-address-reads
+use Rattle.record.proofs.draft.need.Reads as need-reads
+use Rattle.record.proofs.fields.data_length.Reads as data-length-reads
+
+place-address-requires : tie.Need-place-address-requires
+place-address-requires c κs = search needs
+
+cast-need : tie.Need-cast-need
+cast-need c = search needs
+
+sub-data-length : tie.Need-sub-data-length
+sub-data-length c = search needs
+
+part-data-length-start : tie.Need-part-data-length-start
+part-data-length-start c = search needs
+
+part-data-length-end : tie.Need-part-data-length-end
+part-data-length-end c = search needs
+
+data-length-requires : tie.Need-data-length-requires
+data-length-requires c κs = search own-lent-readable
+
+need-requires : tie.Need-need-requires
+need-requires c κs = own-counted _ _ _ _ (c .before .before .before .before .before .pre) _ (c .before .before .before .place-address .ensures) _ (c .data-length .ensures)
+
+returns : tie.Need-returns
+returns c = own-need _ _ _ _ (c .before .before .before .before .before .before .pre) _ (c .before .before .before .before .place-address .ensures) _ (c .before .data-length .ensures) _ (c .need .ensures)
+
+pub own-need-spec : {M : Type 1} → statement M
+own-need-spec =
+    tie.close
+    (tie.spec
+    place-address-requires
+    cast-need
+    sub-data-length
+    part-data-length-start
+    part-data-length-end
+    data-length-requires
+    need-requires
+    returns)

@@ -1,0 +1,114 @@
+-- What is read of a store, in the order of the answer numbers: lengths, control record, MFN, entry, record, settled version.
+-- Document 01, "Cross-reference entries", "Records" and "Answer numbers".
+use Prim.Native.Nat.{ℕ, _-_}
+use mathlib.Core.Bool.{Bool, true, false, not, _&&_, cond}
+use mathlib.Core.List.{List}
+use lib.Dec.{eqb, leb, ltb}
+use lib.ListN.{length}
+use Rattle.word.specs.Place.{part}
+use Rattle.layout.specs.Sizes.{mstPermitted, xrfPermitted, capacityOf, addressOf}
+use Rattle.layout.specs.Entry.{placed, placeAddress}
+use Rattle.layout.specs.CrossReference.{entryAt}
+use Rattle.layout.specs.Control.{nextOf, endOf, controlRight}
+use Rattle.layout.specs.Leader.{leaderOf}
+use Rattle.layout.specs.declared.entry.Mark.{Mark}
+use Rattle.layout.specs.declared.entry.Mark.the-variants.{Settled, Changed, New}
+use Rattle.layout.specs.declared.entry.Place.{Place}
+use Rattle.layout.specs.declared.entry.Entry.{Entry}
+use Rattle.layout.specs.declared.entry.Entry.the-variants.{Gone, Malformed, At}
+use Rattle.layout.specs.declared.leader.Leader.{Leader}
+use Rattle.record.specs.Fields.{Field, fieldsOf}
+use Rattle.record.specs.Record.{recordRight, noBack, backRight}
+
+-- both buffer lengths are permitted
+unfoldable pub lengthsPermitted : List ℕ → List ℕ → Bool
+lengthsPermitted mst xrf = mstPermitted (length mst) && xrfPermitted (length xrf)
+
+-- the control record is right for the capacity of the XRF
+abbrev pub controlFine : List ℕ → List ℕ → Bool
+controlFine mst xrf = controlRight mst (capacityOf (length xrf))
+
+-- MFN m is at least 1 and below NXTMFN
+unfoldable pub mfnKnown : List ℕ → ℕ → Bool
+mfnKnown mst m = leb 1 m && ltb m (nextOf mst)
+
+-- the kind of entry that MFN m has
+abbrev pub entryFor : List ℕ → List ℕ → ℕ → Entry
+entryFor mst xrf m = entryAt xrf (endOf mst) m
+
+-- the place of an entry that has one
+abbrev pub placeIn : Entry → Place
+placeIn Gone = placed 0 0 false Settled
+placeIn Malformed = placed 0 0 false Settled
+placeIn (At p) = p
+
+abbrev pub placeFor : List ℕ → List ℕ → ℕ → Place
+placeFor mst xrf m = placeIn (entryFor mst xrf m)
+
+abbrev pub isMalformed : Entry → Bool
+isMalformed Gone = false
+isMalformed Malformed = true
+isMalformed (At p) = false
+
+abbrev pub isGone : Entry → Bool
+isGone Gone = true
+isGone Malformed = false
+isGone (At p) = false
+
+abbrev pub isSettled : Mark → Bool
+isSettled Settled = true
+isSettled Changed = false
+isSettled New = false
+
+abbrev pub isChanged : Mark → Bool
+isChanged Settled = false
+isChanged Changed = true
+isChanged New = false
+
+abbrev pub isNew : Mark → Bool
+isNew Settled = false
+isNew Changed = false
+isNew New = true
+
+-- a record is read as the part of the MST from its first byte, up to the end
+abbrev pub recordFrom : List ℕ → ℕ → List ℕ
+recordFrom mst at = part mst at (endOf mst - at)
+
+-- the record at a place, and its leader
+abbrev pub recordAt : List ℕ → Place → List ℕ
+recordAt mst p = recordFrom mst (placeAddress p)
+
+abbrev pub leaderAt : List ℕ → Place → Leader
+leaderAt mst p = leaderOf (recordAt mst p)
+
+-- the address of the back place
+abbrev pub backAddress : Leader → ℕ
+backAddress l = addressOf (l .mfbwb .0) (l .mfbwp)
+
+-- the back pointer is right under the mark, and under the changed mark not the record's own place
+unfoldable pub backFine : ℕ → Place → Leader → Bool
+backFine end p l = backRight end (p .mark) l && not (isChanged (p .mark) && eqb (backAddress l) (placeAddress p))
+
+-- the record at an entry's place is well formed for MFN m
+unfoldable pub recordFine : List ℕ → ℕ → Place → Bool
+recordFine mst m p = recordRight (recordAt mst p) m (p .deleted) && backFine (endOf mst) p (leaderAt mst p)
+
+-- the settled version of a changed record: the record at its back place
+abbrev pub settledRecord : List ℕ → Place → List ℕ
+settledRecord mst p = recordFrom mst (backAddress (leaderAt mst p))
+
+-- the settled version is well formed for m, STATUS 0, back pointer 0/0
+unfoldable pub settledFine : List ℕ → ℕ → Place → Bool
+settledFine mst m p = recordRight (settledRecord mst p) m false && noBack (leaderOf (settledRecord mst p))
+
+-- a changed record's settled version is; of the other marks nothing is asked
+unfoldable pub versionFine : List ℕ → ℕ → Place → Bool
+versionFine mst m p = cond (isChanged (p .mark)) (settledFine mst m p) true
+
+-- the record that the settled view reads: the settled version under changed, else the current one
+abbrev pub shownSettled : List ℕ → Place → List ℕ
+shownSettled mst p = cond (isChanged (p .mark)) (settledRecord mst p) (recordAt mst p)
+
+-- the fields of the current version
+abbrev pub currentFields : List ℕ → Place → List Field
+currentFields mst p = fieldsOf (recordAt mst p)
