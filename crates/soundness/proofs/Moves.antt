@@ -185,25 +185,25 @@ module _ {mst xrf mst′ : List ℕ} {m at n : ℕ} (s : Sound mst xrf) (w : Mst
     place-kept =
         record {
           stands =
-            record {
-              fine =
-                fine-from mst′ o p (kept-reads .right)
-                (rw (kept-reads .leader) (back-later (endOf mst) (endOf mst′) p (leaderAt mst p) (w .end-up) (fine-facts mst o p (f .fine) .back)));
-              step = w .steps-kept (placeAddress p) (f .step);
-              settled = λ c.
-                record {
-                  fine =
-                    settled-from mst′ o p (kept-settled c .right)
-                    (rw (kept-settled c .leader) (settled-facts mst o p (f .fine) c (f .settled c .fine) .no-back));
-                  step = rw (kept-reads .leader) (w .steps-kept (backAddress (leaderAt mst p)) (f .settled c .step));
-                };
-            };
+              record {
+                fine =
+                    fine-from mst′ o p (kept-reads .right)
+                    (rw (kept-reads .leader) (back-later (endOf mst) (endOf mst′) p (leaderAt mst p) (w .end-up) (fine-facts mst o p (f .fine) .back)));
+                step = w .steps-kept (placeAddress p) (f .step);
+                settled = λ c.
+                    record {
+                      fine =
+                          settled-from mst′ o p (kept-settled c .right)
+                          (rw (kept-settled c .leader) (settled-facts mst o p (f .fine) c (f .settled c .fine) .no-back));
+                      step = rw (kept-reads .leader) (w .steps-kept (backAddress (leaderAt mst p)) (f .settled c .step));
+                    };
+              };
           same =
-            record {
-              leader = kept-reads .leader;
-              fields = kept-reads .fields;
-              settled = λ c. record { leader = kept-settled c .leader; fields = kept-settled c .fields };
-            };
+              record {
+                leader = kept-reads .leader;
+                fields = kept-reads .fields;
+                settled = λ c. record { leader = kept-settled c .leader; fields = kept-settled c .fields };
+              };
         }
 
   -- the place of another MFN

@@ -380,7 +380,7 @@ module _ (mst xrf : List ℕ) (s m : ℕ) (e : m ≡ u32At mst s) where
               block = w .block;
               room = w .room;
               back-block =
-                λ c. back-changed (endOf mst) p (leaderAt mst p) (fine-facts mst m p (place-fine fine) .back) c .facts .block;
+                  λ c. back-changed (endOf mst) p (leaderAt mst p) (fine-facts mst m p (place-fine fine) .back) c .facts .block;
             }
 
 pub ruleset hit-answers =

@@ -110,10 +110,11 @@ module _ (mst : List ℕ) (m : ℕ) (p : Place) where
   place-sound : PlaceStands mst m p → placeSound mst (steps mst (endOf mst) 64) m p ≡ true
   unfolding placeSound
   place-sound s =
-      simp tests
-      ((s .fine, s .step),
-      implying (isChanged (p .mark)) (settledFine mst m p && elem (backAddress (leaderAt mst p)) (steps mst (endOf mst) 64))
-      (λ c. let r = s .settled (changed-is (p .mark) c) in simp tests (r .fine, r .step)))
+      simp tests (
+        (s .fine, s .step),
+        implying (isChanged (p .mark)) (settledFine mst m p && elem (backAddress (leaderAt mst p)) (steps mst (endOf mst) 64))
+            (λ c. let r = s .settled (changed-is (p .mark) c) in simp tests (r .fine, r .step)),
+      )
 
 module _ (mst xrf : List ℕ) (m : ℕ) where
   entry-stands : (e : Entry) → entryFor mst xrf m ≡ e → entrySound mst (steps mst (endOf mst) 64) m e ≡ true → EntryStands mst xrf m
@@ -157,13 +158,18 @@ module _ (mst xrf : List ℕ) where
   pub body-sound : Sound mst xrf → bodySound mst xrf ≡ true
   unfolding bodySound headsRight restFree entriesSound
   body-sound s =
-      simp tests
-      (((allTo-all (length xrf / 512) (headRight xrf) (s .heads),
-      allTo-all (capacityOf (length xrf)) (λ (m : ℕ). implies (leb (nextOf mst) m) (slotFree xrf m))
-      (λ m low high. implying (leb (nextOf mst) m) (slotFree xrf m) (λ t. s .free m (omega (arith, simp tests at t)) high))),
-      s .way),
-      allTo-all (nextOf mst - 1) (λ (m : ℕ). entrySound mst (steps mst (endOf mst) 64) m (entryFor mst xrf m))
-      (λ m low high. entry-sound mst xrf m (s .entries m low (omega arith))))
+      simp tests (
+        (
+          (
+            allTo-all (length xrf / 512) (headRight xrf) (s .heads),
+            allTo-all (capacityOf (length xrf)) (λ (m : ℕ). implies (leb (nextOf mst) m) (slotFree xrf m))
+                (λ m low high. implying (leb (nextOf mst) m) (slotFree xrf m) (λ t. s .free m (omega (arith, simp tests at t)) high)),
+          ),
+          s .way,
+        ),
+        allTo-all (nextOf mst - 1) (λ (m : ℕ). entrySound mst (steps mst (endOf mst) 64) m (entryFor mst xrf m))
+            (λ m low high. entry-sound mst xrf m (s .entries m low (omega arith))),
+      )
 
   pub sound : Sound mst xrf → soundOf mst xrf ≡ true
   unfolding soundOf
@@ -256,9 +262,10 @@ module _ {mst xrf : List ℕ} (s : Sound mst xrf) where
   pub create-row : nextOf mst ≤ capacityOf (length xrf) → headRight xrf (xrfBlock (nextOf mst)) && slotFree xrf (nextOf mst) ≡ true
   create-row h =
       let f = s .numbers in
-      simp tests
-      (s .heads (xrfBlock (nextOf mst)) (omega arith) (block-in (length xrf) (nextOf mst) (f .next-low) h),
-      s .free (nextOf mst) (omega arith) h)
+      simp tests (
+        s .heads (xrfBlock (nextOf mst)) (omega arith) (block-in (length xrf) (nextOf mst) (f .next-low) h),
+        s .free (nextOf mst) (omega arith) h,
+      )
 
   pub below-capacity : eqb (nextOf mst) (capacityOf (length xrf) + 1) ≡ false → nextOf mst ≤ capacityOf (length xrf)
   below-capacity e =

@@ -77,11 +77,11 @@ module _ {mst xrf mst′ xrf′ : List ℕ} {m at n : ℕ} (s : Sound mst xrf) (
         fine = fine-from mst′ m p (r .right) (rw (r .leader) back);
         step = step;
         settled = λ c.
-          let q = settled c in
-          record {
-            fine = settled-from mst′ m p (rw (r .leader) (q .right)) (rw (r .leader) (q .no-back));
-            step = rw (r .leader) (q .step);
-          };
+            let q = settled c in
+            record {
+              fine = settled-from mst′ m p (rw (r .leader) (q .right)) (rw (r .leader) (q .no-back));
+              step = rw (r .leader) (q .step);
+            };
       }
 
   pub leaves : (end next : ℕ) → endOf mst′ ≡ end → nextOf mst′ ≡ next → Leaves mst xrf mst′ xrf′ m end next p (l .mfrl) fs old
@@ -238,7 +238,7 @@ module _ {mst xrf : List ℕ} (s : Sound mst xrf) (m n b q : ℕ) (deleted : Boo
         end-is = appended-end;
         front = appended-front;
         kept = λ i h side.
-          appended-byte i h ∙ place-other mst (endOf mst) (recordBytes made fs) i (omega (arith, fits)) (rw whole side);
+            appended-byte i h ∙ place-other mst (endOf mst) (recordBytes made fs) i (omega (arith, fits)) (rw whole side);
       }
 
   pub appended-reads : ReadsAs (recordFrom out (endOf mst)) m deleted made fs

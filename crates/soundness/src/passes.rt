@@ -1,10 +1,13 @@
 // The passes of the whole-store check. Two over the XRF look at the first integers and at the free slots. Then the first over the MFNs tests
 // each entry but for the steps, and counts the steps that the entries name; the second walks the steps, and counts those that the entry of
 // the MFN written there names. Each entry names steps only exactly if the two counts agree.
-use layout::entry::{Entry, Mark, Place};
+use layout::entry::Entry;
+use layout::entry::Mark;
+use layout::entry::Place;
 use layout::sizes::Mfn;
 use store::answer::Answer;
-use store::gate::{Gate, Known};
+use store::gate::Gate;
+use store::gate::Known;
 ghost use mathlib.Core.Path.{_≡_};
 ghost use mathlib.Core.Bool.{true};
 ghost use Prim.Native.Nat.{_+_, _≤_, _<_};

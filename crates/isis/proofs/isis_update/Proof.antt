@@ -1,0 +1,29 @@
+use mathlib.Core.Path.{ap, _∙_}
+use Rattle.store.specs.Answer.{numberOf}
+use borrow.Author.Needs.{needs}
+use Rattle.isis.proofs.isis_update.Statement.{statement}
+use Rattle.isis.proofs.isis_update.Tie as tie
+use Rattle.isis.proofs.isis_update.Reads as reads
+use Rattle.isis.proofs.isis_update.Lts as lts
+use Rattle.store.proofs.answer.number.Reads as number-reads
+use Rattle.store.proofs.versions.update.Reads as update-reads
+
+update-requires : tie.Need-update-requires
+update-requires c κs = search needs
+
+number-requires : tie.Need-number-requires
+number-requires c κs = search needs
+
+same-length : tie.Need-same-length
+same-length c = search needs
+
+same-length-2 : tie.Need-same-length-2
+same-length-2 c = search needs
+
+returns : tie.Need-returns
+returns c =
+    (c .number .ensures ∙ ap numberOf (c .before .before .before .before .before .update .ensures .0), c .before .before .before .before .before .update .ensures .1)
+
+pub isis-update-spec : {M : Type 1} → statement M
+isis-update-spec =
+    tie.close (tie.spec update-requires number-requires same-length same-length-2 returns)

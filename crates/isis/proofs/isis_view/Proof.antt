@@ -1,0 +1,24 @@
+use mathlib.Core.Path.{ap, _∙_}
+use Rattle.store.specs.Answer.{numberOf}
+use Rattle.store.specs.declared.views.Shown.{Shown}
+use borrow.Author.Needs.{needs}
+use Rattle.isis.proofs.isis_view.Statement.{statement}
+use Rattle.isis.proofs.isis_view.Tie as tie
+use Rattle.isis.proofs.isis_view.Reads as reads
+use Rattle.isis.proofs.isis_view.Lts as lts
+use Rattle.store.proofs.answer.number.Reads as number-reads
+use Rattle.store.proofs.views.view.Reads as view-reads
+
+view-requires : tie.Need-view-requires
+view-requires c κs = search needs
+
+number-requires : tie.Need-number-requires
+number-requires c κs = search needs
+
+returns : tie.Need-returns
+returns c =
+    let e = c .before .view .ensures .0 in
+    (c .number .ensures ∙ ap (λ (r : Shown). numberOf (r .answer)) e, (ap (λ (r : Shown). r .start) e, ap (λ (r : Shown). r .len) e))
+
+pub isis-view-spec : {M : Type 1} → statement M
+isis-view-spec = tie.close (tie.spec view-requires number-requires returns)

@@ -1,0 +1,88 @@
+/*
+ * key.c: a catalogue key in two minutes.
+ *
+ * The key keeps a card in two static buffers. This program formats it, catalogues
+ * a book, changes the title by mistake while the index still describes the right
+ * one, takes the change back, and checks the card. On a key, each call that writes
+ * would follow one touch of the sensor.
+ *
+ *   cc -std=c11 -Wall -Wextra -Werror -Iinclude examples/key.c target/staticlib/libisis.a -o key
+ */
+#include "isis.h"
+
+#include <stdio.h>
+#include <string.h>
+
+enum { BLOCK = 512, TITLE = 24, AUTHOR = 70 };
+
+static uint8_t mst[16 * BLOCK]; /* the records */
+static uint8_t xrf[1 * BLOCK];  /* where each record stands: 127 MFNs a block */
+
+/* Prints what was done and how it was answered; only 0 is success. */
+static uint32_t report(const char *what, uint32_t answer)
+{
+    printf("%-34s answer %u\n", what, (unsigned)answer);
+    return answer;
+}
+
+/* Prints the title in the current and in the settled version of a record. */
+static void show_title(uint32_t mfn)
+{
+    size_t start, len;
+
+    if (isis_view(mst, sizeof mst, xrf, sizeof xrf, mfn, TITLE, 1, &start, &len) == ISIS_DONE)
+        printf("    title now:     %.*s\n", (int)len, (const char *)mst + start);
+    if (isis_view_settled(mst, sizeof mst, xrf, sizeof xrf, mfn, TITLE, 1, &start, &len) == ISIS_DONE)
+        printf("    title settled: %.*s\n", (int)len, (const char *)mst + start);
+    else
+        printf("    title settled: none yet\n");
+}
+
+/* A draft: the tags, the length of each field, and the bytes one after the other. */
+static const uint16_t tags[] = { TITLE, AUTHOR };
+
+static uint32_t draft_of(const char *title, const char *author, uint16_t lens[2], uint8_t data[128])
+{
+    lens[0] = (uint16_t)strlen(title);
+    lens[1] = (uint16_t)strlen(author);
+    memcpy(data, title, lens[0]);
+    memcpy(data + lens[0], author, lens[1]);
+    return (uint32_t)lens[0] + lens[1];
+}
+
+int main(void)
+{
+    uint16_t lens[2];
+    uint8_t data[128];
+    uint32_t mfn, size, failed = 0;
+
+    failed |= report("format the card", isis_format(mst, sizeof mst, xrf, sizeof xrf));
+
+    size = draft_of("The Kite Runner", "Hosseini, Khaled", lens, data);
+    failed |= report("create a record (touch 1)",
+                     isis_create(mst, sizeof mst, xrf, sizeof xrf, tags, 2, lens, 2, data, size, &mfn));
+    printf("    its MFN is %u\n", (unsigned)mfn);
+    show_title(mfn);
+
+    failed |= report("settle it, now indexed (touch 2)",
+                     isis_settle(mst, sizeof mst, xrf, sizeof xrf, mfn));
+
+    size = draft_of("The Kite", "Hosseini, Khaled", lens, data);
+    failed |= report("update it by mistake (touch 3)",
+                     isis_update(mst, sizeof mst, xrf, sizeof xrf, mfn, tags, 2, lens, 2, data, size));
+    show_title(mfn);
+
+    failed |= report("revert the update (touch 4)",
+                     isis_revert(mst, sizeof mst, xrf, sizeof xrf, mfn));
+    show_title(mfn);
+
+    /* A refusal changes nothing and names its reason. */
+    if (report("revert again: nothing is pending", isis_revert(mst, sizeof mst, xrf, sizeof xrf, mfn))
+        != ISIS_NOT_PENDING)
+        failed = 1;
+
+    failed |= report("check the whole card", isis_check(mst, sizeof mst, xrf, sizeof xrf));
+
+    puts(failed ? "something was refused" : "all done");
+    return failed ? 1 : 0;
+}

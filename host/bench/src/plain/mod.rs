@@ -1,0 +1,196 @@
+//! The same work in plain safe Rust, written to be fast and nothing else: no proof, no
+//! words for what is wrong, only the answer numbers. It is what the library is timed
+//! against; that it does the same is held by comparing all bytes after every row.
+
+mod check;
+mod record;
+mod store;
+mod write;
+
+pub use check::check;
+pub use store::{delete, revert, settle, view, view_settled};
+pub use write::{create, format, update};
+
+/// The 2-byte integer at `at`.
+fn u16_at(bytes: &[u8], at: usize) -> u16 {
+    u16::from_le_bytes([bytes[at], bytes[at + 1]])
+}
+
+/// The 4-byte integer at `at`.
+fn i32_at(bytes: &[u8], at: usize) -> i32 {
+    i32::from_le_bytes([bytes[at], bytes[at + 1], bytes[at + 2], bytes[at + 3]])
+}
+
+/// NXTMFN and the end.
+#[derive(Clone, Copy)]
+struct Control {
+    next: usize,
+    end: usize,
+}
+
+/// Whether both lengths are permitted.
+fn lengths_permitted(mst: &[u8], xrf: &[u8]) -> bool {
+    let blocks =
+        |len: usize, most: usize| len.is_multiple_of(512) && len >= 512 && len / 512 <= most;
+    blocks(mst.len(), 1_048_575) && blocks(xrf.len(), 4_096)
+}
+
+/// Answers 1 and 2.
+fn gate(mst: &[u8], xrf: &[u8]) -> Result<Control, u32> {
+    if !lengths_permitted(mst, xrf) {
+        return Err(1);
+    }
+    let head: &[u8; 16] = mst.first_chunk().ok_or(1u32)?;
+    let (next, block, offset) = (i32_at(head, 4), i32_at(head, 8), u16_at(head, 12));
+    let end = (i64::from(block) - 1) * 512 + i64::from(offset);
+    let right = i32_at(head, 0) == 0
+        && u16_at(head, 14) == 0
+        && next >= 1
+        && next as usize <= xrf.len() / 512 * 127 + 1
+        && offset.is_multiple_of(2)
+        && offset <= 498
+        && end >= 64
+        && end <= mst.len() as i64;
+    if !right {
+        return Err(2);
+    }
+    Ok(Control {
+        next: next as usize,
+        end: end as usize,
+    })
+}
+
+/// Where an MFN's entry stands.
+fn slot(mfn: usize) -> usize {
+    (mfn - 1) / 127 * 512 + 4 + (mfn - 1) % 127 * 4
+}
+
+/// Whether the XRF block of an MFN has its number.
+fn numbered(xrf: &[u8], mfn: usize) -> bool {
+    let block = (mfn - 1) / 127;
+    let number = block as i32 + 1;
+    let last = block + 1 == xrf.len() / 512;
+    i32_at(xrf, block * 512) == if last { -number } else { number }
+}
+
+/// The marks of an entry.
+const SETTLED: u8 = 0;
+const CHANGED: u8 = 1;
+
+/// An entry's place.
+#[derive(Clone, Copy)]
+struct Place {
+    at: usize,
+    mark: u8,
+    deleted: bool,
+}
+
+/// The address of a well-formed place.
+fn place_at(block: i32, offset: u16, end: usize) -> Option<usize> {
+    let at = (i64::from(block) - 1) * 512 + i64::from(offset);
+    let right = offset.is_multiple_of(2) && offset <= 498 && at >= 64 && at + 18 <= end as i64;
+    right.then_some(at as usize)
+}
+
+/// Takes an entry apart; the error is answer 6 or 7.
+fn entry(value: i32, end: usize) -> Result<Place, u32> {
+    if value == -2048 {
+        return Err(7);
+    }
+    let (block, low) = (value >> 11, value & 2047);
+    let mark = (low >> 9) as u8;
+    match place_at(block.abs(), (low & 511) as u16, end) {
+        Some(at) if mark < 3 => Ok(Place {
+            at,
+            mark,
+            deleted: block < 0,
+        }),
+        _ => Err(6),
+    }
+}
+
+/// The entry that names a place.
+fn entry_of(at: usize, mark: u8, deleted: bool) -> i32 {
+    let block = (at / 512 + 1) as i32;
+    let block = if deleted { -block } else { block };
+    block * 2048 + (at % 512) as i32 + i32::from(mark) * 512
+}
+
+/// The next step after bytes that stop at `at`.
+fn step_over(at: usize) -> usize {
+    if at % 512 > 498 { (at | 511) + 1 } else { at }
+}
+
+#[cfg(test)]
+mod tests {
+    use model::call::{Call, Outcome, on_bytes};
+    use model::lists::{self, Taste};
+    use model::random::Random;
+
+    /// The outcome of a call in plain safe Rust.
+    fn run(mst: &mut [u8], xrf: &mut [u8], call: &Call) -> Outcome {
+        let (mut mfn, mut field) = (0, (0, 0, 0));
+        let number = match call {
+            Call::Format => super::format(mst, xrf),
+            Call::Check => super::check(mst, xrf),
+            Call::Delete(mfn) => super::delete(mst, xrf, *mfn),
+            Call::Settle(mfn) => super::settle(mst, xrf, *mfn),
+            Call::Revert(mfn) => super::revert(mst, xrf, *mfn),
+            Call::Update(mfn, draft) => super::update(mst, xrf, *mfn, &draft.lent()),
+            Call::Create(draft) => {
+                let (number, created) = super::create(mst, xrf, &draft.lent());
+                mfn = created;
+                number
+            }
+            Call::View {
+                mfn,
+                tag,
+                occurrence,
+            } => {
+                field = super::view(mst, xrf, *mfn, *tag, *occurrence);
+                field.0
+            }
+            Call::ViewSettled {
+                mfn,
+                tag,
+                occurrence,
+            } => {
+                field = super::view_settled(mst, xrf, *mfn, *tag, *occurrence);
+                field.0
+            }
+        };
+        let field = mst[field.1..field.1 + field.2].to_vec();
+        Outcome { number, mfn, field }
+    }
+
+    /// What is timed does the model's work: on lists from format, damaged now and then.
+    #[test]
+    fn the_plain_program_does_the_same_as_the_model() {
+        for seed in 0..400 {
+            let mut random = Random::new(seed);
+            let (mut mst, mut xrf) = (vec![0; 2048], vec![0; 512]);
+            let (mut model_mst, mut model_xrf) = (mst.clone(), xrf.clone());
+            let mut call = Call::Format;
+            for step in 0..150 {
+                let (wanted, _) = on_bytes(&mut model_mst, &mut model_xrf, &call);
+                assert_eq!(
+                    run(&mut mst, &mut xrf, &call),
+                    wanted,
+                    "{seed}, {step}: {call:?}"
+                );
+                assert!(
+                    mst == model_mst && xrf == model_xrf,
+                    "{seed}, {step}: {call:?}"
+                );
+                if seed % 2 == 1 && random.one_in(10) {
+                    let (at, bit) = (random.between(4, 400), 1 << random.below(8));
+                    mst[at] ^= bit;
+                    model_mst[at] ^= bit;
+                    xrf[at % 40] ^= bit;
+                    model_xrf[at % 40] ^= bit;
+                }
+                call = lists::call(&mut random, Taste::SHORT, 12);
+            }
+        }
+    }
+}

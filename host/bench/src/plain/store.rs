@@ -1,0 +1,146 @@
+//! The calls that name an MFN and take no draft.
+
+use super::record::{Tested, find, settled, test};
+use super::{CHANGED, Control, Place, SETTLED};
+use super::{entry, entry_of, gate, i32_at, numbered, slot, step_over};
+
+/// A record that answers 4 to 8 have let through.
+pub struct Found {
+    pub control: Control,
+    pub mfn: usize,
+    pub place: Place,
+    pub record: Tested,
+}
+
+/// Answers 4, 6, 7 and 8.
+pub fn found(mst: &[u8], xrf: &[u8], control: Control, mfn: u32) -> Result<Found, u32> {
+    let mfn = mfn as usize;
+    if mfn < 1 || mfn >= control.next {
+        return Err(4);
+    }
+    if !numbered(xrf, mfn) {
+        return Err(6);
+    }
+    let place = entry(i32_at(xrf, slot(mfn)), control.end)?;
+    let record = test(mst, control.end, mfn, place).ok_or(8u32)?;
+    Ok(Found {
+        control,
+        mfn,
+        place,
+        record,
+    })
+}
+
+/// A call's number.
+fn number(result: Result<(), u32>) -> u32 {
+    result.err().unwrap_or(0)
+}
+
+/// A field of the current version: the answer, its start and its length.
+pub fn view(mst: &[u8], xrf: &[u8], mfn: u32, tag: u16, occurrence: u32) -> (u32, usize, usize) {
+    let shown = || {
+        let found = found(mst, xrf, gate(mst, xrf)?, mfn)?;
+        if found.place.deleted {
+            return Err(9);
+        }
+        find(mst, &found.record, tag, occurrence).ok_or(12)
+    };
+    shown().map_or_else(|refusal| (refusal, 0, 0), |(start, len)| (0, start, len))
+}
+
+/// A field of the settled version.
+pub fn view_settled(
+    mst: &[u8],
+    xrf: &[u8],
+    mfn: u32,
+    tag: u16,
+    occurrence: u32,
+) -> (u32, usize, usize) {
+    let shown = || {
+        let found = found(mst, xrf, gate(mst, xrf)?, mfn)?;
+        let record = match found.place.mark {
+            CHANGED => settled(mst, found.control.end, found.mfn, &found.record).ok_or(8u32)?,
+            SETTLED if found.place.deleted => return Err(9),
+            SETTLED => found.record,
+            _ => return Err(11),
+        };
+        find(mst, &record, tag, occurrence).ok_or(12)
+    };
+    shown().map_or_else(|refusal| (refusal, 0, 0), |(start, len)| (0, start, len))
+}
+
+/// Deletes a record.
+pub fn delete(mst: &mut [u8], xrf: &mut [u8], mfn: u32) -> u32 {
+    number(try_delete(mst, xrf, mfn))
+}
+
+fn try_delete(mst: &mut [u8], xrf: &mut [u8], mfn: u32) -> Result<(), u32> {
+    let found = found(mst, xrf, gate(mst, xrf)?, mfn)?;
+    if found.place.deleted {
+        return Err(9);
+    }
+    let old = found.record;
+    let used = old.base + old.data;
+    let (at, mark) = if found.place.mark == SETTLED {
+        (copy_deleted(mst, &found)?, CHANGED)
+    } else {
+        mst[old.at + 16] = 1;
+        mst[old.at + used..old.at + old.length].fill(0);
+        (old.at, found.place.mark)
+    };
+    let slot = slot(found.mfn);
+    xrf[slot..slot + 4].copy_from_slice(&entry_of(at, mark, true).to_le_bytes());
+    Ok(())
+}
+
+/// The deleted copy of a settled record at the end.
+fn copy_deleted(mst: &mut [u8], found: &Found) -> Result<usize, u32> {
+    let (old, at) = (found.record, found.control.end);
+    let used = old.base + old.data;
+    let length = used + used % 2;
+    if at + length > mst.len() {
+        return Err(13);
+    }
+    mst.copy_within(old.at..old.at + used, at);
+    mst[at + used..at + length].fill(0);
+    let leader = &mut mst[at..at + 18];
+    leader[4..6].copy_from_slice(&(length as u16).to_le_bytes());
+    leader[6..10].copy_from_slice(&((old.at / 512 + 1) as i32).to_le_bytes());
+    leader[10..12].copy_from_slice(&((old.at % 512) as u16).to_le_bytes());
+    leader[16] = 1;
+    super::write::put_end(mst, step_over(at + length));
+    Ok(at)
+}
+
+/// Makes a pending change final.
+pub fn settle(mst: &mut [u8], xrf: &mut [u8], mfn: u32) -> u32 {
+    let mut act = || {
+        let found = found(mst, xrf, gate(mst, xrf)?, mfn)?;
+        if found.place.mark == SETTLED {
+            return Err(10);
+        }
+        let (at, deleted) = (found.record.at, found.place.deleted);
+        mst[at + 6..at + 12].fill(0);
+        let slot = slot(found.mfn);
+        xrf[slot..slot + 4].copy_from_slice(&entry_of(at, SETTLED, deleted).to_le_bytes());
+        Ok(())
+    };
+    number(act())
+}
+
+/// Makes the settled version current again.
+pub fn revert(mst: &[u8], xrf: &mut [u8], mfn: u32) -> u32 {
+    let mut act = || {
+        let found = found(mst, xrf, gate(mst, xrf)?, mfn)?;
+        match found.place.mark {
+            SETTLED => return Err(10),
+            CHANGED => {}
+            _ => return Err(11),
+        }
+        let back = settled(mst, found.control.end, found.mfn, &found.record).ok_or(8u32)?;
+        let slot = slot(found.mfn);
+        xrf[slot..slot + 4].copy_from_slice(&entry_of(back.at, SETTLED, false).to_le_bytes());
+        Ok(())
+    };
+    number(act())
+}

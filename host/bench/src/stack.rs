@@ -1,0 +1,159 @@
+//! The stack that each call uses, measured: the stack below is painted, the call is
+//! made, and the lowest byte that lost its paint is looked for.
+
+use isis::raw;
+use model::OwnedDraft;
+use std::hint::black_box;
+
+use crate::cards::{Kind, card, draft};
+
+/// So much of the stack is painted.
+const PAINTED: usize = 128 * 1024;
+const PAINT: u8 = 0xB7;
+
+/// Bytes of stack below this function's own frame that some work uses. It makes a call
+/// itself, so nothing of its own stands below the stack pointer.
+#[inline(never)]
+fn used(work: &mut dyn FnMut()) -> usize {
+    let top: usize;
+    // SAFETY: only reads the stack pointer.
+    unsafe { std::arch::asm!("mov {}, rsp", out(reg) top, options(nomem, nostack)) };
+    let mut at = top;
+    while at > top - PAINTED {
+        at -= 1;
+        // SAFETY: the thread's stack is far larger, and nothing lives down there now.
+        unsafe { (at as *mut u8).write_volatile(PAINT) };
+    }
+    work();
+    // SAFETY: as above.
+    while at < top && unsafe { (at as *const u8).read_volatile() } == PAINT {
+        at += 1;
+    }
+    top - at
+}
+
+/// The most stack that a call uses over some inputs, without what the measuring uses.
+fn report(name: &str, calls: &mut [&mut dyn FnMut()]) {
+    let empty = used(&mut || {
+        black_box(0);
+    });
+    let most = calls.iter_mut().map(|call| used(call)).max().unwrap_or(0);
+    println!("{name:<44} {:>9} bytes", most.saturating_sub(empty));
+}
+
+/// Measures in a thread with a stack of known size.
+pub fn run() {
+    if cfg!(debug_assertions) {
+        println!("stack: not measured in a build without optimisation");
+        return;
+    }
+    println!("{:<44} {:>15}", "a call", "stack");
+    std::thread::Builder::new()
+        .stack_size(4 << 20)
+        .spawn(|| {
+            reading();
+            drafts();
+            acts();
+        })
+        .expect("a thread")
+        .join()
+        .expect("the measuring went wrong");
+}
+
+/// An MST and an XRF as the C functions take them.
+type Arguments = (*mut u8, usize, *mut u8, usize);
+
+/// The first four arguments for a fresh card of forty fields, which stays allocated.
+fn arguments(kind: Kind) -> Arguments {
+    let card = Box::leak(Box::new(card(50, &draft(40, 10), kind)));
+    let (mst, xrf) = (&mut card.mst, &mut card.xrf);
+    (mst.as_mut_ptr(), mst.len(), xrf.as_mut_ptr(), xrf.len())
+}
+
+fn reading() {
+    let a = arguments(Kind::Changed);
+    let (mut start, mut len) = (0, 0);
+    // SAFETY: the card's buffers are leaked and used by no one else.
+    unsafe {
+        report(
+            "view",
+            &mut [&mut || {
+                black_box(raw::isis_view(
+                    a.0, a.1, a.2, a.3, 7, 40, 1, &mut start, &mut len,
+                ));
+            }],
+        );
+        report(
+            "view settled",
+            &mut [&mut || {
+                black_box(raw::isis_view_settled(
+                    a.0, a.1, a.2, a.3, 7, 40, 1, &mut start, &mut len,
+                ));
+            }],
+        );
+        report(
+            "check",
+            &mut [&mut || {
+                black_box(raw::isis_check(a.0, a.1, a.2, a.3));
+            }],
+        );
+    }
+}
+
+/// Calls that take a draft.
+fn drafts() {
+    let (new, settled) = (arguments(Kind::New), arguments(Kind::Settled));
+    let OwnedDraft { tags, lens, data } = draft(40, 10);
+    let (t, l, d) = (tags.as_ptr(), lens.as_ptr(), data.as_ptr());
+    let (tl, ll, dl) = (tags.len(), lens.len(), data.len());
+    let mut mfn = 0;
+    // SAFETY: as in `reading`; the draft's lists live to the end of this function.
+    let update = |a: Arguments| unsafe {
+        black_box(raw::isis_update(a.0, a.1, a.2, a.3, 1, t, tl, l, ll, d, dl));
+    };
+    // SAFETY: the same.
+    let mut create = |a: Arguments| unsafe {
+        black_box(raw::isis_create(
+            a.0, a.1, a.2, a.3, t, tl, l, ll, d, dl, &mut mfn,
+        ));
+    };
+    report("create", &mut [&mut || create(new)]);
+    report(
+        "update",
+        &mut [&mut || update(new), &mut || update(settled)],
+    );
+}
+
+/// A function that names an MFN and may write.
+type Act = unsafe extern "C" fn(*mut u8, usize, *mut u8, usize, u32) -> u32;
+
+/// Calls that name an MFN, and format.
+fn acts() {
+    let (new, settled, changed) = (
+        arguments(Kind::New),
+        arguments(Kind::Settled),
+        arguments(Kind::Changed),
+    );
+    // SAFETY: as in `reading`.
+    let call = |act: Act, a: Arguments, mfn| unsafe {
+        black_box(act(a.0, a.1, a.2, a.3, mfn));
+    };
+    report(
+        "delete",
+        &mut [&mut || call(raw::isis_delete, new, 2), &mut || {
+            call(raw::isis_delete, settled, 2)
+        }],
+    );
+    report(
+        "settle",
+        &mut [&mut || call(raw::isis_settle, new, 3), &mut || {
+            call(raw::isis_settle, changed, 3)
+        }],
+    );
+    report("revert", &mut [&mut || call(raw::isis_revert, changed, 4)]);
+    let mut format = || {
+        // SAFETY: as in `reading`.
+        black_box(unsafe { raw::isis_format(new.0, new.1, new.2, new.3) });
+    };
+    report("format", &mut [&mut format]);
+}

@@ -1,0 +1,253 @@
+//! `card draw`: a picture of a card's layout, made from the card itself. One row for
+//! each MST block, two units for each byte; every record with its leader, directory
+//! and data, in the colour of its state; arrows from changed records back to their
+//! settled versions; below, the entries of the XRF.
+
+use crate::arguments::Arguments;
+use crate::files::Files;
+use crate::show::gate;
+use crate::survey::{self, Part, Span};
+use crate::trouble::{Trouble, say};
+use model::bytes::i32_at;
+use model::layout::{BLOCK, Control, Entry, FIRST, LEADER, Mark, Place, slot_at};
+use model::record::Leader;
+
+/// At most so many blocks, and so many entries, are drawn.
+const MOST_BLOCKS: usize = 24;
+const MOST_ENTRIES: usize = 24;
+
+/// The drawing's measures.
+const LEFT: usize = 90;
+const TOP: usize = 84;
+const ROW: usize = 58;
+const BAR: usize = 34;
+const SCALE: usize = 2;
+const WIDTH: usize = LEFT + BLOCK * SCALE + 30;
+
+const STYLE: &str = "<style>
+text { font: 13px sans-serif; fill: #222 }
+.title { font-size: 18px; font-weight: bold }
+.small { font-size: 11px; fill: #555 }
+.in { font-size: 12px }
+rect { stroke: #444; stroke-width: 0.7 }
+.control { fill: #c9c3dd } .settled { fill: #a9cbe8 } .changed { fill: #f6c47f }
+.new { fill: #b5dda4 } .deleted { fill: #e9a3a0 } .kept { fill: #fbe6c4 }
+.lost { fill: #cfcfcf } .unreadable { fill: #777 } .free { fill: #fff; stroke-dasharray: 3 3 }
+.leader { fill: #000; fill-opacity: 0.22; stroke: none }
+.directory { fill: #000; fill-opacity: 0.1; stroke: none }
+.back { fill: none; stroke: #a35a00; stroke-width: 1.6; marker-end: url(#tip) }
+</style>
+<defs><marker id=\"tip\" markerWidth=\"8\" markerHeight=\"8\" refX=\"7\" refY=\"4\" orient=\"auto\">\
+<path d=\"M0,0 L8,4 L0,8 z\" fill=\"#a35a00\"/></marker></defs>\n";
+
+/// `card draw`.
+pub fn draw(mut arguments: Arguments) -> Result<(), Trouble> {
+    let paths = arguments.files()?;
+    let to = arguments.next();
+    arguments.none_left()?;
+    let mut files = Files::read(paths)?;
+    let control = gate(&mut files)?;
+    let svg = picture(&files, control);
+    match to {
+        Some(path) => files.write_other(path.as_ref(), svg.as_bytes()),
+        None => say(&svg),
+    }
+}
+
+/// The whole picture.
+fn picture(files: &Files, control: Control) -> String {
+    let blocks = files.mst.len() / BLOCK;
+    let shown = blocks.min(control.end.div_ceil(BLOCK)).min(MOST_BLOCKS);
+    let spans = survey::spans(&files.mst, &files.xrf, control);
+    let mut body = String::new();
+    for row in 0..shown {
+        let y = TOP + row * ROW;
+        text(&mut body, 10, y + 22, "", &format!("block {}", row + 1));
+    }
+    bytes(&mut body, shown, 0..FIRST, "control", "control record");
+    for span in &spans {
+        record(&mut body, shown, &files.mst, span);
+    }
+    bytes(&mut body, shown, control.end..shown * BLOCK, "free", "free");
+    for span in &spans {
+        arrow(&mut body, shown, &files.mst, span);
+    }
+    let y = TOP + shown * ROW + 8;
+    if shown < blocks {
+        let words = if control.end.div_ceil(BLOCK) > shown {
+            format!("blocks {} to {blocks} are not drawn", shown + 1)
+        } else {
+            format!("blocks {} to {blocks}: free", shown + 1)
+        };
+        text(&mut body, LEFT, y, "", &words);
+    }
+    let height = entries(&mut body, files, control, y + 36);
+    let mut svg = format!(
+        "<svg xmlns=\"http://www.w3.org/2000/svg\" viewBox=\"0 0 {WIDTH} {height}\" \
+         width=\"{WIDTH}\" height=\"{height}\">\n{STYLE}\
+         <rect width=\"{WIDTH}\" height=\"{height}\" fill=\"#fff\" stroke=\"none\"/>\n"
+    );
+    heading(&mut svg, control);
+    svg + &body + "</svg>\n"
+}
+
+/// The title and the key to the colours.
+fn heading(svg: &mut String, control: Control) {
+    let title = format!(
+        "The master file (MST): end at block {}, offset {}; next MFN {}",
+        control.end / BLOCK + 1,
+        control.end % BLOCK,
+        control.next_mfn
+    );
+    text(svg, 10, 28, "title", &title);
+    let key = [
+        ("settled", "settled"),
+        ("changed", "changed, pending"),
+        ("new", "new, pending"),
+        ("deleted", "deleted"),
+        ("kept", "settled version, kept"),
+        ("lost", "lost"),
+        ("free", "free"),
+    ];
+    let mut x = LEFT;
+    for (class, words) in key {
+        rect(svg, x, 44, 16, 14, class);
+        text(svg, x + 22, 56, "small", words);
+        x += 40 + words.len() * 7;
+    }
+    text(
+        svg,
+        x,
+        56,
+        "small",
+        "shaded: leader, directory; then the data",
+    );
+}
+
+/// The entries of the XRF as a table; gives the picture's height.
+fn entries(svg: &mut String, files: &Files, control: Control, top: usize) -> usize {
+    text(svg, 10, top, "title", "The cross-reference file (XRF)");
+    let mut y = top + 24;
+    for mfn in (1..control.next_mfn).take(MOST_ENTRIES) {
+        let value = i32_at(&files.xrf, slot_at(mfn));
+        let words = match Entry::decode(value, control.end) {
+            Ok(Entry::Place(place)) => place_words(place),
+            Ok(Entry::Gone) => "gone (physically deleted)".into(),
+            Err(fault) => fault.to_string(),
+        };
+        text(svg, LEFT, y, "", &format!("MFN {mfn}"));
+        text(svg, LEFT + 90, y, "", &format!("entry {value}"));
+        text(svg, LEFT + 220, y, "", &words);
+        y += 20;
+    }
+    let more = (control.next_mfn - 1).saturating_sub(MOST_ENTRIES);
+    if more > 0 {
+        text(svg, LEFT, y, "small", &format!("and {more} more"));
+        y += 20;
+    }
+    y + 10
+}
+
+/// A place in words.
+fn place_words(place: Place) -> String {
+    let mark = match place.mark {
+        Mark::Settled => "settled",
+        Mark::Changed => "changed, pending",
+        Mark::New => "new, pending",
+    };
+    let deleted = if place.deleted { "deleted, " } else { "" };
+    let (block, offset) = (place.block, place.offset);
+    format!("block {block}, offset {offset}, {deleted}{mark}")
+}
+
+/// The class of the part that a span plays.
+fn class(part: Part) -> &'static str {
+    match part {
+        Part::Current(place) if place.deleted => "deleted",
+        Part::Current(place) => match place.mark {
+            Mark::Settled => "settled",
+            Mark::Changed => "changed",
+            Mark::New => "new",
+        },
+        Part::Kept => "kept",
+        Part::Lost => "lost",
+        Part::Unreadable => "unreadable",
+    }
+}
+
+/// A record: its bytes, and over them the shades of leader and directory.
+fn record(svg: &mut String, rows: usize, mst: &[u8], span: &Span) {
+    let Span { at, len, mfn, part } = *span;
+    let label = match part {
+        Part::Lost => "lost".to_string(),
+        Part::Unreadable => "unreadable".to_string(),
+        _ => format!("MFN {mfn}"),
+    };
+    bytes(svg, rows, at..at + len, class(part), &label);
+    if matches!(part, Part::Current(_) | Part::Kept) {
+        let base = usize::from(Leader::read(mst, at).base).clamp(LEADER, len);
+        bytes(svg, rows, at..at + LEADER, "leader", "");
+        bytes(svg, rows, at + LEADER..at + base, "directory", "");
+    }
+}
+
+/// An arrow from a changed record back to its settled version.
+fn arrow(svg: &mut String, rows: usize, mst: &[u8], span: &Span) {
+    let Part::Current(Place {
+        mark: Mark::Changed,
+        ..
+    }) = span.part
+    else {
+        return;
+    };
+    let leader = Leader::read(mst, span.at);
+    let back = model::layout::address(leader.back_block.into(), leader.back_offset.into());
+    let Ok(back) = usize::try_from(back) else {
+        return;
+    };
+    if span.at.max(back) >= rows * BLOCK {
+        return;
+    }
+    let (x1, y1) = point(span.at);
+    let (x2, y2) = point(back);
+    let bend = y1.min(y2) - 22;
+    svg.push_str(&format!(
+        "<path class=\"back\" d=\"M{x1},{y1} C{x1},{bend} {x2},{bend} {x2},{y2}\"/>\n"
+    ));
+}
+
+/// Where an arrow touches the record at an address.
+fn point(at: usize) -> (usize, usize) {
+    (LEFT + at % BLOCK * SCALE + 18, TOP + at / BLOCK * ROW)
+}
+
+/// Bytes of the MST, cut at the ends of blocks; the first part has the label.
+fn bytes(svg: &mut String, rows: usize, range: std::ops::Range<usize>, class: &str, label: &str) {
+    let (mut from, to) = (range.start, range.end.min(rows * BLOCK));
+    let mut label = label;
+    while from < to {
+        let stop = to.min((from / BLOCK + 1) * BLOCK);
+        let (x, y) = (LEFT + from % BLOCK * SCALE, TOP + from / BLOCK * ROW);
+        let width = (stop - from) * SCALE;
+        rect(svg, x, y, width, BAR, class);
+        if width > label.len() * 7 {
+            text(svg, x + 4, y + 22, "in", label);
+            label = "";
+        }
+        from = stop;
+    }
+}
+
+fn rect(svg: &mut String, x: usize, y: usize, width: usize, height: usize, class: &str) {
+    svg.push_str(&format!(
+        "<rect class=\"{class}\" x=\"{x}\" y=\"{y}\" width=\"{width}\" height=\"{height}\"/>\n"
+    ));
+}
+
+fn text(svg: &mut String, x: usize, y: usize, class: &str, words: &str) {
+    if !words.is_empty() {
+        svg.push_str(&format!(
+            "<text class=\"{class}\" x=\"{x}\" y=\"{y}\">{words}</text>\n"
+        ));
+    }
+}

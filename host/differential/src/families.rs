@@ -1,0 +1,211 @@
+//! Families of random trials, and the driver that runs one until enough calls were
+//! made. Here are lists from format and hostile arguments; [`damage`](crate::damage)
+//! and [`random_cards`](crate::random_cards) have the others.
+
+use crate::archive::{Archive, Subject};
+use crate::guarded::{Side, report_hits};
+use crate::shrink::{report, shrink};
+use crate::tally::Tally;
+use crate::trial::{Run, Step, Trial};
+use model::call::Call;
+use model::layout::BLOCK;
+use model::lists::{self, Taste};
+use model::random::Random;
+use std::io::Write;
+
+/// A way to make trials.
+pub trait Family {
+    /// The card that a trial starts with, in blocks or bytes of its own choice.
+    fn card(&mut self, random: &mut Random) -> (Vec<u8>, Vec<u8>);
+
+    /// The next step; `None` ends the trial.
+    fn next(&mut self, random: &mut Random, run: &Run, done: usize) -> Option<Step>;
+}
+
+/// The first seed: `ISIS_SEED`, or 1.
+pub fn first_seed() -> u64 {
+    let given = std::env::var("ISIS_SEED").ok();
+    given.map_or(1, |text| {
+        text.parse().expect("ISIS_SEED must be a whole number")
+    })
+}
+
+/// How many calls to make: fewer in a build without optimisation.
+pub fn calls(wanted: usize) -> usize {
+    if cfg!(debug_assertions) {
+        wanted / 20
+    } else {
+        wanted
+    }
+}
+
+/// Runs trials of a family on the archive until so many calls were made; panics with
+/// a shrunk list at the first difference.
+pub fn drive(name: &str, family: &mut dyn Family, wanted: usize) -> Tally {
+    report_hits();
+    let first = first_seed();
+    let (tally, last) = drive_subject(&mut Archive::new(), family, wanted, first)
+        .unwrap_or_else(|words| panic!("{name}: {words}"));
+    said(&format!(
+        "{name}: seeds {first} to {last}, {} calls, all equal",
+        tally.calls()
+    ));
+    println!("{tally}");
+    tally
+}
+
+/// Prints a line past the test harness, which keeps what a passing test prints.
+pub fn said(line: &str) {
+    let _ = writeln!(std::io::stderr(), "{line}");
+}
+
+/// The same on any subject; gives the tally and the last seed, or the shrunk list.
+pub fn drive_subject(
+    subject: &mut dyn Subject,
+    family: &mut dyn Family,
+    wanted: usize,
+    first: u64,
+) -> Result<(Tally, u64), String> {
+    let mut tally = Tally::default();
+    let mut seed = first;
+    loop {
+        if let Err(trial) = one(subject, family, seed, &mut tally) {
+            let (small, difference) = shrink(&trial, subject)
+                .ok_or_else(|| format!("seed {seed}: a difference that does not come again"))?;
+            return Err(report(&small, &difference));
+        }
+        if tally.calls() >= wanted {
+            return Ok((tally, seed));
+        }
+        seed += 1;
+    }
+}
+
+/// One trial; on a difference, the trial with the steps that led there.
+fn one(
+    subject: &mut dyn Subject,
+    family: &mut dyn Family,
+    seed: u64,
+    tally: &mut Tally,
+) -> Result<(), Box<Trial>> {
+    let mut random = Random::new(seed);
+    let (mst, xrf) = family.card(&mut random);
+    let side = random.pick(&[Side::Front, Side::Back]);
+    let mut trial = Trial {
+        seed,
+        mst,
+        xrf,
+        side,
+        steps: Vec::new(),
+    };
+    let mut run = Run::new(subject, &trial);
+    while let Some(step) = family.next(&mut random, &run, trial.steps.len()) {
+        let result = run.step(&step, tally);
+        trial.steps.push(step);
+        if result.is_err() {
+            return Err(Box::new(trial));
+        }
+    }
+    Ok(())
+}
+
+/// A card of so many blocks with random bytes.
+pub fn rubbish(random: &mut Random, mst_blocks: usize, xrf_blocks: usize) -> (Vec<u8>, Vec<u8>) {
+    let (mut mst, mut xrf) = (vec![0; mst_blocks * BLOCK], vec![0; xrf_blocks * BLOCK]);
+    random.fill(&mut mst);
+    random.fill(&mut xrf);
+    (mst, xrf)
+}
+
+/// Records so short that the slots are used up before the space.
+const TINY: Taste = Taste {
+    field: 2,
+    fields: 1,
+    format_in: 1500,
+    bad_draft_in: 30,
+};
+
+/// Lists from format: small stores, in which 5 and 13 come often, and some large ones.
+#[derive(Debug)]
+pub struct FromFormat {
+    taste: Taste,
+    steps: usize,
+}
+
+impl FromFormat {
+    /// The family.
+    #[allow(clippy::new_without_default)]
+    pub fn new() -> FromFormat {
+        FromFormat {
+            taste: Taste::SHORT,
+            steps: 0,
+        }
+    }
+}
+
+impl Family for FromFormat {
+    fn card(&mut self, random: &mut Random) -> (Vec<u8>, Vec<u8>) {
+        let (mst, xrf, taste, steps) = random.pick(&[
+            (1, 1, Taste::SHORT, 60),
+            (2, 1, Taste::SHORT, 100),
+            (3, 2, Taste::SHORT, 150),
+            (6, 1, Taste::SHORT, 250),
+            (12, 1, Taste::SHORT, 400),
+            (9, 1, TINY, 900),
+            (24, 2, TINY, 1_600),
+            (20, 1, Taste::LONG, 150),
+            (100, 3, Taste::LONG, 200),
+        ]);
+        (self.taste, self.steps) = (taste, steps);
+        rubbish(random, mst, xrf)
+    }
+
+    fn next(&mut self, random: &mut Random, run: &Run, done: usize) -> Option<Step> {
+        match done {
+            0 => Some(Step::Call(Call::Format)),
+            _ if done == self.steps => None,
+            _ => Some(Step::Call(lists::call(random, self.taste, run.next_mfn()))),
+        }
+    }
+}
+
+/// A good card and arguments that are not: drafts that do not fit together or are far
+/// too long, MFNs, tags and occurrences at the edges of their numbers.
+#[derive(Debug, Default)]
+pub struct Hostile;
+
+impl Family for Hostile {
+    fn card(&mut self, random: &mut Random) -> (Vec<u8>, Vec<u8>) {
+        let (mst, xrf) = random.pick(&[(4, 1), (8, 1), (200, 1)]);
+        rubbish(random, mst, xrf)
+    }
+
+    fn next(&mut self, random: &mut Random, run: &Run, done: usize) -> Option<Step> {
+        if done == 0 {
+            return Some(Step::Call(Call::Format));
+        }
+        if done == 120 {
+            return None;
+        }
+        let (tag, occurrence) = (lists::tag(random), lists::occurrence(random));
+        let mfn = match random.below(3) {
+            0 => random.next() as u32,
+            _ => lists::mfn(random, run.next_mfn()),
+        };
+        Some(Step::Call(match random.below(8) {
+            0..=1 => Call::Create(lists::hostile_draft(random, Taste::SHORT)),
+            2..=3 => Call::Update(mfn, lists::hostile_draft(random, Taste::SHORT)),
+            4 => Call::View {
+                mfn,
+                tag,
+                occurrence: random.next() as u32,
+            },
+            5 => Call::ViewSettled {
+                mfn,
+                tag: random.next() as u16,
+                occurrence,
+            },
+            _ => lists::call(random, Taste::SHORT, run.next_mfn()),
+        }))
+    }
+}

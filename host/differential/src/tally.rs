@@ -1,0 +1,97 @@
+//! How often each answer of each call came: a test that never meets an answer says
+//! nothing about it.
+
+use model::call::Call;
+use std::fmt;
+
+/// The calls, in the order of the paper's list.
+pub const CALLS: [&str; 9] = [
+    "format",
+    "view",
+    "view settled",
+    "create",
+    "update",
+    "delete",
+    "settle",
+    "revert",
+    "check",
+];
+
+/// The answers that the table of document 01 has for each call.
+pub const ANSWERS: [&[usize]; 9] = [
+    &[0, 1],
+    &[0, 1, 2, 4, 6, 7, 8, 9, 12],
+    &[0, 1, 2, 4, 6, 7, 8, 9, 11, 12],
+    &[0, 1, 2, 3, 5, 6, 13],
+    &[0, 1, 2, 3, 4, 6, 7, 8, 9, 13],
+    &[0, 1, 2, 4, 6, 7, 8, 9, 13],
+    &[0, 1, 2, 4, 6, 7, 8, 10],
+    &[0, 1, 2, 4, 6, 7, 8, 10, 11],
+    &[0, 1, 2, 14],
+];
+
+/// Counts by call and answer.
+#[derive(Clone, Debug, Default)]
+pub struct Tally {
+    counts: [[usize; 15]; 9],
+}
+
+/// The place of a call in `CALLS`.
+fn index(call: &Call) -> usize {
+    match call {
+        Call::Format => 0,
+        Call::View { .. } => 1,
+        Call::ViewSettled { .. } => 2,
+        Call::Create(_) => 3,
+        Call::Update(..) => 4,
+        Call::Delete(_) => 5,
+        Call::Settle(_) => 6,
+        Call::Revert(_) => 7,
+        Call::Check => 8,
+    }
+}
+
+impl Tally {
+    /// Counts an answer.
+    pub fn add(&mut self, call: &Call, number: u32) {
+        self.counts[index(call)][number as usize] += 1;
+    }
+
+    /// Adds another tally.
+    pub fn join(&mut self, other: &Tally) {
+        for (mine, theirs) in self.counts.iter_mut().zip(&other.counts) {
+            for (mine, theirs) in mine.iter_mut().zip(theirs) {
+                *mine += theirs;
+            }
+        }
+    }
+
+    /// All calls counted.
+    pub fn calls(&self) -> usize {
+        self.counts.iter().flatten().sum()
+    }
+
+    /// How often an answer of a call came.
+    pub fn count(&self, call: usize, number: usize) -> usize {
+        self.counts[call][number]
+    }
+}
+
+impl fmt::Display for Tally {
+    fn fmt(&self, f: &mut fmt::Formatter<'_>) -> fmt::Result {
+        write!(f, "{:<13}", "answer")?;
+        for number in 0..15 {
+            write!(f, "{number:>8}")?;
+        }
+        for (name, counts) in CALLS.iter().zip(&self.counts) {
+            write!(f, "\n{name:<13}")?;
+            for count in counts {
+                match count {
+                    0 => write!(f, "{:>8}", "-")?,
+                    _ => write!(f, "{count:>8}")?,
+                }
+            }
+        }
+        write!(f, "\n{} calls", self.calls())
+    }
+}

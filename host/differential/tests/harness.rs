@@ -1,0 +1,227 @@
+//! The tests are themselves tried: fakes that document 01 names, and slips that are
+//! easy, must be found, and the list that shows them must come out short; a byte
+//! outside a buffer must end the program with the seed printed.
+
+use differential::archive::{Given, Subject};
+use differential::damage::Damaged;
+use differential::families::{Family, FromFormat, drive_subject};
+use differential::guarded::{Area, Side, at_work, report_hits};
+use model::call::{Call, on_bytes};
+use std::process::Command;
+
+/// A wrong library: it sees a card, a call and what the model gave before and after,
+/// and spoils the result.
+struct Fake {
+    spoil: fn(&mut Fake, &mut Seen),
+    updates: usize,
+}
+
+/// A call as a fake sees it.
+struct Seen<'a> {
+    call: &'a Call,
+    given: Given,
+    mst: &'a mut [u8],
+    xrf: &'a mut [u8],
+    before: (Vec<u8>, Vec<u8>),
+}
+
+impl Seen<'_> {
+    fn put_back(&mut self) {
+        self.mst.copy_from_slice(&self.before.0);
+        self.xrf.copy_from_slice(&self.before.1);
+    }
+}
+
+impl Subject for Fake {
+    fn run(&mut self, mst: &mut [u8], xrf: &mut [u8], call: &Call, _: Side) -> Given {
+        let before = (mst.to_vec(), xrf.to_vec());
+        let (outcome, part) = on_bytes(mst, xrf, call);
+        let given = Given {
+            number: outcome.number,
+            mfn: outcome.mfn,
+            part,
+        };
+        let mut seen = Seen {
+            call,
+            given,
+            mst,
+            xrf,
+            before,
+        };
+        (self.spoil)(self, &mut seen);
+        seen.given
+    }
+}
+
+/// The fake is found by a family within so many calls, by a list of at most `steps`.
+fn found(family: &mut dyn Family, steps: usize, spoil: fn(&mut Fake, &mut Seen)) {
+    let mut fake = Fake { spoil, updates: 0 };
+    let words = drive_subject(&mut fake, family, 50_000, 1).expect_err("the fake was not found");
+    let listed = words.lines().filter(|line| line.starts_with("  ")).count();
+    assert!((1..=steps).contains(&listed), "{words}");
+    assert!(words.starts_with("seed "), "{words}");
+}
+
+#[test]
+fn a_store_that_always_refuses() {
+    found(&mut FromFormat::new(), 2, |_, seen| {
+        if matches!(seen.call, Call::Create(_)) {
+            seen.put_back();
+            seen.given.number = 13;
+            seen.given.mfn = 0;
+        }
+    });
+}
+
+#[test]
+fn one_that_answers_0_and_stores_nothing() {
+    found(&mut FromFormat::new(), 3, |_, seen| {
+        if matches!(seen.call, Call::Update(..)) && seen.given.number == 0 {
+            seen.put_back();
+        }
+    });
+}
+
+#[test]
+fn one_that_shows_the_same_field_for_every_mfn() {
+    found(&mut FromFormat::new(), 4, |_, seen| {
+        if let Call::View {
+            tag, occurrence, ..
+        } = seen.call
+            && seen.given.number == 0
+        {
+            let first = model::store::view(seen.mst, seen.xrf, 1, *tag, *occurrence);
+            seen.given.part = first.unwrap_or(0..0);
+        }
+    });
+}
+
+#[test]
+fn one_that_writes_the_first_update_and_only_reports_the_later_ones() {
+    found(&mut FromFormat::new(), 4, |fake, seen| {
+        if *seen.call == Call::Format {
+            fake.updates = 0;
+        }
+        if matches!(seen.call, Call::Update(..)) && seen.given.number == 0 {
+            fake.updates += 1;
+            if fake.updates > 1 {
+                seen.put_back();
+            }
+        }
+    });
+}
+
+#[test]
+fn a_check_that_always_says_sound() {
+    found(&mut Damaged::default(), 8, |_, seen| {
+        if *seen.call == Call::Check && seen.given.number == 14 {
+            seen.given.number = 0;
+        }
+    });
+}
+
+#[test]
+fn a_quotient_toward_zero() {
+    found(&mut FromFormat::new(), 4, |_, seen| {
+        if seen.given.number == 9 {
+            seen.given.number = 6;
+        }
+    });
+}
+
+#[test]
+fn mfrl_shrunk_in_place() {
+    found(&mut FromFormat::new(), 4, |_, seen| {
+        let Call::Update(mfn, draft) = seen.call else {
+            return;
+        };
+        if seen.given.number == 0 && seen.before.1 == seen.xrf {
+            let slot = model::layout::slot_at(*mfn as usize);
+            let entry = i32::from_le_bytes(seen.xrf[slot..slot + 4].try_into().unwrap());
+            let at = (entry / 2048 - 1) * 512 + entry % 512;
+            let need = model::draft::need(draft.tags.len(), draft.data.len()) as u16;
+            seen.mst[at as usize + 4..][..2].copy_from_slice(&need.to_le_bytes());
+        }
+    });
+}
+
+#[test]
+fn a_refusal_that_changes_a_byte() {
+    found(&mut FromFormat::new(), 2, |_, seen| {
+        if seen.given.number == 4 {
+            seen.mst[40] ^= 1;
+        }
+    });
+}
+
+#[test]
+fn the_gap_before_a_block_written_over() {
+    found(&mut FromFormat::new(), 30, |_, seen| {
+        let stops = |mst: &[u8]| u16::from_le_bytes([mst[12], mst[13]]);
+        let moved = stops(seen.mst) == 0 && stops(&seen.before.0) != 0;
+        if moved && matches!(seen.call, Call::Create(_)) {
+            let block = seen.mst[8] as usize;
+            seen.mst[(block - 1) * 512 - 1] = 0xAA;
+        }
+    });
+}
+
+#[test]
+fn a_right_library_passes() {
+    let mut fake = Fake {
+        spoil: |_, _| {},
+        updates: 0,
+    };
+    let passed = drive_subject(&mut fake, &mut FromFormat::new(), 2_000, 1);
+    assert!(passed.is_ok());
+}
+
+/// Run by the next test in a process of its own.
+#[test]
+#[ignore = "ends the process"]
+fn steps_outside() {
+    report_hits();
+    at_work(4711, 12);
+    let mut area = Area::new(1536);
+    let side = match std::env::var("ISIS_OUTSIDE").as_deref() {
+        Ok("front") => Side::Front,
+        _ => Side::Back,
+    };
+    let buffer = area.buffer(1536, side);
+    let outside = match side {
+        Side::Front => buffer.as_mut_ptr().wrapping_sub(1),
+        Side::Back => buffer.as_mut_ptr().wrapping_add(1536),
+    };
+    // SAFETY: none; this is the fault that the guard page must catch.
+    unsafe { outside.write_volatile(0) };
+}
+
+#[test]
+fn a_byte_outside_ends_the_program_and_names_the_seed() {
+    for side in ["front", "back"] {
+        let output = Command::new(std::env::current_exe().unwrap())
+            .args(["--exact", "steps_outside", "--ignored", "--nocapture"])
+            .env("ISIS_OUTSIDE", side)
+            .output()
+            .unwrap();
+        assert_eq!(output.status.code(), Some(139), "{side}: {output:?}");
+        let words = String::from_utf8_lossy(&output.stderr);
+        let numbers: Vec<&str> = words.split_whitespace().collect();
+        assert!(words.contains("outside its buffers"), "{words}");
+        assert!(
+            numbers.contains(&"4711") && numbers.contains(&"12"),
+            "{words}"
+        );
+    }
+}
+
+#[test]
+fn bytes_beside_a_buffer_are_watched_where_no_guard_page_stands() {
+    let mut area = Area::new(512);
+    assert!(area.slack_kept(512, Side::Back));
+    let buffer = area.buffer(512, Side::Back);
+    let before = buffer.as_mut_ptr().wrapping_sub(1);
+    // SAFETY: the byte belongs to the area's own page.
+    unsafe { before.write_volatile(0) };
+    assert!(!area.slack_kept(512, Side::Back));
+}

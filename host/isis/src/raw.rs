@@ -1,0 +1,78 @@
+//! The C interface as it stands in `include/isis.h`. The safe functions of
+//! [`Card`](crate::Card) are all that most programs need.
+
+unsafe extern "C" {
+    /// Empties a card.
+    pub fn isis_format(mst: *mut u8, mst_len: usize, xrf: *mut u8, xrf_len: usize) -> u32;
+
+    /// Shows a field of the current version.
+    pub fn isis_view(
+        mst: *const u8,
+        mst_len: usize,
+        xrf: *const u8,
+        xrf_len: usize,
+        mfn: u32,
+        tag: u16,
+        occurrence: u32,
+        start: *mut usize,
+        len: *mut usize,
+    ) -> u32;
+
+    /// Shows a field of the settled version.
+    pub fn isis_view_settled(
+        mst: *const u8,
+        mst_len: usize,
+        xrf: *const u8,
+        xrf_len: usize,
+        mfn: u32,
+        tag: u16,
+        occurrence: u32,
+        start: *mut usize,
+        len: *mut usize,
+    ) -> u32;
+
+    /// Writes a new record.
+    pub fn isis_create(
+        mst: *mut u8,
+        mst_len: usize,
+        xrf: *mut u8,
+        xrf_len: usize,
+        tags: *const u16,
+        tags_len: usize,
+        lens: *const u16,
+        lens_len: usize,
+        data: *const u8,
+        data_len: usize,
+        mfn: *mut u32,
+    ) -> u32;
+
+    /// Replaces the fields of a record.
+    pub fn isis_update(
+        mst: *mut u8,
+        mst_len: usize,
+        xrf: *mut u8,
+        xrf_len: usize,
+        mfn: u32,
+        tags: *const u16,
+        tags_len: usize,
+        lens: *const u16,
+        lens_len: usize,
+        data: *const u8,
+        data_len: usize,
+    ) -> u32;
+
+    /// Deletes a record.
+    pub fn isis_delete(mst: *mut u8, mst_len: usize, xrf: *mut u8, xrf_len: usize, mfn: u32)
+    -> u32;
+
+    /// Makes a pending change final.
+    pub fn isis_settle(mst: *mut u8, mst_len: usize, xrf: *mut u8, xrf_len: usize, mfn: u32)
+    -> u32;
+
+    /// Makes the settled version current again.
+    pub fn isis_revert(mst: *mut u8, mst_len: usize, xrf: *mut u8, xrf_len: usize, mfn: u32)
+    -> u32;
+
+    /// Checks the whole store.
+    pub fn isis_check(mst: *const u8, mst_len: usize, xrf: *const u8, xrf_len: usize) -> u32;
+}

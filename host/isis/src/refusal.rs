@@ -1,0 +1,105 @@
+//! The answers other than 0, with the paper's numbers and with words.
+
+use std::error::Error;
+use std::fmt;
+
+/// What a call gives: a value if it was accepted, or why it was refused.
+pub type Answer<T> = Result<T, Refusal>;
+
+/// Why a call was refused. Where several apply, the library gives the lowest number.
+#[derive(Clone, Copy, Debug, PartialEq, Eq, PartialOrd, Ord, Hash)]
+#[repr(u32)]
+pub enum Refusal {
+    /// 1: a buffer length is not permitted.
+    BadLength = 1,
+    /// 2: the control record is not right.
+    BadControl = 2,
+    /// 3: the draft is not right.
+    BadDraft = 3,
+    /// 4: the MFN is 0 or was never given out.
+    NoMfn = 4,
+    /// 5: every MFN of the XRF is given out.
+    NoSlot = 5,
+    /// 6: the MFN's entry is malformed, or its XRF block is misnumbered.
+    BadEntry = 6,
+    /// 7: the record is physically deleted.
+    Gone = 7,
+    /// 8: the record, or the settled version that is needed, is not well formed.
+    BadRecord = 8,
+    /// 9: the record is deleted.
+    Deleted = 9,
+    /// 10: nothing is pending.
+    NotPending = 10,
+    /// 11: the record was never settled.
+    NeverSettled = 11,
+    /// 12: no field of that tag and occurrence.
+    NoField = 12,
+    /// 13: the record does not fit before the end of the MST.
+    NoRoom = 13,
+    /// 14: the store is not sound.
+    NotSound = 14,
+}
+
+impl Refusal {
+    /// Every refusal, in the order of the numbers.
+    pub const ALL: [Refusal; 14] = [
+        Refusal::BadLength,
+        Refusal::BadControl,
+        Refusal::BadDraft,
+        Refusal::NoMfn,
+        Refusal::NoSlot,
+        Refusal::BadEntry,
+        Refusal::Gone,
+        Refusal::BadRecord,
+        Refusal::Deleted,
+        Refusal::NotPending,
+        Refusal::NeverSettled,
+        Refusal::NoField,
+        Refusal::NoRoom,
+        Refusal::NotSound,
+    ];
+
+    /// The number of the refusal.
+    pub fn number(self) -> u32 {
+        self as u32
+    }
+
+    /// The answer that a number stands for: `Ok` for 0, `None` for a number that is
+    /// no answer.
+    pub fn answer(number: u32) -> Option<Answer<()>> {
+        match number {
+            0 => Some(Ok(())),
+            _ => Refusal::ALL.get(number as usize - 1).map(|&why| Err(why)),
+        }
+    }
+
+    /// The refusal in words.
+    pub fn words(self) -> &'static str {
+        match self {
+            Refusal::BadLength => {
+                "a file is not 1 to 1048575 (MST) or 1 to 4096 (XRF) blocks of 512 bytes"
+            }
+            Refusal::BadControl => "the control record is not right",
+            Refusal::BadDraft => "the draft is not right",
+            Refusal::NoMfn => "no record has this MFN",
+            Refusal::NoSlot => "every MFN that the XRF has room for is given out",
+            Refusal::BadEntry => "the cross-reference entry is malformed",
+            Refusal::Gone => "the record is physically deleted",
+            Refusal::BadRecord => "the record is not well formed",
+            Refusal::Deleted => "the record is deleted",
+            Refusal::NotPending => "nothing is pending",
+            Refusal::NeverSettled => "the record was never settled",
+            Refusal::NoField => "there is no field of this tag and occurrence",
+            Refusal::NoRoom => "there is no room at the end of the MST",
+            Refusal::NotSound => "the store is not sound",
+        }
+    }
+}
+
+impl fmt::Display for Refusal {
+    fn fmt(&self, f: &mut fmt::Formatter<'_>) -> fmt::Result {
+        f.write_str(self.words())
+    }
+}
+
+impl Error for Refusal {}

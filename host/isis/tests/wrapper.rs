@@ -1,0 +1,93 @@
+//! The wrapper hands everything through: the worked run of document 01 by way of the
+//! archive, each answer as its number, and drafts from iterators.
+
+use isis::{Card, Draft, Lists, Refusal};
+
+#[test]
+fn the_worked_run_through_the_archive() {
+    let (mut mst, mut xrf) = (vec![0xAA; 512], vec![0xAA; 512]);
+    let mut card = Card::over(&mut mst, &mut xrf);
+    card.format().unwrap();
+    assert_eq!(card.xrf()[..8], [0xFF, 0xFF, 0xFF, 0xFF, 0, 0, 0, 0]);
+    assert_eq!(card.create([(24, "Kite")]), Ok(1));
+    let bytes = [
+        0x01, 0x00, 0x00, 0x00, 0x1C, 0x00, 0x00, 0x00, 0x00, 0x00, 0x00, 0x00, 0x18, 0x00, 0x01,
+        0x00, 0x00, 0x00, 0x18, 0x00, 0x00, 0x00, 0x04, 0x00, 0x4B, 0x69, 0x74, 0x65,
+    ];
+    assert_eq!(card.mst()[64..92], bytes);
+    assert_eq!(card.xrf()[4..8], 3136i32.to_le_bytes());
+    card.update(1, [(24, "Kit")]).unwrap();
+    assert_eq!(card.mst()[68], 28);
+    card.settle(1).unwrap();
+    assert_eq!(card.xrf()[4..8], 2112i32.to_le_bytes());
+    card.update(1, [(24, "Kites")]).unwrap();
+    assert_eq!(card.xrf()[4..8], 2652i32.to_le_bytes());
+    assert_eq!(card.mst()[12..14], [122, 0]);
+    assert_eq!(card.view(1, 24, 1), Ok(&b"Kites"[..]));
+    assert_eq!(card.view_part(1, 24, 1), Ok(116..121));
+    assert_eq!(card.view_settled(1, 24, 1), Ok(&b"Kit"[..]));
+    card.revert(1).unwrap();
+    assert_eq!(card.xrf()[4..8], 2112i32.to_le_bytes());
+    assert_eq!(card.mst()[12..14], [122, 0]);
+    assert_eq!(card.check(), Ok(()));
+}
+
+#[test]
+fn refusals_have_the_papers_numbers() {
+    for (i, refusal) in Refusal::ALL.into_iter().enumerate() {
+        assert_eq!(refusal.number(), i as u32 + 1);
+        assert_eq!(Refusal::answer(refusal.number()), Some(Err(refusal)));
+    }
+    assert_eq!(Refusal::answer(0), Some(Ok(())));
+    assert_eq!(Refusal::answer(15), None);
+}
+
+#[test]
+fn refusals_come_through() {
+    let (mut mst, mut xrf) = (vec![0; 512], vec![0; 512]);
+    let mut card = Card::over(&mut mst, &mut xrf);
+    assert_eq!(card.check(), Err(Refusal::BadControl));
+    card.format().unwrap();
+    assert_eq!(card.settle(1), Err(Refusal::NoMfn));
+    assert_eq!(card.create([(0, "")]), Err(Refusal::BadDraft));
+    assert_eq!(card.create([(1, vec![0; 600])]), Err(Refusal::NoRoom));
+    assert_eq!(card.create([(1, "a"), (1, "b")]), Ok(1));
+    assert_eq!(card.view(1, 1, 2), Ok(&b"b"[..]));
+    assert_eq!(card.view(1, 1, 3), Err(Refusal::NoField));
+    assert_eq!(card.revert(1), Err(Refusal::NeverSettled));
+    card.delete(1).unwrap();
+    assert_eq!(card.view(1, 1, 1), Err(Refusal::Deleted));
+    card.settle(1).unwrap();
+    assert_eq!(card.settle(1), Err(Refusal::NotPending));
+    let mut short = vec![0; 511];
+    let mut xrf = vec![0; 512];
+    assert_eq!(
+        Card::over(&mut short, &mut xrf).format(),
+        Err(Refusal::BadLength)
+    );
+}
+
+#[test]
+fn drafts_gather_fields_and_refuse_what_has_no_length() {
+    let draft = Draft::gather([(24, &b"Kite"[..]), (70, b""), (24, b"s")]).unwrap();
+    let Lists { tags, lens, data } = draft.lists();
+    assert_eq!(
+        (tags, lens, data),
+        (&[24, 70, 24][..], &[4, 0, 1][..], &b"Kites"[..])
+    );
+    assert!(Draft::gather([(24, vec![0; 65_535])]).is_ok());
+    assert_eq!(
+        Draft::gather([(24, vec![0; 65_536])]),
+        Err(Refusal::BadDraft)
+    );
+}
+
+#[test]
+fn no_fields_at_all_are_a_record() {
+    let (mut mst, mut xrf) = (vec![0; 512], vec![0; 512]);
+    let mut card = Card::over(&mut mst, &mut xrf);
+    card.format().unwrap();
+    assert_eq!(card.create::<&[u8]>([]), Ok(1));
+    assert_eq!(card.mst()[68], 18);
+    assert_eq!(card.check(), Ok(()));
+}

@@ -1,0 +1,8 @@
+//! Prints what the program `crates/outcomes` must print, as the model has it:
+//! `cargo run --example outcomes > ../../crates/outcomes/stdout`.
+
+mod script;
+
+fn main() {
+    print!("{}", script::lines());
+}

@@ -1,0 +1,88 @@
+//! What a store can hold: fields (12), bytes of the MST (13) and MFNs (5).
+
+use super::card::Card;
+use model::OwnedDraft;
+
+pub fn run(card: &mut Card) {
+    fields(card);
+    settled_fields(card);
+    room(card);
+    ends(card);
+}
+
+/// 12: MFN 1 is of five fields.
+fn fields(card: &mut Card) {
+    let five: [(u16, &[u8]); 5] = [
+        (24, b"Kite"),
+        (24, b""),
+        (1, b"Wind"),
+        (32_767, b"Cloud"),
+        (24, b"Kit"),
+    ];
+    card.formatted();
+    card.create_of("five fields", &OwnedDraft::of(&five).lent());
+    card.state("five fields", 64..128);
+    for occurrence in [1, 2, 3, 4, 0] {
+        card.view_of(
+            &format!("tag 24, occurrence {occurrence}"),
+            1,
+            24,
+            occurrence,
+        );
+    }
+    for tag in [1, 32_767, 25, 65_535] {
+        card.view_of(&format!("tag {tag}"), 1, tag, 1);
+    }
+}
+
+/// 12: the settled version of MFN 1, and MFN 2 of no fields.
+fn settled_fields(card: &mut Card) {
+    card.settle("five fields", 1);
+    card.update("one field", 1, b"Rain");
+    card.settled_view_of("tag 24, occurrence 3", 1, 24, 3);
+    card.settled_view_of("tag 24, occurrence 4", 1, 24, 4);
+    card.settled_view_of("tag 25", 1, 25, 1);
+    card.view_of("one field, occurrence 1", 1, 24, 1);
+    card.view_of("one field, occurrence 2", 1, 24, 2);
+    card.create_of("no fields", &OwnedDraft::default().lent());
+    card.view("no fields", 2);
+    card.check("no fields");
+}
+
+/// 13: 64 + 420 = 484, so that 28 bytes are left.
+fn room(card: &mut Card) {
+    card.formatted();
+    card.create("420 of 448 bytes", &[b'x'; 420 - 24]);
+    card.create("30 of 28 bytes", b"Kites");
+    card.create("28 of 28 bytes", b"Kite");
+    card.update("no bytes left, in place", 2, b"Kit");
+    card.update("no bytes left, longer", 2, b"Kites");
+    card.settle("no bytes left", 2);
+    card.update("no bytes left, settled", 2, b"Kit");
+    card.delete("no bytes left, settled", 2);
+    card.delete("no bytes left, new", 1);
+    card.check("no bytes left");
+}
+
+/// Rows P9 and P10.
+fn ends(card: &mut Card) {
+    for length in [434, 436] {
+        let what = format!("{length} bytes at 64");
+        card.formatted();
+        card.create(&what, &vec![b'x'; length - 24]);
+        card.state(&what, 0..16);
+    }
+    card.check("436 bytes at 64");
+}
+
+/// 5: all 127 MFNs of one XRF block.
+pub fn capacity(card: &mut Card) {
+    card.formatted();
+    for _ in 0..126 {
+        card.created(b"");
+    }
+    card.create("126 records", b"Kite");
+    card.view("127 records", 127);
+    card.create("127 records", b"Kite");
+    card.check("127 records");
+}

@@ -1,0 +1,32 @@
+//! An independent implementation of document 01, written from the paper alone.
+//!
+//! It exists to be compared with the proved library, so it shares no code and no
+//! table with it. Two programs live here:
+//!
+//! * the **byte store** ([`store`]): the nine calls over two lent buffers that may
+//!   hold any bytes, with the whole-store check ([`sound`]) written as the
+//!   paper states it: collect the steps, then look at every entry;
+//! * the **ledger** ([`ledger`]): the plain ledger of demand 3, which never sees a
+//!   buffer and is only fed the calls.
+//!
+//! [`call`] gives both the same list of calls to answer, and [`lists`] makes such
+//! lists at random from a seed.
+
+pub mod answer;
+pub mod bytes;
+pub mod call;
+pub mod draft;
+pub mod fault;
+pub mod layout;
+pub mod ledger;
+pub mod lists;
+pub mod random;
+pub mod record;
+pub mod sound;
+pub mod store;
+
+pub use answer::Refusal;
+pub use call::{Call, Outcome, OwnedDraft};
+pub use draft::Draft;
+pub use fault::Fault;
+pub use ledger::Ledger;

@@ -1,0 +1,160 @@
+//! Random lists of calls, made so that every answer comes often: few tags, so that
+//! occurrences repeat; MFNs around the next one; drafts that are mostly right and
+//! mostly short, with lengths around the edges now and then.
+
+use crate::call::{Call, OwnedDraft};
+use crate::layout::{LAST_TAG, LONGEST};
+use crate::random::Random;
+
+/// What kind of lists to make.
+#[derive(Clone, Copy, Debug)]
+pub struct Taste {
+    /// The longest field of an ordinary draft.
+    pub field: usize,
+    /// The most fields of an ordinary draft.
+    pub fields: usize,
+    /// One format in so many calls, after the first.
+    pub format_in: usize,
+    /// One bad draft in so many.
+    pub bad_draft_in: usize,
+}
+
+impl Taste {
+    /// Short records: many fit into a small store.
+    pub const SHORT: Taste = Taste {
+        field: 12,
+        fields: 3,
+        format_in: 400,
+        bad_draft_in: 12,
+    };
+    /// Records of up to several blocks.
+    pub const LONG: Taste = Taste {
+        field: 300,
+        fields: 8,
+        format_in: 200,
+        bad_draft_in: 12,
+    };
+}
+
+/// A random call for a store whose next MFN is about `next`.
+pub fn call(random: &mut Random, taste: Taste, next: usize) -> Call {
+    if random.one_in(taste.format_in) {
+        return Call::Format;
+    }
+    match random.below(20) {
+        0..=3 => Call::Create(draft(random, taste)),
+        4..=7 => Call::Update(mfn(random, next), draft(random, taste)),
+        8 => Call::Delete(mfn(random, next)),
+        9..=11 => Call::Settle(mfn(random, next)),
+        12..=13 => Call::Revert(mfn(random, next)),
+        14..=16 => Call::View {
+            mfn: mfn(random, next),
+            tag: tag(random),
+            occurrence: occurrence(random),
+        },
+        17..=18 => Call::ViewSettled {
+            mfn: mfn(random, next),
+            tag: tag(random),
+            occurrence: occurrence(random),
+        },
+        _ => Call::Check,
+    }
+}
+
+/// An MFN: mostly one that was given out, sometimes any number.
+pub fn mfn(random: &mut Random, next: usize) -> u32 {
+    match random.below(24) {
+        0 => random.pick(&[0, 1, u32::MAX, 0x7FFF_FFFF, 0x8000_0000, 0x8000_0001]),
+        1 => random.next() as u32,
+        2 => next as u32,
+        _ => random.between(1, next.max(2) - 1) as u32,
+    }
+}
+
+/// A tag: mostly one of three, so that fields repeat.
+pub fn tag(random: &mut Random) -> u16 {
+    match random.below(24) {
+        0 => random.pick(&[0, LAST_TAG, LAST_TAG + 1, u16::MAX]),
+        1 => random.next() as u16,
+        _ => random.pick(&[24, 70, 1]),
+    }
+}
+
+/// An occurrence: mostly 1 or 2.
+pub fn occurrence(random: &mut Random) -> u32 {
+    match random.below(16) {
+        0 => random.pick(&[0, u32::MAX, 0x8000_0000, 0x1_0001]),
+        1 => 3,
+        2..=4 => 2,
+        _ => 1,
+    }
+}
+
+/// A draft: mostly right, sometimes at the longest record, sometimes bad.
+pub fn draft(random: &mut Random, taste: Taste) -> OwnedDraft {
+    if random.one_in(taste.bad_draft_in) {
+        return hostile_draft(random, taste);
+    }
+    if random.one_in(60) {
+        return draft_at_edge(random);
+    }
+    ordinary_draft(random, taste)
+}
+
+/// A draft that is right.
+pub fn ordinary_draft(random: &mut Random, taste: Taste) -> OwnedDraft {
+    let mut draft = OwnedDraft::default();
+    for _ in 0..random.below(taste.fields + 1) {
+        let len = random.below(taste.field + 1);
+        let mut bytes = vec![0; len];
+        random.fill(&mut bytes);
+        let tag = match random.below(24) {
+            0 => random.pick(&[1, LAST_TAG]),
+            _ => random.pick(&[24, 70, 1]),
+        };
+        draft.tags.push(tag);
+        draft.lens.push(len as u16);
+        draft.data.extend(bytes);
+    }
+    draft
+}
+
+/// A draft whose need is about the longest record.
+fn draft_at_edge(random: &mut Random) -> OwnedDraft {
+    let fields = random.between(1, 4);
+    let data = random.between(LONGEST - 3, LONGEST + 2) - 18 - 6 * fields;
+    let mut draft = OwnedDraft {
+        tags: vec![24; fields],
+        lens: vec![0; fields],
+        data: vec![b'x'; data],
+    };
+    draft.lens[fields - 1] = data as u16;
+    draft
+}
+
+/// A draft with one thing wrong with it, or with nothing but random lists.
+pub fn hostile_draft(random: &mut Random, taste: Taste) -> OwnedDraft {
+    let mut draft = ordinary_draft(random, taste);
+    match random.below(8) {
+        0 => draft.tags.push(24),
+        1 => draft.lens.push(0),
+        2 => draft.data.push(0),
+        3 => _ = draft.data.pop(),
+        4 if !draft.tags.is_empty() => {
+            let at = random.below(draft.tags.len());
+            draft.tags[at] = random.pick(&[0, LAST_TAG + 1, u16::MAX]);
+        }
+        5 if !draft.lens.is_empty() => {
+            let at = random.below(draft.lens.len());
+            draft.lens[at] = draft.lens[at].wrapping_add(random.pick(&[1, 2, 0x8000, 0xFFFF]));
+        }
+        6 => draft.lens = vec![u16::MAX; random.below(70_000)],
+        _ => {
+            let many = random.between(5_400, 5_500);
+            draft.tags = vec![1; many];
+            draft.lens = vec![0; many];
+            draft.data.clear();
+        }
+    }
+    draft
+}

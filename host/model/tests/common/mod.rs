@@ -1,0 +1,128 @@
+//! A card for tests, with its integers reachable by their byte numbers in the paper.
+#![allow(dead_code)]
+
+use model::{Draft, Refusal, store};
+
+/// The two buffers.
+#[derive(Clone, Debug, PartialEq, Eq)]
+pub struct Card {
+    pub mst: Vec<u8>,
+    pub xrf: Vec<u8>,
+}
+
+impl Card {
+    /// A formatted card of so many blocks.
+    pub fn formatted(mst_blocks: usize, xrf_blocks: usize) -> Card {
+        let mut card = Card {
+            mst: vec![0xA5; mst_blocks * 512],
+            xrf: vec![0x5A; xrf_blocks * 512],
+        };
+        store::format(&mut card.mst, &mut card.xrf).unwrap();
+        card
+    }
+
+    /// A card with MFN 1 = tag 24 "Kite", new, at 64; end 92.
+    pub fn with_kite(mst_blocks: usize, xrf_blocks: usize) -> Card {
+        let mut card = Card::formatted(mst_blocks, xrf_blocks);
+        assert_eq!(card.create(&[(24, b"Kite")]), Ok(1));
+        card
+    }
+
+    /// The same, settled.
+    pub fn with_settled_kite(mst_blocks: usize, xrf_blocks: usize) -> Card {
+        let mut card = Card::with_kite(mst_blocks, xrf_blocks);
+        assert_eq!(card.settle(1), Ok(()));
+        card
+    }
+
+    /// The same, then changed to "Kites" at 92; end 122.
+    pub fn with_changed_kite(mst_blocks: usize, xrf_blocks: usize) -> Card {
+        let mut card = Card::with_settled_kite(mst_blocks, xrf_blocks);
+        assert_eq!(card.update(1, &[(24, b"Kites")]), Ok(()));
+        card
+    }
+
+    pub fn u16(&self, at: usize) -> u16 {
+        u16::from_le_bytes(self.mst[at..at + 2].try_into().unwrap())
+    }
+
+    pub fn i32(&self, at: usize) -> i32 {
+        i32::from_le_bytes(self.mst[at..at + 4].try_into().unwrap())
+    }
+
+    pub fn entry(&self, at: usize) -> i32 {
+        i32::from_le_bytes(self.xrf[at..at + 4].try_into().unwrap())
+    }
+
+    pub fn put_u16(&mut self, at: usize, value: u16) -> &mut Card {
+        self.mst[at..at + 2].copy_from_slice(&value.to_le_bytes());
+        self
+    }
+
+    pub fn put_i32(&mut self, at: usize, value: i32) -> &mut Card {
+        self.mst[at..at + 4].copy_from_slice(&value.to_le_bytes());
+        self
+    }
+
+    pub fn put_entry(&mut self, at: usize, value: i32) -> &mut Card {
+        self.xrf[at..at + 4].copy_from_slice(&value.to_le_bytes());
+        self
+    }
+
+    pub fn view(&self, mfn: u32, tag: u16, occurrence: u32) -> Result<&[u8], Refusal> {
+        store::view(&self.mst, &self.xrf, mfn, tag, occurrence).map(|part| &self.mst[part])
+    }
+
+    pub fn view_settled(&self, mfn: u32, tag: u16, occurrence: u32) -> Result<&[u8], Refusal> {
+        store::view_settled(&self.mst, &self.xrf, mfn, tag, occurrence).map(|part| &self.mst[part])
+    }
+
+    pub fn create(&mut self, fields: &[(u16, &[u8])]) -> Result<u32, Refusal> {
+        let draft = model::OwnedDraft::of(fields);
+        self.kept_if_refused(|card| store::create(&mut card.mst, &mut card.xrf, &draft.lent()))
+    }
+
+    pub fn create_draft(
+        &mut self,
+        tags: &[u16],
+        lens: &[u16],
+        data: &[u8],
+    ) -> Result<u32, Refusal> {
+        let draft = Draft { tags, lens, data };
+        self.kept_if_refused(|card| store::create(&mut card.mst, &mut card.xrf, &draft))
+    }
+
+    pub fn update(&mut self, mfn: u32, fields: &[(u16, &[u8])]) -> Result<(), Refusal> {
+        let draft = model::OwnedDraft::of(fields);
+        self.kept_if_refused(|card| store::update(&mut card.mst, &mut card.xrf, mfn, &draft.lent()))
+    }
+
+    pub fn delete(&mut self, mfn: u32) -> Result<(), Refusal> {
+        self.kept_if_refused(|card| store::delete(&mut card.mst, &mut card.xrf, mfn))
+    }
+
+    pub fn settle(&mut self, mfn: u32) -> Result<(), Refusal> {
+        self.kept_if_refused(|card| store::settle(&mut card.mst, &mut card.xrf, mfn))
+    }
+
+    pub fn revert(&mut self, mfn: u32) -> Result<(), Refusal> {
+        self.kept_if_refused(|card| store::revert(&card.mst, &mut card.xrf, mfn))
+    }
+
+    pub fn check(&self) -> Result<(), Refusal> {
+        store::check(&self.mst, &self.xrf)
+    }
+
+    /// Runs a call and holds that a refusal changed no byte.
+    fn kept_if_refused<T>(
+        &mut self,
+        call: impl FnOnce(&mut Card) -> Result<T, Refusal>,
+    ) -> Result<T, Refusal> {
+        let before = self.clone();
+        let result = call(self);
+        if result.is_err() {
+            assert!(*self == before, "a refused call changed a byte");
+        }
+        result
+    }
+}

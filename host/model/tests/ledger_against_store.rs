@@ -1,0 +1,109 @@
+//! Demand 3 on random lists: from format on, the byte store and the ledger give the
+//! same answers, MFNs and fields; NXTMFN and the end are the ledger's; the store
+//! stays sound; and after the list every field of every MFN is shown in both views.
+
+use model::call::{Call, Outcome, on_bytes, on_ledger};
+use model::layout::Control;
+use model::lists::{self, Taste};
+use model::random::Random;
+use model::{Ledger, sound};
+use std::collections::BTreeSet;
+
+/// One list on a store of so many blocks; gives the (call, answer) pairs that came.
+fn run(seed: u64, blocks: (usize, usize), taste: Taste, calls: usize) -> BTreeSet<(u8, u32)> {
+    let mut random = Random::new(seed);
+    let (mut mst, mut xrf) = (vec![0; blocks.0 * 512], vec![0; blocks.1 * 512]);
+    random.fill(&mut mst);
+    random.fill(&mut xrf);
+    let mut ledger = Ledger::new(mst.len(), xrf.len()).unwrap();
+    on_bytes(&mut mst, &mut xrf, &Call::Format);
+    let mut came = BTreeSet::new();
+    for i in 0..calls {
+        let call = lists::call(&mut random, taste, ledger.next_mfn());
+        let (outcome, _) = on_bytes(&mut mst, &mut xrf, &call);
+        let wanted: Outcome = on_ledger(&mut ledger, &call);
+        assert_eq!(outcome, wanted, "seed {seed}, call {i}: {call:?}");
+        let control = Control::read(&mst, xrf.len()).unwrap();
+        assert_eq!(control.next_mfn, ledger.next_mfn(), "seed {seed}, call {i}");
+        assert_eq!(control.end, ledger.end(), "seed {seed}, call {i}");
+        assert!(sound::is_sound(&mst, &xrf), "seed {seed}, call {i}");
+        came.insert((kind(&call), outcome.number));
+    }
+    every_field_is_shown(seed, &mut mst, &mut xrf, &mut ledger);
+    came
+}
+
+/// Both views of every MFN, for every tag and occurrence that its drafts could have.
+fn every_field_is_shown(seed: u64, mst: &mut [u8], xrf: &mut [u8], ledger: &mut Ledger) {
+    for mfn in 1..ledger.next_mfn() as u32 {
+        for tag in [1, 24, 70, 32_767] {
+            for occurrence in 1..4 {
+                for call in [
+                    Call::View {
+                        mfn,
+                        tag,
+                        occurrence,
+                    },
+                    Call::ViewSettled {
+                        mfn,
+                        tag,
+                        occurrence,
+                    },
+                ] {
+                    let (outcome, _) = on_bytes(mst, xrf, &call);
+                    assert_eq!(outcome, on_ledger(ledger, &call), "seed {seed}: {call:?}");
+                }
+            }
+        }
+    }
+}
+
+fn kind(call: &Call) -> u8 {
+    match call {
+        Call::Format => 0,
+        Call::View { .. } => 1,
+        Call::ViewSettled { .. } => 2,
+        Call::Create(_) => 3,
+        Call::Update(..) => 4,
+        Call::Delete(_) => 5,
+        Call::Settle(_) => 6,
+        Call::Revert(_) => 7,
+        Call::Check => 8,
+    }
+}
+
+/// Every answer that a list from format can give, by call, in the order of `kind`.
+const WANTED: [(u8, &[u32]); 9] = [
+    (0, &[0]),
+    (1, &[0, 4, 9, 12]),
+    (2, &[0, 4, 9, 11, 12]),
+    (3, &[0, 3, 5, 13]),
+    (4, &[0, 3, 4, 9, 13]),
+    (5, &[0, 4, 9, 13]),
+    (6, &[0, 4, 10]),
+    (7, &[0, 4, 10, 11]),
+    (8, &[0]),
+];
+
+#[test]
+fn random_lists_agree_and_every_answer_comes() {
+    let mut came = BTreeSet::new();
+    for seed in 0..40 {
+        came.extend(run(seed, (12, 1), Taste::SHORT, 400));
+        came.extend(run(seed + 1000, (2, 1), Taste::SHORT, 120));
+        came.extend(run(seed + 2000, (40, 2), Taste::LONG, 200));
+    }
+    came.extend(run(3000, (400, 1), Taste::SHORT, 2_500));
+    let wanted: BTreeSet<(u8, u32)> = WANTED
+        .iter()
+        .flat_map(|(kind, numbers)| numbers.iter().map(|number| (*kind, *number)))
+        .collect();
+    assert_eq!(came, wanted);
+}
+
+#[test]
+fn a_longest_store_of_long_records_agrees() {
+    for seed in 0..4 {
+        run(4000 + seed, (700, 1), Taste::LONG, 400);
+    }
+}
