@@ -1,0 +1,166 @@
+-- On a sound store each call's answer is the ledger's. Row by row the two tables ask the same: 2, 6 and 8 never apply, and the other rows
+-- read the same of the bytes and of the ledger.
+use Prim.Native.Nat.{ℕ, _+_}
+use mathlib.Core.Path.{_≡_, refl, sym, ap, _∙_}
+use mathlib.Core.Bool.{Bool, true, false, not, _&&_, _||_, cond}
+use mathlib.Core.List.{List, [], _∷_}
+use lib.Dec.{eqb, ltb}
+use lib.ListN.{length}
+use Rattle.layout.specs.Sizes.{capacityOf}
+use Rattle.layout.specs.CrossReference.{xrfBlock, headRight, slotFree}
+use Rattle.layout.specs.Control.{nextOf, endOf}
+use Rattle.layout.specs.declared.entry.Mark.{Mark}
+use Rattle.layout.specs.declared.entry.Mark.the-variants.{Settled, Changed, New}
+use Rattle.layout.specs.declared.entry.Place.{Place}
+use Rattle.layout.specs.declared.entry.Entry.{Entry}
+use Rattle.layout.specs.declared.entry.Entry.the-variants.{Gone, Malformed, At}
+use Rattle.layout.specs.declared.leader.Leader.{Leader}
+use Rattle.record.specs.Fields.{Field, fieldsOf, fieldNamed, findOf}
+use Rattle.record.specs.Draft.{draftRight, draftFields}
+use Rattle.record.specs.Bytes.{needFor}
+use Rattle.store.specs.Reading.{lengthsPermitted, controlFine, mfnKnown, entryFor, isSettled, isChanged, isNew, recordAt, leaderAt, recordFine, settledRecord, versionFine, shownSettled, currentFields}
+use Rattle.store.specs.Refusals.{exceeds, isMissing, formatAnswer, viewAnswer, settledViewAnswer, createAnswer, updateAppends, updateAnswer, deleteAnswer, settleAnswer, revertAnswer}
+use Rattle.store.specs.declared.answer.Answer.{Answer}
+use Rattle.store.specs.declared.answer.Answer.the-variants.{Done, BadDraft, Full, BadEntry, NoRoom}
+use Rattle.soundness.specs.Sound.{bodySound, checkAnswer}
+use Rattle.ledger.specs.Ledger.{Standing, settled, new, changed, Item, gone, held, Ledger, itemOf, isSettledMark, isNewMark, lengthKept, settledFields, isNone, overfull, lengthsFine, mfnIn, appends, nextMfn, formatNumber, viewNumber, settledViewNumber, createNumber, updateNumber, deleteNumber, settleNumber, revertNumber, checkNumber}
+use Rattle.ledger.specs.StoreRun.{Store}
+use Rattle.ledger.specs.LedgerOf.{standingAt, itemFor, itemAt, ledgerOf}
+use Rattle.ledger.proofs.Reading.{Opened, Seen, absent, physically, present, next-is, lengths-are, mfn-is, item-is}
+use Rattle.ledger.proofs.Showing.{missing-is}
+
+-- the mark of the bytes and of the ledger
+pub settled-mark : (mst : List ℕ) (p : Place) (k : Mark) → isSettledMark (standingAt mst p k) ≡ isSettled k
+settled-mark mst p Settled = refl
+settled-mark mst p Changed = refl
+settled-mark mst p New = refl
+
+pub new-mark : (mst : List ℕ) (p : Place) (k : Mark) → isNewMark (standingAt mst p k) ≡ isNew k
+new-mark mst p Settled = refl
+new-mark mst p Changed = refl
+new-mark mst p New = refl
+
+-- an update is appended, by the bytes and by the ledger
+pub appends-is : (mst : List ℕ) (p : Place) (k : Mark) (need : ℕ) → appends (standingAt mst p k) need ≡ (isSettled k || ltb (leaderAt mst p .mfrl) need)
+unfolding appends
+appends-is mst p Settled need = refl
+appends-is mst p Changed need = refl
+appends-is mst p New need = refl
+
+-- the fields that the settled view reads
+pub settled-fields : (mst : List ℕ) (p : Place) (k : Mark)
+    → settledFields (currentFields mst p) (standingAt mst p k) ≡ fieldsOf (cond (isChanged k) (settledRecord mst p) (recordAt mst p))
+settled-fields mst p Settled = refl
+settled-fields mst p Changed = refl
+settled-fields mst p New = refl
+
+module _ (s : Store) (o : Opened s) where
+  -- the item of an MFN that is there
+  pub item-at : (m : ℕ) (p : Place) → mfnKnown (s .mst) m ≡ true → entryFor (s .mst) (s .xrf) m ≡ At p
+      → itemOf (ledgerOf s) m ≡ held (currentFields (s .mst) p) (p .deleted) (standingAt (s .mst) p (p .mark))
+  item-at m p k e = item-is s o m k ∙ ap (itemFor (s .mst)) e
+
+  pub item-gone : (m : ℕ) → mfnKnown (s .mst) m ≡ true → entryFor (s .mst) (s .xrf) m ≡ Gone → itemOf (ledgerOf s) m ≡ gone
+  item-gone m k e = item-is s o m k ∙ ap (itemFor (s .mst)) e
+
+  pub room-is : (need : ℕ) → overfull (ledgerOf s) need ≡ exceeds (s .mst) need
+  unfolding overfull exceeds ledgerOf
+  room-is need = refl
+
+  pub xrf-is : ledgerOf s .xrfLength ≡ length (s .xrf)
+  unfolding ledgerOf
+  xrf-is = refl
+
+  pub format-answer : formatAnswer (s .mst) (s .xrf) ≡ formatNumber (ledgerOf s)
+  unfolding formatAnswer formatNumber
+  format-answer = rw (o .lengths, lengths-are s o)
+
+  pub view-answer : (m tag occ : ℕ) → Seen s m → viewAnswer (s .mst) (s .xrf) m tag occ ≡ viewNumber (ledgerOf s) m tag occ
+  unfolding viewAnswer viewNumber
+  view-answer m tag occ (absent k) = rw (o .lengths, o .control, lengths-are s o, mfn-is s o m, k)
+  view-answer m tag occ (physically k e) = rw (o .lengths, o .control, lengths-are s o, mfn-is s o m, k, e, item-gone m k e)
+  view-answer m tag occ (present p k e f v) =
+      rw (o .lengths, o .control, lengths-are s o, mfn-is s o m, k, e, f, item-at m p k e, missing-is (recordAt (s .mst) p) tag occ)
+
+  pub settled-view-answer : (m tag occ : ℕ) → Seen s m → settledViewAnswer (s .mst) (s .xrf) m tag occ ≡ settledViewNumber (ledgerOf s) m tag occ
+  unfolding settledViewAnswer settledViewNumber
+  settled-view-answer m tag occ (absent k) = rw (o .lengths, o .control, lengths-are s o, mfn-is s o m, k)
+  settled-view-answer m tag occ (physically k e) = rw (o .lengths, o .control, lengths-are s o, mfn-is s o m, k, e, item-gone m k e)
+  settled-view-answer m tag occ (present p k e f v) =
+      rw (
+        o .lengths,
+        o .control,
+        lengths-are s o,
+        mfn-is s o m,
+        k,
+        e,
+        f,
+        v,
+        item-at m p k e,
+        settled-mark (s .mst) p (p .mark),
+        new-mark (s .mst) p (p .mark),
+        settled-fields (s .mst) p (p .mark),
+        missing-is (shownSettled (s .mst) p) tag occ,
+      )
+
+  pub update-answer : (m : ℕ) (tags lens bytes : List ℕ) → Seen s m → updateAnswer (s .mst) (s .xrf) m tags lens bytes ≡ updateNumber (ledgerOf s) m tags lens bytes
+  unfolding updateAnswer updateNumber updateAppends
+  update-answer m tags lens bytes (absent k) = rw (o .lengths, o .control, lengths-are s o, mfn-is s o m, k)
+  update-answer m tags lens bytes (physically k e) = rw (o .lengths, o .control, lengths-are s o, mfn-is s o m, k, e, item-gone m k e)
+  update-answer m tags lens bytes (present p k e f v) =
+      rw (
+        o .lengths,
+        o .control,
+        lengths-are s o,
+        mfn-is s o m,
+        k,
+        e,
+        f,
+        item-at m p k e,
+        appends-is (s .mst) p (p .mark) (needFor (draftFields tags lens bytes)),
+        room-is (needFor (draftFields tags lens bytes)),
+      )
+
+  pub delete-answer : (m : ℕ) → Seen s m → deleteAnswer (s .mst) (s .xrf) m ≡ deleteNumber (ledgerOf s) m
+  unfolding deleteAnswer deleteNumber
+  delete-answer m (absent k) = rw (o .lengths, o .control, lengths-are s o, mfn-is s o m, k)
+  delete-answer m (physically k e) = rw (o .lengths, o .control, lengths-are s o, mfn-is s o m, k, e, item-gone m k e)
+  delete-answer m (present p k e f v) =
+      rw
+      (o .lengths, o .control, lengths-are s o, mfn-is s o m, k, e, f, item-at m p k e, settled-mark (s .mst) p (p .mark), room-is (needFor (currentFields (s .mst) p)))
+
+  pub settle-answer : (m : ℕ) → Seen s m → settleAnswer (s .mst) (s .xrf) m ≡ settleNumber (ledgerOf s) m
+  unfolding settleAnswer settleNumber
+  settle-answer m (absent k) = rw (o .lengths, o .control, lengths-are s o, mfn-is s o m, k)
+  settle-answer m (physically k e) = rw (o .lengths, o .control, lengths-are s o, mfn-is s o m, k, e, item-gone m k e)
+  settle-answer m (present p k e f v) =
+      rw (o .lengths, o .control, lengths-are s o, mfn-is s o m, k, e, f, item-at m p k e, settled-mark (s .mst) p (p .mark))
+
+  pub revert-answer : (m : ℕ) → Seen s m → revertAnswer (s .mst) (s .xrf) m ≡ revertNumber (ledgerOf s) m
+  unfolding revertAnswer revertNumber
+  revert-answer m (absent k) = rw (o .lengths, o .control, lengths-are s o, mfn-is s o m, k)
+  revert-answer m (physically k e) = rw (o .lengths, o .control, lengths-are s o, mfn-is s o m, k, e, item-gone m k e)
+  revert-answer m (present p k e f v) =
+      rw
+      (o .lengths, o .control, lengths-are s o, mfn-is s o m, k, e, f, v, item-at m p k e, settled-mark (s .mst) p (p .mark), new-mark (s .mst) p (p .mark))
+
+  -- create, whose row 6 does not apply below the capacity
+  pub create-answer : (tags lens bytes : List ℕ)
+      → (eqb (nextOf (s .mst)) (capacityOf (length (s .xrf)) + 1) ≡ false → (headRight (s .xrf) (xrfBlock (nextOf (s .mst))) && slotFree (s .xrf) (nextOf (s .mst))) ≡ true)
+      → createAnswer (s .mst) (s .xrf) tags lens bytes ≡ createNumber (ledgerOf s) tags lens bytes
+  unfolding createAnswer createNumber
+  create-answer tags lens bytes free =
+      rw (o .lengths, o .control, lengths-are s o, room-is (needFor (draftFields tags lens bytes)), next-is s o, xrf-is)
+      (go (eqb (nextOf (s .mst)) (capacityOf (length (s .xrf)) + 1)) free)
+    where
+      go : (full : Bool) → (full ≡ false → (headRight (s .xrf) (xrfBlock (nextOf (s .mst))) && slotFree (s .xrf) (nextOf (s .mst))) ≡ true)
+          → cond (not (draftRight tags lens bytes)) BadDraft
+          (cond full Full (cond (not (headRight (s .xrf) (xrfBlock (nextOf (s .mst))) && slotFree (s .xrf) (nextOf (s .mst)))) BadEntry
+          (cond (exceeds (s .mst) (needFor (draftFields tags lens bytes))) NoRoom Done)))
+          ≡ cond (not (draftRight tags lens bytes)) BadDraft (cond full Full (cond (exceeds (s .mst) (needFor (draftFields tags lens bytes))) NoRoom Done))
+      go true f = refl
+      go false f = rw (f refl)
+
+  pub check-answer : bodySound (s .mst) (s .xrf) ≡ true → checkAnswer (s .mst) (s .xrf) ≡ checkNumber (ledgerOf s)
+  unfolding checkAnswer checkNumber
+  check-answer b = rw (o .lengths, o .control, lengths-are s o, b)

@@ -1,0 +1,93 @@
+-- The ledger of a store after a call that is done: every other MFN's item is as it was, so the list of items is set at that MFN, or is one
+-- longer where the MFN is new.
+use Prim.Native.Nat.{ℕ, suc, _+_, _-_, _≤_, _<_}
+use native.Mathlib.Omega.{arith}
+use mathlib.Core.Path.{_≡_, refl, sym, ap, _∙_}
+use mathlib.Core.List.{List, [], _∷_, _++_}
+use lib.ListN.{length, set}
+use Rattle.layout.specs.Control.{nextOf, endOf}
+use Rattle.layout.specs.declared.entry.Mark.{Mark}
+use Rattle.layout.specs.declared.entry.Mark.the-variants.{Settled, Changed, New}
+use Rattle.layout.specs.declared.entry.Place.{Place}
+use Rattle.layout.specs.declared.entry.Entry.{Entry}
+use Rattle.layout.specs.declared.entry.Entry.the-variants.{Gone, Malformed, At}
+use Rattle.record.specs.Fields.{Field}
+use Rattle.store.specs.Reading.{entryFor}
+use Rattle.soundness.proofs.Standing.{Sound, EntryStands, is-gone, is-at}
+use Rattle.soundness.proofs.Moves.{SameReading}
+use Rattle.soundness.proofs.Writes.{Leaves}
+use Rattle.ledger.specs.Ledger.{Standing, settled, new, changed, Item, held, Ledger, withItemAt}
+use Rattle.ledger.specs.StoreRun.{Store}
+use Rattle.ledger.specs.LedgerOf.{standingAt, itemFor, itemAt, tabulate, ledgerOf}
+use Rattle.ledger.proofs.Items.{tabulate-same, tabulate-set}
+
+-- the mark with a record length and settled fields
+abbrev pub standingFor : Mark → ℕ → List Field → Standing
+standingFor Settled n old = settled
+standingFor Changed n old = changed n old
+standingFor New n old = new n
+
+-- a mark that is read the same
+standing-same : (mst mst′ : List ℕ) (p : Place) → SameReading mst mst′ p → (k : Mark) → p .mark ≡ k → standingAt mst′ p k ≡ standingAt mst p k
+standing-same mst mst′ p r Settled e = refl
+standing-same mst mst′ p r Changed e = rw (r .settled e .fields, r .leader)
+standing-same mst mst′ p r New e = rw (r .leader)
+
+item-same : (mst mst′ : List ℕ) (p : Place) → SameReading mst mst′ p → itemFor mst′ (At p) ≡ itemFor mst (At p)
+item-same mst mst′ p r = rw (r .fields, standing-same mst mst′ p r (p .mark) refl)
+
+module _ {mst xrf mst′ xrf′ : List ℕ} {m end next : ℕ} {p : Place} {mfrl : ℕ} {fs old : List Field} (s : Sound mst xrf)
+    (l : Leaves mst xrf mst′ xrf′ m end next p mfrl fs old) where
+  item-kept : (o : ℕ) → (o ≡ m → ⊥) → 1 ≤ o → o < nextOf mst → itemAt mst′ xrf′ o ≡ itemAt mst xrf o
+  item-kept o ne low high = ap (itemFor mst′) (l .others o ne low high) ∙ go (s .entries o low high)
+    where
+      go : EntryStands mst xrf o → itemFor mst′ (entryFor mst xrf o) ≡ itemFor mst (entryFor mst xrf o)
+      go (is-gone e) = rw e
+      go (is-at q e f) = rw e (item-same mst mst′ q (l .same o q ne low high e))
+
+  -- the item of m
+  own-standing : (k : Mark) → p .mark ≡ k → standingAt mst′ p k ≡ standingFor k mfrl old
+  own-standing Settled e = refl
+  own-standing Changed e = rw (l .settled-fields e, l .record-length)
+  own-standing New e = rw (l .record-length)
+
+  own-item : itemAt mst′ xrf′ m ≡ held fs (p .deleted) (standingFor (p .mark) mfrl old)
+  own-item = ap (itemFor mst′) (l .entry) ∙ rw (l .fields, own-standing (p .mark) refl)
+
+  -- an MFN that was there
+  pub ledger-set : next ≡ nextOf mst → 1 ≤ m → m < nextOf mst
+      → ledgerOf (record { mst = mst′; xrf = xrf′ }) ≡ withItemAt (ledgerOf (record { mst = mst; xrf = xrf })) m (held fs (p .deleted) (standingFor (p .mark) mfrl old)) end
+  unfolding ledgerOf
+  ledger-set e low high =
+      let same : nextOf mst′ ≡ nextOf mst = l .next-is ∙ e in
+      rw (
+        l .mst-long,
+        l .xrf-long,
+        l .end-is,
+        same,
+        tabulate-set (nextOf mst - 1) (itemAt mst xrf) (itemAt mst′ xrf′) m (held fs (p .deleted) (standingFor (p .mark) mfrl old)) low (omega arith) own-item
+            (λ k lo hi ne. item-kept k ne lo (omega arith)),
+      )
+
+  -- a new MFN
+  items-more : 1 ≤ nextOf mst → nextOf mst′ ≡ nextOf mst + 1 → m ≡ nextOf mst
+      → tabulate (nextOf mst′ - 1) (itemAt mst′ xrf′) ≡ tabulate (nextOf mst - 1) (itemAt mst xrf) ++ (held fs (p .deleted) (standingFor (p .mark) mfrl old) ∷ [])
+  unfolding tabulate
+  items-more low e fresh =
+      let k : nextOf mst′ - 1 ≡ suc (nextOf mst - 1) = omega arith in
+      let q : suc (nextOf mst - 1) ≡ m = omega arith in
+      rw k
+      (ap (λ (is : List Item). is ++ (itemAt mst′ xrf′ (suc (nextOf mst - 1)) ∷ []))
+      (tabulate-same (nextOf mst - 1) (itemAt mst′ xrf′) (itemAt mst xrf) (λ o lo hi. item-kept o (λ z. omega arith) lo (omega arith)))
+      ∙ ap (λ (j : Item). tabulate (nextOf mst - 1) (itemAt mst xrf) ++ (j ∷ [])) (ap (itemAt mst′ xrf′) q ∙ own-item))
+
+  pub ledger-more : 1 ≤ nextOf mst → next ≡ nextOf mst + 1 → m ≡ nextOf mst
+      → ledgerOf (record { mst = mst′; xrf = xrf′ })
+      ≡ record {
+        mstLength = length mst;
+        xrfLength = length xrf;
+        end = end;
+        items = tabulate (nextOf mst - 1) (itemAt mst xrf) ++ (held fs (p .deleted) (standingFor (p .mark) mfrl old) ∷ []);
+      }
+  unfolding ledgerOf
+  ledger-more low e fresh = rw (l .mst-long, l .xrf-long, l .end-is, items-more low (l .next-is ∙ e) fresh)

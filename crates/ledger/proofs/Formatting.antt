@@ -1,0 +1,65 @@
+-- Format makes any two buffers of permitted length a sound store whose ledger is empty, whatever they held.
+use Prim.Native.Nat.{ℕ}
+use mathlib.Core.Path.{_≡_}
+use mathlib.Core.Bool.{true}
+use mathlib.Core.List.{List}
+use lib.ListN.{length}
+use Rattle.layout.specs.Sizes.{mstPermitted, xrfPermitted}
+use Rattle.layout.specs.CrossReference.{formattedXrf}
+use Rattle.layout.specs.Control.{nextOf, endOf, formattedMst}
+use Rattle.layout.proofs.ControlRecord.{formatted-length, formatted-next, formatted-end}
+use Rattle.layout.proofs.CrossReference.{formatted-xrf-length}
+use Rattle.store.specs.Reading.{lengthsPermitted}
+use Rattle.store.specs.Refusals.{formatAnswer}
+use Rattle.store.specs.Calls.{formatMst, formatXrf}
+use Rattle.store.specs.declared.answer.Answer.the-variants.{Done}
+use Rattle.store.proofs.Gates.{lengths-both, after-done}
+use Rattle.soundness.proofs.Standing.{sound}
+use Rattle.soundness.proofs.Writes.{format-sound}
+use Rattle.ledger.specs.Call.{format}
+use Rattle.ledger.specs.Ledger.{Ledger, empty}
+use Rattle.ledger.specs.StoreRun.{Store, nextS}
+use Rattle.ledger.specs.LedgerOf.{tabulate, ledgerOf, SoundStore}
+
+-- a store just formatted
+abbrev pub formatted : List ℕ → List ℕ → Store
+formatted mst xrf = record { mst = formattedMst (length mst); xrf = formattedXrf (length xrf) }
+
+module _ (mst xrf : List ℕ) (h : lengthsPermitted mst xrf ≡ true) where
+  mst-fits : mstPermitted (length mst) ≡ true
+  mst-fits = lengths-both mst xrf h .0
+
+  xrf-fits : xrfPermitted (length xrf) ≡ true
+  xrf-fits = lengths-both mst xrf h .1
+
+  mst-long : length (formattedMst (length mst)) ≡ length mst
+  mst-long = formatted-length (length mst) mst-fits
+
+  xrf-long : length (formattedXrf (length xrf)) ≡ length xrf
+  xrf-long = formatted-xrf-length (length xrf) xrf-fits
+
+  first-next : nextOf (formattedMst (length mst)) ≡ 1
+  first-next = formatted-next (length mst) mst-fits
+
+  first-end : endOf (formattedMst (length mst)) ≡ 64
+  first-end = formatted-end (length mst) mst-fits
+
+  pub formatted-sound : SoundStore (formatted mst xrf)
+  formatted-sound = sound (formattedMst (length mst)) (formattedXrf (length xrf)) (format-sound mst xrf h)
+
+  pub formatted-ledger : ledgerOf (formatted mst xrf) ≡ empty (length mst) (length xrf)
+  unfolding ledgerOf empty tabulate
+  formatted-ledger = rw (first-next, first-end, mst-long, xrf-long)
+
+  format-done : formatAnswer mst xrf ≡ Done
+  unfolding formatAnswer
+  format-done = rw h
+
+  -- what a format that is done leaves
+  pub format-leaves : nextS (record { mst = mst; xrf = xrf }) format ≡ formatted mst xrf
+  unfolding nextS formatMst formatXrf
+  format-leaves =
+      rw (
+        after-done (formatAnswer mst xrf) (formattedMst (length mst)) mst format-done,
+        after-done (formatAnswer mst xrf) (formattedXrf (length xrf)) xrf format-done,
+      )

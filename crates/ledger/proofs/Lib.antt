@@ -1,0 +1,16 @@
+pub mod Items
+pub mod Lists
+pub mod Reading
+pub mod Showing
+pub mod Answering
+pub mod Viewing
+pub mod Formatting
+pub mod Changing
+pub mod Creating
+pub mod Either
+pub mod Asked
+pub mod Versions
+pub mod Theorem
+pub mod Corollaries
+pub mod Others
+pub mod Never

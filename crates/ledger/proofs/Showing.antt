@@ -1,0 +1,34 @@
+-- What a search in a right record shows is what its list of fields names.
+use Prim.Native.Nat.{ℕ, _+_}
+use mathlib.Core.Path.{_≡_, refl, sym, ap, _∙_}
+use mathlib.Core.Bool.{Bool, true, false}
+use mathlib.Core.List.{List}
+use mathlib.Core.Option.{Option, some, none}
+use Rattle.word.specs.Place.{part}
+use Rattle.layout.specs.declared.leader.Leader.{Leader}
+use Rattle.record.specs.Fields.{Field, fieldsOf, fieldNamed, findOf, foundBytes}
+use Rattle.record.specs.declared.fields.Found.{Found}
+use Rattle.record.specs.declared.fields.Found.the-variants.{At, Missing}
+use Rattle.record.proofs.Local.{ReadsAs}
+use Rattle.record.proofs.Search.{find-field-is}
+use Rattle.record.proofs.Find.{reads-found, reads-missing}
+use Rattle.store.specs.Refusals.{isMissing}
+use Rattle.store.specs.Calls.{foundStart, foundLength}
+use Rattle.ledger.specs.Ledger.{isNone, bytesOf}
+
+missing-found : (rec : List ℕ) (f : Found) → isMissing f ≡ isNone (foundBytes rec f)
+missing-found rec (At start len) = refl
+missing-found rec Missing = refl
+
+-- a field that is not found is not among the fields
+pub missing-is : (rec : List ℕ) (tag occ : ℕ) → isMissing (findOf rec tag occ) ≡ isNone (fieldNamed (fieldsOf rec) tag occ)
+missing-is rec tag occ = missing-found rec (findOf rec tag occ) ∙ ap isNone (find-field-is rec tag occ)
+
+-- a view that is done shows the field's bytes
+pub shown-done : (d : List ℕ) (at n : ℕ) {m : ℕ} {deleted : Bool} {l : Leader} {fs : List Field} → ReadsAs (part d at n) m deleted l fs → (tag occ : ℕ)
+    → part d (at + foundStart (findOf (part d at n) tag occ)) (foundLength (findOf (part d at n) tag occ)) ≡ bytesOf (fieldNamed fs tag occ)
+shown-done d at n {fs = fs} r tag occ = go (findOf (part d at n) tag occ) refl
+  where
+    go : (f : Found) → findOf (part d at n) tag occ ≡ f → part d (at + foundStart f) (foundLength f) ≡ bytesOf (fieldNamed fs tag occ)
+    go (At start len) e = rw (reads-found d at n r tag occ start len e)
+    go Missing e = rw (reads-missing r tag occ e)
