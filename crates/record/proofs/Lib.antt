@@ -9,3 +9,6 @@ pub mod Draftable
 pub mod Trip
 pub mod DraftFields
 pub mod Writing
+pub mod Walking
+pub mod Held
+pub mod TakenApart

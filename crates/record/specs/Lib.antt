@@ -3,3 +3,4 @@ pub mod Fields
 pub mod Record
 pub mod Draft
 pub mod Bytes
+pub mod Walker

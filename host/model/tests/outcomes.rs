@@ -1,4 +1,4 @@
-//! The program `crates/outcomes` must print what the model prints, and that is the
+//! What the model prints of the outcomes is kept beside the example, and that is the
 //! paper's worked run and each answer that each call can give.
 
 #[path = "../examples/outcomes/script/mod.rs"]
@@ -6,8 +6,8 @@ mod script;
 
 use std::collections::BTreeSet;
 
-/// What the gate holds the program to.
-const EXPECTED: &str = include_str!("../../../crates/outcomes/stdout");
+/// The outcomes, line by line.
+const EXPECTED: &str = include_str!("../examples/outcomes/expected.txt");
 
 /// The calls and the answers that the paper's table gives to each.
 const ANSWERS: [(&str, &[u32]); 9] = [
@@ -31,7 +31,7 @@ fn answer(line: &str, call: &str) -> Option<u32> {
 }
 
 #[test]
-fn the_model_prints_what_the_program_must_print() {
+fn the_model_prints_the_outcomes() {
     let lines = script::lines();
     for (n, (model, wanted)) in lines.lines().zip(EXPECTED.lines()).enumerate() {
         assert_eq!(model, wanted, "line {}", n + 1);

@@ -1,5 +1,5 @@
 //! Prints what the program `crates/outcomes` must print, as the model has it:
-//! `cargo run --example outcomes > ../../crates/outcomes/stdout`.
+//! `cargo run --example outcomes > examples/outcomes/expected.txt`.
 
 mod script;
 
