@@ -4,6 +4,13 @@
 #[path = "../examples/outcomes/script/mod.rs"]
 mod script;
 
+/// What the lines are made on: the model.
+mod subject {
+    pub use model::store::{
+        Answer, check, create, delete, format, revert, settle, update, view, view_settled,
+    };
+}
+
 use std::collections::BTreeSet;
 
 /// The outcomes, line by line.

@@ -1,7 +1,14 @@
-//! Prints what the program `crates/outcomes` must print, as the model has it:
+//! Prints every outcome as the model has it:
 //! `cargo run --example outcomes > examples/outcomes/expected.txt`.
 
 mod script;
+
+/// What the lines are made on: the model.
+mod subject {
+    pub use model::store::{
+        Answer, check, create, delete, format, revert, settle, update, view, view_settled,
+    };
+}
 
 fn main() {
     print!("{}", script::lines());

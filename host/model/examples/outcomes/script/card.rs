@@ -1,7 +1,8 @@
 //! Two buffers, the steps on them, and the lines that the steps write.
 
+use crate::subject as store;
 use model::answer::number;
-use model::{Draft, OwnedDraft, Refusal, store};
+use model::{Draft, OwnedDraft, Refusal};
 use std::fmt::Write;
 
 /// The buffers and what was written so far.

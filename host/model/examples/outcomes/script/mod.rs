@@ -1,6 +1,7 @@
-//! The worked run of the paper and every outcome of every call, on the model: each
-//! situation is made by the model's calls and by changing bytes, and each step is
-//! one line. The program `crates/outcomes` does the same on the library.
+//! The worked run of the paper and every outcome of every call: each situation is
+//! made by calls and by changing bytes, and each step is one line. The calls are
+//! those of `crate::subject`: the model's in this crate, the archive's in
+//! `differential`, which must print the same lines.
 
 pub mod card;
 mod limits;

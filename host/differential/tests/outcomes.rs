@@ -1,0 +1,129 @@
+//! The worked run of the paper and every outcome of every call, through the archive:
+//! the lines must be those that the model gives.
+
+#[path = "../../model/examples/outcomes/script/mod.rs"]
+mod script;
+
+/// What the lines are made on: the archive of the proved library.
+mod subject {
+    use differential::archive::{Archive, Given, Subject};
+    use differential::guarded::Side;
+    use model::call::{Call, OwnedDraft};
+    use model::{Draft, Refusal};
+    use std::ops::Range;
+
+    pub type Answer<T> = Result<T, Refusal>;
+
+    const REFUSALS: [Refusal; 14] = [
+        Refusal::Length,
+        Refusal::Control,
+        Refusal::Draft,
+        Refusal::Mfn,
+        Refusal::Full,
+        Refusal::Entry,
+        Refusal::Gone,
+        Refusal::Record,
+        Refusal::Deleted,
+        Refusal::NotPending,
+        Refusal::New,
+        Refusal::NoField,
+        Refusal::NoRoom,
+        Refusal::NotSound,
+    ];
+
+    fn run(mst: &mut [u8], xrf: &mut [u8], call: Call) -> Answer<Given> {
+        let given = Archive::new().run(mst, xrf, &call, Side::Back);
+        match given.number {
+            0 => Ok(given),
+            number => Err(REFUSALS[number as usize - 1]),
+        }
+    }
+
+    fn read(mst: &[u8], xrf: &[u8], call: Call) -> Answer<Given> {
+        let (mut own_mst, mut own_xrf) = (mst.to_vec(), xrf.to_vec());
+        let given = run(&mut own_mst, &mut own_xrf, call);
+        assert!(
+            own_mst == mst && own_xrf == xrf,
+            "a reading call changed a byte"
+        );
+        given
+    }
+
+    fn owned(draft: &Draft) -> OwnedDraft {
+        OwnedDraft {
+            tags: draft.tags.to_vec(),
+            lens: draft.lens.to_vec(),
+            data: draft.data.to_vec(),
+        }
+    }
+
+    pub fn format(mst: &mut [u8], xrf: &mut [u8]) -> Answer<()> {
+        run(mst, xrf, Call::Format).map(drop)
+    }
+
+    pub fn view(
+        mst: &[u8],
+        xrf: &[u8],
+        mfn: u32,
+        tag: u16,
+        occurrence: u32,
+    ) -> Answer<Range<usize>> {
+        let call = Call::View {
+            mfn,
+            tag,
+            occurrence,
+        };
+        read(mst, xrf, call).map(|given| given.part)
+    }
+
+    pub fn view_settled(
+        mst: &[u8],
+        xrf: &[u8],
+        mfn: u32,
+        tag: u16,
+        occurrence: u32,
+    ) -> Answer<Range<usize>> {
+        let call = Call::ViewSettled {
+            mfn,
+            tag,
+            occurrence,
+        };
+        read(mst, xrf, call).map(|given| given.part)
+    }
+
+    pub fn create(mst: &mut [u8], xrf: &mut [u8], draft: &Draft) -> Answer<u32> {
+        run(mst, xrf, Call::Create(owned(draft))).map(|given| given.mfn)
+    }
+
+    pub fn update(mst: &mut [u8], xrf: &mut [u8], mfn: u32, draft: &Draft) -> Answer<()> {
+        run(mst, xrf, Call::Update(mfn, owned(draft))).map(drop)
+    }
+
+    pub fn delete(mst: &mut [u8], xrf: &mut [u8], mfn: u32) -> Answer<()> {
+        run(mst, xrf, Call::Delete(mfn)).map(drop)
+    }
+
+    pub fn settle(mst: &mut [u8], xrf: &mut [u8], mfn: u32) -> Answer<()> {
+        run(mst, xrf, Call::Settle(mfn)).map(drop)
+    }
+
+    pub fn revert(mst: &mut [u8], xrf: &mut [u8], mfn: u32) -> Answer<()> {
+        run(mst, xrf, Call::Revert(mfn)).map(drop)
+    }
+
+    pub fn check(mst: &[u8], xrf: &[u8]) -> Answer<()> {
+        read(mst, xrf, Call::Check).map(drop)
+    }
+}
+
+/// Every outcome, as the model has it.
+const EXPECTED: &str = include_str!("../../model/examples/outcomes/expected.txt");
+
+#[test]
+fn the_archive_gives_the_outcomes_of_the_model() {
+    let lines = script::lines();
+    for (n, (given, wanted)) in lines.lines().zip(EXPECTED.lines()).enumerate() {
+        assert_eq!(given, wanted, "line {}", n + 1);
+    }
+    assert!(lines == EXPECTED, "one text is longer than the other");
+}
