@@ -1,31 +1,28 @@
 -- On a sound store each call's answer is the ledger's. Row by row the two tables ask the same: 2, 6 and 8 never apply, and the other rows
 -- read the same of the bytes and of the ledger.
 use Prim.Native.Nat.{ℕ, _+_}
-use mathlib.Core.Path.{_≡_, refl, sym, ap, _∙_}
+use mathlib.Core.Path.{_≡_, refl, ap, _∙_}
 use mathlib.Core.Bool.{Bool, true, false, not, _&&_, _||_, cond}
-use mathlib.Core.List.{List, [], _∷_}
+use mathlib.Core.List.{List}
 use lib.Dec.{eqb, ltb}
 use lib.ListN.{length}
 use Rattle.layout.specs.Sizes.{capacityOf}
 use Rattle.layout.specs.CrossReference.{xrfBlock, headRight, slotFree}
-use Rattle.layout.specs.Control.{nextOf, endOf}
+use Rattle.layout.specs.Control.{nextOf}
 use Rattle.layout.specs.declared.entry.Mark.{Mark}
 use Rattle.layout.specs.declared.entry.Mark.the-variants.{Settled, Changed, New}
 use Rattle.layout.specs.declared.entry.Place.{Place}
-use Rattle.layout.specs.declared.entry.Entry.{Entry}
-use Rattle.layout.specs.declared.entry.Entry.the-variants.{Gone, Malformed, At}
-use Rattle.layout.specs.declared.leader.Leader.{Leader}
-use Rattle.record.specs.Fields.{Field, fieldsOf, fieldNamed, findOf}
+use Rattle.layout.specs.declared.entry.Entry.the-variants.{Gone, At}
+use Rattle.record.specs.Fields.{fieldsOf}
 use Rattle.record.specs.Draft.{draftRight, draftFields}
 use Rattle.record.specs.Bytes.{needFor}
-use Rattle.store.specs.Reading.{lengthsPermitted, controlFine, mfnKnown, entryFor, isSettled, isChanged, isNew, recordAt, leaderAt, recordFine, settledRecord, versionFine, shownSettled, currentFields}
-use Rattle.store.specs.Refusals.{exceeds, isMissing, formatAnswer, viewAnswer, settledViewAnswer, createAnswer, updateAppends, updateAnswer, deleteAnswer, settleAnswer, revertAnswer}
-use Rattle.store.specs.declared.answer.Answer.{Answer}
+use Rattle.store.specs.Reading.{mfnKnown, entryFor, isSettled, isChanged, isNew, recordAt, leaderAt, settledRecord, shownSettled, currentFields}
+use Rattle.store.specs.Refusals.{exceeds, formatAnswer, viewAnswer, settledViewAnswer, createAnswer, updateAppends, updateAnswer, deleteAnswer, settleAnswer, revertAnswer}
 use Rattle.store.specs.declared.answer.Answer.the-variants.{Done, BadDraft, Full, BadEntry, NoRoom}
 use Rattle.soundness.specs.Sound.{bodySound, checkAnswer}
-use Rattle.ledger.specs.Ledger.{Standing, settled, new, changed, Item, gone, held, Ledger, itemOf, isSettledMark, isNewMark, lengthKept, settledFields, isNone, overfull, lengthsFine, mfnIn, appends, nextMfn, formatNumber, viewNumber, settledViewNumber, createNumber, updateNumber, deleteNumber, settleNumber, revertNumber, checkNumber}
+use Rattle.ledger.specs.Ledger.{gone, held, itemOf, isSettledMark, isNewMark, settledFields, overfull, appends, formatNumber, viewNumber, settledViewNumber, createNumber, updateNumber, deleteNumber, settleNumber, revertNumber, checkNumber}
 use Rattle.ledger.specs.StoreRun.{Store}
-use Rattle.ledger.specs.LedgerOf.{standingAt, itemFor, itemAt, ledgerOf}
+use Rattle.ledger.specs.LedgerOf.{standingAt, itemFor, ledgerOf}
 use Rattle.ledger.proofs.Reading.{Opened, Seen, absent, physically, present, next-is, lengths-are, mfn-is, item-is}
 use Rattle.ledger.proofs.Showing.{missing-is}
 

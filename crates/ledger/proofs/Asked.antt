@@ -1,24 +1,22 @@
 -- What a call that is done was asked: none of the rows of its table applied.
-use Prim.Native.Nat.{ℕ, _+_, _≤_, _<_}
+use Prim.Native.Nat.{ℕ, _+_, _≤_}
 use native.Mathlib.Omega.{arith}
 use mathlib.Core.Path.{_≡_, refl, sym, ap, _∙_}
-use mathlib.Core.Bool.{Bool, true, false, not, _&&_, _||_, cond}
+use mathlib.Core.Bool.{Bool, true, false, not, _&&_, cond}
 use mathlib.Core.List.{List, [], _∷_}
 use lib.ListN.{length}
 use borrow.Author.Tests.{ltb-false}
-use Rattle.layout.specs.Control.{nextOf, endOf}
+use Rattle.layout.specs.Control.{endOf}
 use Rattle.layout.specs.declared.entry.Mark.{Mark}
 use Rattle.layout.specs.declared.entry.Mark.the-variants.{Settled, Changed, New}
-use Rattle.layout.specs.declared.entry.Place.{Place}
-use Rattle.layout.specs.declared.entry.Entry.{Entry}
-use Rattle.layout.specs.declared.entry.Entry.the-variants.{Gone, Malformed, At}
+use Rattle.layout.specs.declared.entry.Entry.the-variants.{At}
 use Rattle.record.specs.Draft.{draftRight, draftFields}
 use Rattle.record.specs.Bytes.{needFor}
 use Rattle.store.specs.Answer.{Refusal, refuse, lowest, numberOf}
 use Rattle.store.specs.Reading.{mfnKnown, entryFor, placeFor, isGone, isSettled, isNew, leaderAt, currentFields}
-use Rattle.store.specs.Refusals.{gated, named, fine, bothFine, exceeds, updateAppends, updateAnswer, deleteAnswer, settleAnswer, revertAnswer}
+use Rattle.store.specs.Refusals.{named, fine, bothFine, exceeds, updateAppends, updateAnswer, deleteAnswer, settleAnswer, revertAnswer}
 use Rattle.store.specs.declared.answer.Answer.{Answer}
-use Rattle.store.specs.declared.answer.Answer.the-variants.{Done, BadDraft, NoSuchMfn, BadEntry, PhysicallyDeleted, BadRecord, Deleted, NotPending, NeverSettled, NoRoom}
+use Rattle.store.specs.declared.answer.Answer.the-variants.{Done, BadDraft, NoSuchMfn, PhysicallyDeleted, Deleted, NotPending, NeverSettled, NoRoom}
 use Rattle.store.proofs.Gates.{Refusing, done-number}
 use Rattle.soundness.proofs.Standing.{Sound, gated-sound, named-fine, named-both, entry-for-place}
 

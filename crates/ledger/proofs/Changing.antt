@@ -2,22 +2,20 @@
 -- longer where the MFN is new.
 use Prim.Native.Nat.{ℕ, suc, _+_, _-_, _≤_, _<_}
 use native.Mathlib.Omega.{arith}
-use mathlib.Core.Path.{_≡_, refl, sym, ap, _∙_}
+use mathlib.Core.Path.{_≡_, refl, ap, _∙_}
 use mathlib.Core.List.{List, [], _∷_, _++_}
-use lib.ListN.{length, set}
-use Rattle.layout.specs.Control.{nextOf, endOf}
+use lib.ListN.{length}
+use Rattle.layout.specs.Control.{nextOf}
 use Rattle.layout.specs.declared.entry.Mark.{Mark}
 use Rattle.layout.specs.declared.entry.Mark.the-variants.{Settled, Changed, New}
 use Rattle.layout.specs.declared.entry.Place.{Place}
-use Rattle.layout.specs.declared.entry.Entry.{Entry}
-use Rattle.layout.specs.declared.entry.Entry.the-variants.{Gone, Malformed, At}
+use Rattle.layout.specs.declared.entry.Entry.the-variants.{At}
 use Rattle.record.specs.Fields.{Field}
 use Rattle.store.specs.Reading.{entryFor}
 use Rattle.soundness.proofs.Standing.{Sound, EntryStands, is-gone, is-at}
 use Rattle.soundness.proofs.Moves.{SameReading}
 use Rattle.soundness.proofs.Writes.{Leaves}
-use Rattle.ledger.specs.Ledger.{Standing, settled, new, changed, Item, held, Ledger, withItemAt}
-use Rattle.ledger.specs.StoreRun.{Store}
+use Rattle.ledger.specs.Ledger.{Standing, settled, new, changed, Item, held, withItemAt}
 use Rattle.ledger.specs.LedgerOf.{standingAt, itemFor, itemAt, tabulate, ledgerOf}
 use Rattle.ledger.proofs.Items.{tabulate-same, tabulate-set}
 

@@ -1,12 +1,12 @@
 -- What the order says of settled versions and of room, as laws of the ledger. By demand 3 they are laws of every list of calls on the bytes.
-use Prim.Native.Nat.{ℕ, suc, _+_, _-_, _≤_, _<_}
+use Prim.Native.Nat.{ℕ, _+_, _-_, _≤_, _<_}
 use native.Mathlib.Omega.{arith}
 use native.Mathlib.Decide.{ℕ-discrete}
 use mathlib.Core.Path.{_≡_, refl, sym, ap, _∙_}
-use mathlib.Core.Bool.{Bool, true, false, not, _&&_, _||_, cond}
+use mathlib.Core.Bool.{Bool, true, false, not, _&&_, cond}
 use mathlib.Core.List.{List, [], _∷_, _++_}
-use lib.Dec.{eqb, leb, ltb}
-use lib.ListN.{length, getD, set, length-set, length-append, List·getD-append}
+use lib.Dec.{eqb, ltb}
+use lib.ListN.{length, set, length-set, length-append, List·getD-append}
 use lib.Seq.{getD-set-same, getD-set-other}
 use borrow.Author.Tests.{le-leb, lt-ltb, eqb-false}
 use Rattle.record.specs.Fields.{Field, fieldNamed}
@@ -20,7 +20,7 @@ use Rattle.store.specs.declared.answer.Answer.the-variants.{Done, BadLength, Ba
 use Rattle.store.proofs.Gates.{Refusing, number-done, after-done, after-refused}
 use Rattle.ledger.proofs.Asked.{holds, no-draft, no-mfn}
 use Rattle.ledger.specs.Call.{Call, format, view, viewSettled, create, update, delete, settle, revert, check}
-use Rattle.ledger.specs.Ledger.{Standing, settled, new, changed, Item, gone, held, Ledger, nextMfn, itemOf, isSettledMark, isNone, overfull, lengthsFine, mfnIn, appends, changedMark, grown, withItem, withItemAt, created, updated, deleted, settledItem, revertedItem, formatNumber, settledViewNumber, createNumber, updateNumber, deleteNumber, settleNumber, revertNumber, nextL, afterL}
+use Rattle.ledger.specs.Ledger.{settled, new, changed, Item, gone, held, Ledger, nextMfn, itemOf, isSettledMark, isNone, overfull, lengthsFine, mfnIn, appends, changedMark, grown, withItem, withItemAt, created, updated, deleted, settledItem, revertedItem, settledViewNumber, createNumber, updateNumber, deleteNumber, settleNumber, revertNumber, nextL, afterL}
 
 -- MFN m is there, with a change pending over a settled version of these fields
 pub record Pending (L : Ledger) (m : ℕ) (old : List Field) : Type 0 where

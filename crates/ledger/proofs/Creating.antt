@@ -1,9 +1,9 @@
 -- Create on a sound store, beside the ledger's create.
-use Prim.Native.Nat.{ℕ, _+_, _-_, _≤_, _<_}
+use Prim.Native.Nat.{ℕ, _+_, _-_, _≤_}
 use native.Mathlib.Omega.{arith}
-use mathlib.Core.Path.{_≡_, refl, sym, ap, _∙_}
+use mathlib.Core.Path.{_≡_, refl}
 use mathlib.Core.Bool.{Bool, true, false, not, _&&_, cond}
-use mathlib.Core.List.{List, [], _∷_, _++_}
+use mathlib.Core.List.{List, []}
 use lib.Dec.{eqb}
 use lib.ListN.{length}
 use Rattle.layout.specs.Sizes.{capacityOf, endMoved}
@@ -11,19 +11,15 @@ use Rattle.layout.specs.CrossReference.{xrfBlock, headRight, slotFree}
 use Rattle.layout.specs.Control.{nextOf, endOf}
 use borrow.Author.Tests.{ltb-false}
 use Rattle.layout.specs.declared.entry.Mark.the-variants.{New}
-use Rattle.record.specs.Fields.{Field}
 use Rattle.record.specs.Draft.{draftRight, draftFields}
 use Rattle.record.specs.Bytes.{needFor}
-use Rattle.record.proofs.Draftable.{Draftable, draft-draftable}
-use Rattle.store.specs.Answer.{lowest, refuse}
+use Rattle.record.proofs.Draftable.{draft-draftable}
 use Rattle.store.specs.Refusals.{exceeds, createAnswer}
 use Rattle.store.specs.Calls.{placeAtEnd, createdMst, createdXrf}
-use Rattle.store.specs.declared.answer.Answer.{Answer}
 use Rattle.store.specs.declared.answer.Answer.the-variants.{Done, BadDraft, Full, BadEntry, NoRoom}
 use Rattle.soundness.proofs.Standing.{Sound, below-capacity}
 use Rattle.soundness.proofs.Writes.{Leaves, created-leaves}
 use Rattle.ledger.specs.Ledger.{created}
-use Rattle.ledger.specs.StoreRun.{Store}
 use Rattle.ledger.specs.LedgerOf.{ledgerOf}
 use Rattle.ledger.proofs.Changing.{ledger-more}
 

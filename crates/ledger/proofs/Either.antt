@@ -2,7 +2,7 @@
 -- cases holds of the call.
 use Prim.Native.Nat.{ℕ}
 use native.Mathlib.Decide.{ℕ-discrete}
-use mathlib.Core.Path.{_≡_, refl, sym, ap, _∙_}
+use mathlib.Core.Path.{_≡_, refl}
 use mathlib.Core.List.{List}
 use Rattle.store.specs.Answer.{numberOf, after}
 use Rattle.store.specs.declared.answer.Answer.{Answer}

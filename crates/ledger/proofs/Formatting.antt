@@ -17,7 +17,7 @@ use Rattle.store.proofs.Gates.{lengths-both, after-done}
 use Rattle.soundness.proofs.Standing.{sound}
 use Rattle.soundness.proofs.Writes.{format-sound}
 use Rattle.ledger.specs.Call.{format}
-use Rattle.ledger.specs.Ledger.{Ledger, empty}
+use Rattle.ledger.specs.Ledger.{empty}
 use Rattle.ledger.specs.StoreRun.{Store, nextS}
 use Rattle.ledger.specs.LedgerOf.{tabulate, ledgerOf, SoundStore}
 

@@ -1,8 +1,8 @@
 -- From one call to a list of calls. What one call keeps is a record, `Step`; given it for every sound store and every call, the answers
 -- to a whole list are the ledger's, by one induction.
-use mathlib.Core.Path.{_≡_, refl, sym, ap, _∙_}
+use mathlib.Core.Path.{_≡_, refl, ap, _∙_}
 use mathlib.Core.List.{List, [], _∷_}
-use Rattle.ledger.specs.Call.{Call, Outcome}
+use Rattle.ledger.specs.Call.{Call}
 use Rattle.ledger.specs.Ledger.{Ledger, answerL, nextL, answersL, afterL}
 use Rattle.ledger.specs.StoreRun.{Store, answerS, nextS, answersS, afterS}
 use Rattle.ledger.specs.LedgerOf.{ledgerOf, SoundStore}

@@ -2,7 +2,7 @@
 use Prim.Native.Nat.{ℕ, _+_, _-_, _≤_, _<_}
 use native.Mathlib.Omega.{arith}
 use native.Mathlib.Decide.{ℕ-discrete}
-use mathlib.Core.Path.{_≡_, refl, sym, ap, _∙_}
+use mathlib.Core.Path.{_≡_, refl}
 use mathlib.Core.Bool.{Bool, true, false, not, _&&_, cond}
 use mathlib.Core.List.{List, [], _∷_, _++_}
 use mathlib.Core.Logic.{⊎-elim}
@@ -10,17 +10,17 @@ use lib.Dec.{eqb}
 use lib.ListN.{length, getD, set, length-set, length-append, List·getD-append}
 use lib.Seq.{getD-set-same, getD-set-other, getD-at}
 use Rattle.word.proofs.Place.{lt-or-ge}
-use Rattle.layout.specs.Sizes.{capacityOf, mstPermitted, xrfPermitted}
+use Rattle.layout.specs.Sizes.{capacityOf}
 use Rattle.layout.proofs.Tests.{tests}
 use Rattle.record.specs.Fields.{Field, fieldNamed}
 use Rattle.record.specs.Draft.{draftRight, draftFields}
 use Rattle.record.specs.Bytes.{needFor}
 use Rattle.store.specs.Answer.{after, numberOf}
 use Rattle.store.specs.declared.answer.Answer.{Answer}
-use Rattle.store.specs.declared.answer.Answer.the-variants.{Done, BadLength, BadControl, BadDraft, NoSuchMfn, Full, BadEntry, PhysicallyDeleted, BadRecord, Deleted, NotPending, NeverSettled, NoField, NoRoom, Unsound}
+use Rattle.store.specs.declared.answer.Answer.the-variants.{Done, BadDraft, NoSuchMfn, Full, PhysicallyDeleted, Deleted, NotPending, NeverSettled, NoField, NoRoom}
 use Rattle.store.proofs.Gates.{number-done, after-done, after-refused}
 use Rattle.ledger.specs.Call.{Call, format, view, viewSettled, create, update, delete, settle, revert, check, Outcome}
-use Rattle.ledger.specs.Ledger.{Standing, settled, new, changed, Item, gone, held, Ledger, nextMfn, empty, itemOf, fieldsIn, deletedIn, standingIn, isGoneItem, isSettledMark, isNewMark, settledFields, isNone, overfull, lengthsFine, mfnIn, appends, changedMark, grown, withItem, withItemAt, created, updated, deleted, settledItem, revertedItem, formatNumber, viewNumber, settledViewNumber, createNumber, updateNumber, deleteNumber, settleNumber, revertNumber, checkNumber, answerL, nextL, answersL}
+use Rattle.ledger.specs.Ledger.{new, changed, Item, gone, held, Ledger, nextMfn, empty, itemOf, fieldsIn, deletedIn, standingIn, isGoneItem, isSettledMark, isNewMark, settledFields, isNone, overfull, lengthsFine, mfnIn, appends, changedMark, grown, withItem, withItemAt, created, updated, deleted, settledItem, revertedItem, formatNumber, viewNumber, settledViewNumber, createNumber, updateNumber, deleteNumber, settleNumber, revertNumber, checkNumber, answerL, nextL, answersL}
 use Rattle.ledger.proofs.Corollaries.{Known, in-range, update-known, delete-known, settle-known, revert-known}
 
 -- the answers that may come

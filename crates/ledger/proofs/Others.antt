@@ -4,16 +4,16 @@ use Prim.Native.Nat.{ℕ, _+_, _-_, _≤_, _<_}
 use native.Mathlib.Omega.{arith}
 use native.Mathlib.Decide.{ℕ-discrete}
 use mathlib.Core.Path.{_≡_, refl, sym, ap, _∙_}
-use mathlib.Core.Bool.{Bool, true, false, not, _&&_, cond}
+use mathlib.Core.Bool.{Bool, true, false, not, cond}
 use mathlib.Core.List.{List, [], _∷_, _++_}
-use lib.Dec.{eqb, leb, ltb}
-use lib.ListN.{length, getD, set, length-set, length-append, List·getD-append}
+use lib.Dec.{eqb, ltb}
+use lib.ListN.{length, length-set, length-append, List·getD-append}
 use lib.Seq.{getD-set-other}
 use borrow.Author.Tests.{eqb-false, lt-ltb, le-ltb}
 use Rattle.word.proofs.Place.{lt-or-ge}
 use Rattle.layout.proofs.Tests.{tests, false-true}
 use mathlib.Core.Logic.{⊎-elim}
-use Rattle.record.specs.Fields.{Field, fieldNamed}
+use Rattle.record.specs.Fields.{Field}
 use Rattle.record.specs.Draft.{draftFields}
 use Rattle.record.specs.Bytes.{needFor}
 use Rattle.store.specs.Answer.{after, numberOf}
@@ -24,9 +24,8 @@ use Rattle.ledger.specs.Call.{Call, format, view, viewSettled, create, u
 use Rattle.ledger.specs.Ledger.{Item, gone, held, new, changed, Ledger, nextMfn, itemOf, isSettledMark, lengthsFine, mfnIn, appends, changedMark, grown, withItem, withItemAt, created, updated, deleted, settledItem, revertedItem, viewNumber, settledViewNumber, createNumber, updateNumber, deleteNumber, settleNumber, revertNumber, answerL, nextL}
 use Rattle.ledger.specs.StoreRun.{Store, answerS, nextS}
 use Rattle.ledger.specs.LedgerOf.{ledgerOf, SoundStore}
-use Rattle.ledger.proofs.Lists.{Step}
 use Rattle.ledger.proofs.Theorem.{step}
-use Rattle.ledger.proofs.Corollaries.{Known, update-known, delete-known, settle-known, revert-known}
+use Rattle.ledger.proofs.Corollaries.{update-known, delete-known, settle-known, revert-known}
 
 -- the call names MFN o, makes it, or empties the store
 unfoldable pub concerns : Ledger → Call → ℕ → Bool

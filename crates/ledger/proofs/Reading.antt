@@ -1,23 +1,18 @@
 -- What a sound store's bytes say of one MFN, beside what the ledger keeps of it: the MFN is not there, or it is gone, or it has a place with a
 -- right record, and then the ledger's item is that record's fields, flag and mark.
-use Prim.Native.Nat.{ℕ, suc, _+_, _-_, _≤_, _<_}
-use mathlib.Core.Path.{_≡_, refl, sym, ap, _∙_}
+use Prim.Native.Nat.{ℕ, suc, _-_, _≤_, _<_}
+use mathlib.Core.Path.{_≡_, refl, ap, _∙_}
 use mathlib.Core.Bool.{Bool, true, false, _&&_, cond}
-use mathlib.Core.List.{List}
 use native.Mathlib.Omega.{arith}
 use lib.Dec.{leb, ltb}
-use lib.ListN.{length}
-use borrow.Author.Tests.{le-leb, lt-ltb, leb-true, ltb-true}
-use Rattle.layout.specs.Control.{nextOf, endOf}
-use Rattle.layout.specs.declared.entry.Mark.{Mark}
-use Rattle.layout.specs.declared.entry.Mark.the-variants.{Settled, Changed, New}
+use borrow.Author.Tests.{leb-true, ltb-true}
+use Rattle.layout.specs.Control.{nextOf}
 use Rattle.layout.specs.declared.entry.Place.{Place}
-use Rattle.layout.specs.declared.entry.Entry.{Entry}
-use Rattle.layout.specs.declared.entry.Entry.the-variants.{Gone, Malformed, At}
-use Rattle.store.specs.Reading.{lengthsPermitted, controlFine, mfnKnown, entryFor, recordFine, versionFine, currentFields}
-use Rattle.ledger.specs.Ledger.{Item, gone, held, Ledger, nextMfn, itemOf, lengthsFine, mfnIn}
+use Rattle.layout.specs.declared.entry.Entry.the-variants.{Gone, At}
+use Rattle.store.specs.Reading.{lengthsPermitted, controlFine, mfnKnown, entryFor, recordFine, versionFine}
+use Rattle.ledger.specs.Ledger.{nextMfn, itemOf, lengthsFine, mfnIn}
 use Rattle.ledger.specs.StoreRun.{Store}
-use Rattle.ledger.specs.LedgerOf.{standingAt, itemFor, itemAt, tabulate, ledgerOf}
+use Rattle.ledger.specs.LedgerOf.{itemAt, ledgerOf}
 use Rattle.ledger.proofs.Items.{tabulate-length, tabulate-at}
 
 -- lengths and control record are right

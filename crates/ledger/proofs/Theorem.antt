@@ -2,25 +2,22 @@
 -- MFN returned and every field shown equals, in order, what the ledger answers to the same calls, and NXTMFN and the end in the control record
 -- are the ledger's afterwards. One statement about the whole list, by induction from one step; it starts from any sound store, with the ledger
 -- that its bytes give, and format is the special case.
-use Prim.Native.Nat.{ℕ, _+_, _≤_, _<_}
-use native.Mathlib.Omega.{arith}
+use Prim.Native.Nat.{ℕ}
 use mathlib.Core.Path.{_≡_, refl, sym, ap, _∙_}
 use mathlib.Core.Bool.{Bool, true, false}
-use mathlib.Core.List.{List, [], _∷_}
+use mathlib.Core.List.{List, []}
 use lib.ListN.{length}
 use Rattle.layout.specs.Control.{nextOf, endOf, formattedMst}
 use Rattle.layout.specs.CrossReference.{formattedXrf}
-use Rattle.layout.specs.declared.entry.Entry.the-variants.{Gone, Malformed, At}
 use Rattle.record.specs.Draft.{draftFields}
 use Rattle.record.proofs.Draftable.{draft-draftable}
 use Rattle.store.specs.Answer.{after}
-use Rattle.store.specs.Reading.{lengthsPermitted, mfnKnown, entryFor, placeFor, currentFields}
+use Rattle.store.specs.Reading.{lengthsPermitted, mfnKnown, placeFor, currentFields}
 use Rattle.store.specs.Refusals.{formatAnswer, createAnswer, updateAnswer, deleteAnswer, settleAnswer, revertAnswer}
 use Rattle.store.specs.Calls.{formatMst, formatXrf, createOf, createdMst, createdXrf, createMst, createXrf, updatedMst, updatedXrf, updateMst, updateXrf, deletedMst, deletedXrf, deleteMst, deleteXrf, settledMst, settledXrf, settleMst, settleXrf, revertedXrf, revertXrf}
 use Rattle.store.specs.declared.answer.Answer.{Answer}
-use Rattle.store.specs.declared.answer.Answer.the-variants.{Done}
 use Rattle.store.proofs.Gates.{after-same}
-use Rattle.soundness.proofs.Standing.{Sound, stands, body-sound, EntryStands, is-gone, is-at, PlaceStands, known-stands, create-row, below-capacity, version-fine}
+use Rattle.soundness.proofs.Standing.{Sound, stands, body-sound, EntryStands, is-gone, is-at, known-stands, create-row, below-capacity, version-fine}
 use Rattle.ledger.specs.Call.{Call, format, view, viewSettled, create, update, delete, settle, revert, check, Outcome, plain}
 use Rattle.ledger.specs.Ledger.{Ledger, nextMfn, empty, itemOf, created, updated, deleted, settledItem, revertedItem, withItem, formatNumber, createNumber, updateNumber, deleteNumber, settleNumber, revertNumber, answerL, nextL, answersL, afterL}
 use Rattle.ledger.specs.StoreRun.{Store, store, answerS, nextS, answersS, afterS}
@@ -29,9 +26,9 @@ use Rattle.ledger.proofs.Reading.{Opened, Seen, absent, physically, pre
 use Rattle.ledger.proofs.Answering.{format-answer, create-answer, update-answer, delete-answer, settle-answer, revert-answer, check-answer}
 use Rattle.ledger.proofs.Viewing.{view-outcome, settled-view-outcome}
 use Rattle.ledger.proofs.Formatting.{formatted, formatted-sound, formatted-ledger, format-leaves}
-use Rattle.ledger.proofs.Creating.{CreateAsked, create-asked, create-leaves, create-ledger}
+use Rattle.ledger.proofs.Creating.{create-asked, create-leaves, create-ledger}
 use Rattle.ledger.proofs.Either.{Left, either}
-use Rattle.ledger.proofs.Asked.{UpdateAsked, update-asked, DeleteAsked, delete-asked, SettleAsked, settle-asked, RevertAsked, revert-asked}
+use Rattle.ledger.proofs.Asked.{update-asked, delete-asked, settle-asked, revert-asked}
 use Rattle.ledger.proofs.Versions.{update-left, delete-left, settle-left, revert-left}
 use Rattle.ledger.proofs.Lists.{Step, Run, run-all}
 use Rattle.soundness.proofs.Standing.{sound}

@@ -5,7 +5,6 @@ use mathlib.Core.Bool.{Bool, true, false, cond}
 use mathlib.Core.List.{List, []}
 use native.Mathlib.Omega.{arith}
 use lib.Dec.{eqb}
-use lib.ListN.{length}
 use Rattle.word.specs.Place.{part}
 use Rattle.layout.specs.Control.{endOf}
 use Rattle.layout.specs.Entry.{placeAddress}
@@ -13,24 +12,22 @@ use Rattle.layout.specs.Leader.{leaderOf}
 use Rattle.layout.specs.declared.entry.Mark.{Mark}
 use Rattle.layout.specs.declared.entry.Mark.the-variants.{Settled, Changed, New}
 use Rattle.layout.specs.declared.entry.Place.{Place}
-use Rattle.layout.specs.declared.entry.Entry.{Entry}
-use Rattle.layout.specs.declared.entry.Entry.the-variants.{Gone, Malformed, At}
+use Rattle.layout.specs.declared.entry.Entry.the-variants.{Gone}
 use Rattle.layout.proofs.Tests.{tests}
-use Rattle.record.specs.Fields.{Field, fieldsOf, fieldNamed, findOf}
-use Rattle.record.specs.Record.{recordRight}
+use Rattle.record.specs.Fields.{fieldsOf, fieldNamed, findOf}
 use Rattle.record.specs.declared.fields.Found.{Found}
 use Rattle.record.proofs.Local.{ReadsAs, right-reads}
 use Rattle.store.specs.Answer.{after, numberOf}
-use Rattle.store.specs.Reading.{mfnKnown, entryFor, placeFor, isChanged, recordAt, leaderAt, backAddress, backFine, recordFine, settledRecord, settledFine, versionFine, shownSettled, currentFields}
+use Rattle.store.specs.Reading.{mfnKnown, entryFor, placeFor, isChanged, recordAt, leaderAt, backAddress, recordFine, settledRecord, settledFine, versionFine, shownSettled, currentFields}
 use Rattle.store.specs.Refusals.{viewAnswer, settledViewAnswer}
 use Rattle.store.specs.Calls.{foundStart, foundLength, shownAt, viewOf, settledAddress, settledViewOf, shownBytes}
 use Rattle.store.specs.declared.answer.Answer.{Answer}
 use Rattle.store.specs.declared.answer.Answer.the-variants.{NoSuchMfn, PhysicallyDeleted}
 use Rattle.store.proofs.Gates.{Refusing, after-refused}
 use Rattle.ledger.specs.Call.{Outcome, view, viewSettled}
-use Rattle.ledger.specs.Ledger.{Item, gone, held, itemOf, fieldsIn, standingIn, settledFields, bytesOf, viewNumber, settledViewNumber, shownOf, answerL}
+use Rattle.ledger.specs.Ledger.{itemOf, fieldsIn, standingIn, settledFields, bytesOf, answerL}
 use Rattle.ledger.specs.StoreRun.{Store, answerS}
-use Rattle.ledger.specs.LedgerOf.{standingAt, ledgerOf}
+use Rattle.ledger.specs.LedgerOf.{ledgerOf}
 use Rattle.ledger.proofs.Reading.{Opened, Seen, absent, physically, present}
 use Rattle.ledger.proofs.Showing.{shown-done}
 use Rattle.ledger.proofs.Answering.{item-at, view-answer, settled-view-answer, settled-fields}
