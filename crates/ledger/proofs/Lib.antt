@@ -14,3 +14,7 @@ pub mod Theorem
 pub mod Corollaries
 pub mod Others
 pub mod Never
+pub mod Decoding
+pub mod Running
+pub mod Turning
+pub mod Telling

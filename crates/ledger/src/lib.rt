@@ -1,1 +1,2 @@
-// The ledger of demand 3 and the theorem about every list of calls: definitions in specs/, the theorem in proofs/Theorem.antt.
+// The ledger of demand 3 and the theorem about every list of calls; `replay` is the theorem in running code.
+pub mod replay;

@@ -1,0 +1,328 @@
+-- The loop of a replay. What it has reported is a list of outcomes, what it has run a list of calls; each is the first part of what the whole
+-- list gives, and what is left of the list at the cursor gives the rest. A turn moves one call from the rest to the first part, or shows that
+-- nothing more is reported.
+use Prim.Native.Nat.{ℕ, zero, suc, _+_, _*_, _-_, _≤_, _<_}
+use native.Mathlib.Nat.{add-zero, zero-add, le-refl}
+use native.Mathlib.Omega.{arith}
+use native.Mathlib.Numerals.{add-one, unary-clauses}
+use mathlib.Core.Path.{_≡_, refl, sym, ap, _∙_}
+use mathlib.Core.Bool.{Bool, true, false, cond}
+use mathlib.Core.Option.{Option, some, none}
+use mathlib.Core.List.{List, [], _∷_, _++_, append-assoc, append-nil}
+use lib.Dec.{leb, ltb}
+use lib.ListN.{length, take, drop, length-append, length-drop}
+use lib.Seq.{take-at, drop-drop}
+use borrow.Author.Tests.{lt-ltb, le-ltb}
+use Rattle.word.specs.Place.{place}
+use Rattle.word.proofs.Place.{place-none, place-next, place-length}
+use Rattle.layout.proofs.Tests.{tests}
+use Rattle.ledger.specs.Call.{Call, Outcome}
+use Rattle.ledger.specs.StoreRun.{Store, answerS, nextS, answersS, afterS}
+use Rattle.ledger.specs.Replay.{Script, script, firstCall, restOf, restAfter, onCall, callsIn, callsOf, hasRoom, fitting, threeNumbers, outcomeNumbers, outcomeBytes, stopAt}
+use Rattle.ledger.specs.Turns.{draftsOf, scriptAt, moved, DraftWithin, RoomWithin, Within, noDraft, roomAt, Ran, Halted, Turned, told, toldStop, Finished}
+use Rattle.ledger.specs.declared.replay.Stop.{Stop}
+use Rattle.ledger.specs.declared.replay.Stop.the-variants.{NoRoom}
+use Rattle.ledger.specs.declared.replay.Replayed.{Replayed}
+use Rattle.ledger.specs.declared.replay.Cursor.{Cursor}
+use Rattle.ledger.specs.declared.replay.Turn.{Turn}
+use Rattle.ledger.specs.declared.replay.Turn.the-variants.{Next, Stopped}
+use Rattle.ledger.proofs.Decoding.{Fits, HasCall, has-call}
+
+-- ---- one more, at the end of a list
+
+numbers-more : (os : List Outcome) (o : Outcome) → outcomeNumbers (os ++ (o ∷ [])) ≡ outcomeNumbers os ++ threeNumbers o
+unfolding outcomeNumbers
+numbers-more [] o = refl
+numbers-more (x ∷ os) o = ap (λ (l : List ℕ). threeNumbers x ++ l) (numbers-more os o)
+
+bytes-more : (os : List Outcome) (o : Outcome) → outcomeBytes (os ++ (o ∷ [])) ≡ outcomeBytes os ++ o .shown
+unfolding outcomeBytes
+bytes-more [] o = append-nil (o .shown)
+bytes-more (x ∷ os) o = ap (λ (l : List ℕ). x .shown ++ l) (bytes-more os o) ∙ sym (append-assoc (x .shown) (outcomeBytes os) (o .shown))
+
+numbers-length : (os : List Outcome) → length (outcomeNumbers os) ≡ 3 * length os
+unfolding outcomeNumbers
+numbers-length [] = refl
+numbers-length (o ∷ os) = let r = numbers-length os in omega arith
+
+after-more : (s : Store) (cs : List Call) (c : Call) → afterS s (cs ++ (c ∷ [])) ≡ nextS (afterS s cs) c
+unfolding afterS
+after-more s [] c = refl
+after-more s (x ∷ cs) c = after-more (nextS s x) cs c
+
+rest-more : (n : ℕ) (p : Script) → restAfter (suc n) p ≡ restOf (restAfter n p)
+unfolding restAfter
+rest-more zero p = refl
+rest-more (suc n) p = rest-more n (restOf p)
+
+-- ---- the calls that are left
+
+calls-none : (n : ℕ) (s : Script) → firstCall s ≡ none → callsIn n s ≡ []
+unfolding callsIn
+calls-none zero s e = refl
+calls-none (suc n) s e = rw e
+
+calls-some : (n : ℕ) (s : Script) (c : Call) → firstCall s ≡ some c → callsIn (suc n) s ≡ c ∷ callsIn n (restOf s)
+unfolding callsIn
+calls-some n s c e = rw e
+
+fitting-one : (numbers bytes : ℕ) (s : Store) (c : Call) (cs : List Call)
+    → fitting numbers bytes (answersS s (c ∷ cs))
+    ≡ cond (hasRoom numbers bytes (answerS s c)) (answerS s c ∷ fitting (numbers - 3) (bytes - length (answerS s c .shown)) (answersS (nextS s c) cs)) []
+unfolding fitting answersS
+fitting-one numbers bytes s c cs = refl
+
+fitting-none : (numbers bytes : ℕ) (s : Store) → fitting numbers bytes (answersS s []) ≡ []
+unfolding fitting answersS
+fitting-none numbers bytes s = refl
+
+-- ---- the invariant
+
+script-same : {a b c d a′ b′ c′ d′ : List ℕ} → a ≡ a′ → b ≡ b′ → c ≡ c′ → d ≡ d′ → script a b c d ≡ script a′ b′ c′ d′
+script-same e f g h = rw (e, f, g, h)
+
+module _ (ops tags lens bytes : List ℕ) where
+  abbrev pub p : Script
+  p = script ops tags lens bytes
+
+  -- as many calls as there are numbers bounds what is left
+  abbrev pub leftCalls : Cursor → List Call
+  leftCalls at = callsIn (length ops - at .calls) (scriptAt ops tags lens bytes at)
+
+  pub record Going (s₀ : Store) (answers₀ shown₀ : List ℕ) (s : Store) (answers shown : List ℕ) (at : Cursor) : Type 0 where
+    pub done : List Outcome
+    pub ran : List Call
+    pub within : Within ops tags lens bytes answers shown at
+    pub answers-long : length answers ≡ length answers₀
+    pub shown-long : length shown ≡ length shown₀
+    pub done-count : length done ≡ at .calls
+    pub ran-count : length ran ≡ at .calls
+    pub byte-count : length (outcomeBytes done) ≡ at .shown
+    pub numbers-are : answers ≡ place answers₀ 0 (outcomeNumbers done)
+    pub bytes-are : shown ≡ place shown₀ 0 (outcomeBytes done)
+    pub store-is : s ≡ afterS s₀ ran
+    pub rest-is : scriptAt ops tags lens bytes at ≡ restAfter (at .calls) p
+    pub calls-are : callsOf p ≡ ran ++ leftCalls at
+    pub told-are : told s₀ (length answers₀) (length shown₀) p
+        ≡ done ++ fitting (length answers₀ - 3 * at .calls) (length shown₀ - at .shown) (answersS s (leftCalls at))
+
+  -- before the first turn
+  pub going-start : (s₀ : Store) (answers₀ shown₀ : List ℕ) (at : Cursor) → at ≡ record { calls = 0; tags = 0; lens = 0; bytes = 0; shown = 0 }
+      → Going s₀ answers₀ shown₀ s₀ answers₀ shown₀ at
+  unfolding outcomeNumbers outcomeBytes afterS restAfter callsOf told
+  going-start s₀ answers₀ shown₀ at e =
+      rw e
+      (record {
+        done = [];
+        ran = [];
+        within =
+          record {
+            ops-in = omega arith;
+            drafts-in = record { tags-in = omega arith; lens-in = omega arith; bytes-in = omega arith };
+            room-in = record { numbers-in = omega arith; shown-in = omega arith };
+          };
+        answers-long = refl;
+        shown-long = refl;
+        done-count = refl;
+        ran-count = refl;
+        byte-count = refl;
+        numbers-are = sym (place-none answers₀ 0);
+        bytes-are = sym (place-none shown₀ 0);
+        store-is = refl;
+        rest-is = refl;
+        calls-are = simp unary-clauses;
+        told-are = simp unary-clauses;
+      })
+
+  -- the cursor after a call stands before the rest
+  rest-moved : (at : Cursor) (len : ℕ) → scriptAt ops tags lens bytes (moved at (draftsOf (scriptAt ops tags lens bytes at)) len) ≡ restOf (scriptAt ops tags lens bytes at)
+  unfolding restOf
+  rest-moved at len =
+      let five : 5 * (at .calls + 1) ≡ 5 * at .calls + 5 = omega arith in
+      script-same (ap (λ (n : ℕ). drop n ops) five ∙ sym (drop-drop 5 (5 * at .calls) ops)) (sym (drop-drop _ (at .tags) tags)) (sym (drop-drop _ (at .lens) lens)) (sym (drop-drop _ (at .bytes) bytes))
+
+  module _ (s₀ : Store) (answers₀ shown₀ : List ℕ) (s : Store) (answers shown : List ℕ) (at : Cursor) (g : Going s₀ answers₀ shown₀ s answers shown at) where
+    abbrev rest : Script
+    rest = scriptAt ops tags lens bytes at
+
+    -- what is reported from a cursor on
+    abbrev toldFrom : Cursor → Store → List Outcome
+    toldFrom from x = fitting (length answers₀ - 3 * from .calls) (length shown₀ - from .shown) (answersS x (leftCalls from))
+
+    module _ (c : Call) (e : firstCall rest ≡ some c) (room : roomAt answers shown at (answerS s c) ≡ true) where
+      abbrev o : Outcome
+      o = answerS s c
+
+      abbrev next : Cursor
+      next = moved at (draftsOf rest) (length (o .shown))
+
+      has : HasCall rest
+      has = has-call rest c e
+
+      left-now : 5 + 5 * at .calls ≤ length ops
+      left-now = let h = has .numbers in let k = length-drop (5 * at .calls) ops in omega arith
+
+      room-now : (3 ≤ length answers - 3 * at .calls) × (length (o .shown) ≤ length shown - at .shown)
+      room-now = simp tests at room
+
+      calls-now : leftCalls at ≡ c ∷ leftCalls next
+      calls-now =
+          let n : length ops - at .calls ≡ suc (length ops - (at .calls + 1)) = let l = left-now in omega arith in
+          rw (n, calls-some (length ops - (at .calls + 1)) rest c e, rest-moved at (length (o .shown)))
+
+      within-next : Within ops tags lens bytes (place answers (3 * at .calls) (threeNumbers o)) (place shown (at .shown) (o .shown)) next
+      within-next =
+          let d = has .draft in
+          let w = g .within .drafts-in in
+          let l = left-now in
+          let r = room-now in
+          let x = g .within .room-in in
+          let kt = length-drop (at .tags) tags in
+          let kl = length-drop (at .lens) lens in
+          let kb = length-drop (at .bytes) bytes in
+          let an : length (place answers (3 * at .calls) (threeNumbers o)) ≡ length answers = place-length answers (3 * at .calls) (threeNumbers o) (omega arith) in
+          let sn : length (place shown (at .shown) (o .shown)) ≡ length shown = place-length shown (at .shown) (o .shown) (omega arith) in
+          record {
+            ops-in = omega arith;
+            drafts-in = record { tags-in = omega arith; lens-in = omega arith; bytes-in = omega arith };
+            room-in = record { numbers-in = omega arith; shown-in = omega arith };
+          }
+
+      numbers-next : place answers (3 * at .calls) (threeNumbers o) ≡ place answers₀ 0 (outcomeNumbers (g .done ++ (o ∷ [])))
+      numbers-next =
+          let n : 3 * at .calls ≡ 0 + length (outcomeNumbers (g .done)) = let k = numbers-length (g .done) in let m = g .done-count in omega arith in
+          rw (n, g .numbers-are, numbers-more (g .done) o) (place-next answers₀ 0 (outcomeNumbers (g .done)) (threeNumbers o) (omega arith))
+
+      bytes-next : place shown (at .shown) (o .shown) ≡ place shown₀ 0 (outcomeBytes (g .done ++ (o ∷ [])))
+      bytes-next =
+          let n : at .shown ≡ 0 + length (outcomeBytes (g .done)) = let m = g .byte-count in omega arith in
+          rw (n, g .bytes-are, bytes-more (g .done) o) (place-next shown₀ 0 (outcomeBytes (g .done)) (o .shown) (omega arith))
+
+      told-next : toldFrom at s ≡ o ∷ toldFrom next (nextS s c)
+      told-next =
+          let b : hasRoom (length answers₀ - 3 * at .calls) (length shown₀ - at .shown) o ≡ true = rw (← g .answers-long, ← g .shown-long) room in
+          let n : length answers₀ - 3 * at .calls - 3 ≡ length answers₀ - 3 * (at .calls + 1) = omega arith in
+          let m : length shown₀ - at .shown - length (o .shown) ≡ length shown₀ - (at .shown + length (o .shown)) = omega arith in
+          ap (λ (l : List Call). fitting (length answers₀ - 3 * at .calls) (length shown₀ - at .shown) (answersS s l)) calls-now
+          ∙ fitting-one (length answers₀ - 3 * at .calls) (length shown₀ - at .shown) s c (leftCalls next)
+          ∙ rw (b, n, m)
+
+      pub going-more : Going s₀ answers₀ shown₀ (nextS s c) (place answers (3 * at .calls) (threeNumbers o)) (place shown (at .shown) (o .shown)) next
+      going-more =
+          record {
+            done = g .done ++ (o ∷ []);
+            ran = g .ran ++ (c ∷ []);
+            within = within-next;
+            answers-long = place-length answers (3 * at .calls) (threeNumbers o) (let r = room-now in let w = g .within .room-in .numbers-in in omega arith) ∙ g .answers-long;
+            shown-long = place-length shown (at .shown) (o .shown) (let r = room-now in let w = g .within .room-in .shown-in in omega arith) ∙ g .shown-long;
+            done-count = length-append (g .done) (o ∷ []) ∙ ap (λ (n : ℕ). n + 1) (g .done-count);
+            ran-count = length-append (g .ran) (c ∷ []) ∙ ap (λ (n : ℕ). n + 1) (g .ran-count);
+            byte-count = ap length (bytes-more (g .done) o) ∙ length-append (outcomeBytes (g .done)) (o .shown) ∙ ap (λ (n : ℕ). n + length (o .shown)) (g .byte-count);
+            numbers-are = numbers-next;
+            bytes-are = bytes-next;
+            store-is = ap (λ (x : Store). nextS x c) (g .store-is) ∙ sym (after-more s₀ (g .ran) c);
+            rest-is = rest-moved at (length (o .shown)) ∙ ap restOf (g .rest-is) ∙ sym (rest-more (at .calls) p) ∙ ap (λ (n : ℕ). restAfter n p) (sym (add-one (at .calls)));
+            calls-are = g .calls-are ∙ ap (λ (l : List Call). g .ran ++ l) calls-now ∙ sym (append-assoc (g .ran) (c ∷ []) (leftCalls next));
+            told-are = g .told-are ∙ ap (λ (l : List Outcome). g .done ++ l) told-next ∙ sym (append-assoc (g .done) (o ∷ []) (toldFrom next (nextS s c)));
+          }
+
+    -- the end of a run: nothing more is reported
+    finished : (x : Stop) → toldFrom at s ≡ [] → x ≡ toldStop s₀ (length answers₀) (length shown₀) p
+        → Finished s₀ answers₀ shown₀ p (record { stop = x; calls = at .calls }) s answers shown
+    finished x none-left stops =
+        let all : told s₀ (length answers₀) (length shown₀) p ≡ g .done = g .told-are ∙ ap (λ (l : List Outcome). g .done ++ l) none-left ∙ append-nil (g .done) in
+        let n : length (told s₀ (length answers₀) (length shown₀) p) ≡ at .calls = ap length all ∙ g .done-count in
+        record {
+          stop = stops;
+          calls = sym n;
+          left = g .store-is ∙ ap (λ (cs : List Call). afterS s₀ cs)
+            (sym (ap (λ (k : ℕ). take k (callsOf p)) n ∙ ap (take (at .calls)) (g .calls-are) ∙ take-at (g .ran) (leftCalls at) (at .calls) (g .ran-count)));
+          numbers = g .numbers-are ∙ ap (λ (os : List Outcome). place answers₀ 0 (outcomeNumbers os)) (sym all);
+          fields = g .bytes-are ∙ ap (λ (os : List Outcome). place shown₀ 0 (outcomeBytes os)) (sym all);
+        }
+
+    told-count : toldFrom at s ≡ [] → length (told s₀ (length answers₀) (length shown₀) p) ≡ at .calls
+    told-count none-left = ap length (g .told-are ∙ ap (λ (l : List Outcome). g .done ++ l) none-left ∙ append-nil (g .done)) ∙ g .done-count
+
+    -- there is no further call
+    no-more : firstCall rest ≡ none → leftCalls at ≡ []
+    no-more e = calls-none (length ops - at .calls) rest e
+
+    finished-list : firstCall rest ≡ none → Finished s₀ answers₀ shown₀ p (record { stop = stopAt rest; calls = at .calls }) s answers shown
+    unfolding toldStop
+    finished-list e =
+        let none-left : toldFrom at s ≡ [] = rw (no-more e) (fitting-none (length answers₀ - 3 * at .calls) (length shown₀ - at .shown) s) in
+        let n : length (callsOf p) ≡ at .calls = ap length (g .calls-are ∙ ap (λ (l : List Call). g .ran ++ l) (no-more e) ∙ append-nil (g .ran)) ∙ g .ran-count in
+        finished (stopAt rest) none-left
+        (rw (told-count none-left, n, le-ltb (at .calls) (at .calls) (le-refl _)) (ap stopAt (g .rest-is)))
+
+    -- the next call has no room
+    finished-room : (c : Call) → firstCall rest ≡ some c → roomAt answers shown at (answerS s c) ≡ false
+        → Finished s₀ answers₀ shown₀ p (record { stop = NoRoom; calls = at .calls }) s answers shown
+    unfolding toldStop
+    finished-room c e full =
+        let more : List Call = callsIn (length ops - (at .calls + 1)) (restOf rest) in
+        let h = has-call rest c e .numbers in
+        let k = length-drop (5 * at .calls) ops in
+        let n : length ops - at .calls ≡ suc (length ops - (at .calls + 1)) = omega arith in
+        let now : leftCalls at ≡ c ∷ more = rw n (calls-some (length ops - (at .calls + 1)) rest c e) in
+        let b : hasRoom (length answers₀ - 3 * at .calls) (length shown₀ - at .shown) (answerS s c) ≡ false = rw (← g .answers-long, ← g .shown-long) full in
+        let none-left : toldFrom at s ≡ [] =
+        ap (λ (l : List Call). fitting (length answers₀ - 3 * at .calls) (length shown₀ - at .shown) (answersS s l)) now
+        ∙ fitting-one (length answers₀ - 3 * at .calls) (length shown₀ - at .shown) s c more
+        ∙ rw b in
+        let m : length (callsOf p) ≡ at .calls + suc (length more) =
+        ap length (g .calls-are ∙ ap (λ (l : List Call). g .ran ++ l) now) ∙ length-append (g .ran) (c ∷ more) ∙ ap (λ (i : ℕ). i + suc (length more)) (g .ran-count) in
+        finished NoRoom none-left (rw (told-count none-left, m, lt-ltb (at .calls) (at .calls + suc (length more)) (omega arith)))
+
+    module _ (t : Turn) (s′ : Store) (answers′ shown′ : List ℕ) (u : Turned rest s answers shown at t s′ answers′ shown′) where
+      by-call : (q : Option Call) → firstCall rest ≡ q → onCall q (Halted rest s answers shown t s′ answers′ shown′) (λ c. Ran s c (draftsOf rest) answers shown at t s′ answers′ shown′)
+      unfolding Turned
+      by-call q e = rw e at u
+
+      pub going-next : (at′ : Cursor) → t ≡ Next at′ → Going s₀ answers₀ shown₀ s′ answers′ shown′ at′
+      going-next at′ n = go (firstCall rest) refl (by-call (firstCall rest) refl)
+        where
+          ran : (c : Call) → firstCall rest ≡ some c → Ran s c (draftsOf rest) answers shown at t s′ answers′ shown′ → (b : Bool) → roomAt answers shown at (answerS s c) ≡ b
+              → Going s₀ answers₀ shown₀ s′ answers′ shown′ at′
+          ran c e r true b =
+              let z : at′ ≡ moved at (draftsOf rest) (length (answerS s c .shown)) = cc (rw b at (r .turn), n) in
+              rw (z, rw b at (r .left), rw b at (r .numbers), rw b at (r .fields)) (going-more c e b)
+          ran c e r false b = absurd (let z : _≡_ {A = ℕ} 0 1 = cc (rw b at (r .turn), n) in omega arith)
+          go : (q : Option Call) → firstCall rest ≡ q → onCall q (Halted rest s answers shown t s′ answers′ shown′) (λ c. Ran s c (draftsOf rest) answers shown at t s′ answers′ shown′)
+              → Going s₀ answers₀ shown₀ s′ answers′ shown′ at′
+          go none e h = absurd (let z : _≡_ {A = ℕ} 0 1 = cc (h .turn, n) in omega arith)
+          go (some c) e r = ran c e r (roomAt answers shown at (answerS s c)) refl
+
+      -- and what is left to run falls
+      pub going-less : (at′ : Cursor) → t ≡ Next at′ → length ops - at′ .calls < length ops - at .calls
+      going-less at′ n = go (firstCall rest) refl (by-call (firstCall rest) refl)
+        where
+          ran : (c : Call) → firstCall rest ≡ some c → Ran s c (draftsOf rest) answers shown at t s′ answers′ shown′ → (b : Bool) → roomAt answers shown at (answerS s c) ≡ b
+              → length ops - at′ .calls < length ops - at .calls
+          ran c e r true b =
+              let z : at′ ≡ moved at (draftsOf rest) (length (answerS s c .shown)) = cc (rw b at (r .turn), n) in
+              let m : at′ .calls ≡ at .calls + 1 = ap (λ (x : Cursor). x .calls) z in
+              let l = left-now c e b in
+              omega arith
+          ran c e r false b = absurd (let z : _≡_ {A = ℕ} 0 1 = cc (rw b at (r .turn), n) in omega arith)
+          go : (q : Option Call) → firstCall rest ≡ q → onCall q (Halted rest s answers shown t s′ answers′ shown′) (λ c. Ran s c (draftsOf rest) answers shown at t s′ answers′ shown′)
+              → length ops - at′ .calls < length ops - at .calls
+          go none e h = absurd (let z : _≡_ {A = ℕ} 0 1 = cc (h .turn, n) in omega arith)
+          go (some c) e r = ran c e r (roomAt answers shown at (answerS s c)) refl
+
+      pub going-stop : (x : Stop) → t ≡ Stopped x → Finished s₀ answers₀ shown₀ p (record { stop = x; calls = at .calls }) s′ answers′ shown′
+      going-stop x n = go (firstCall rest) refl (by-call (firstCall rest) refl)
+        where
+          ran : (c : Call) → firstCall rest ≡ some c → Ran s c (draftsOf rest) answers shown at t s′ answers′ shown′ → (b : Bool) → roomAt answers shown at (answerS s c) ≡ b
+              → Finished s₀ answers₀ shown₀ p (record { stop = x; calls = at .calls }) s′ answers′ shown′
+          ran c e r true b = absurd (let z : _≡_ {A = ℕ} 0 1 = cc (rw b at (r .turn), n) in omega arith)
+          ran c e r false b =
+              let z : x ≡ NoRoom = cc (rw b at (r .turn), n) in
+              rw (z, rw b at (r .left), rw b at (r .numbers), rw b at (r .fields)) (finished-room c e b)
+          go : (q : Option Call) → firstCall rest ≡ q → onCall q (Halted rest s answers shown t s′ answers′ shown′) (λ c. Ran s c (draftsOf rest) answers shown at t s′ answers′ shown′)
+              → Finished s₀ answers₀ shown₀ p (record { stop = x; calls = at .calls }) s′ answers′ shown′
+          go none e h =
+              let z : x ≡ stopAt rest = cc (h .turn, n) in
+              rw (z, h .left, h .numbers, h .fields) (finished-list e)
+          go (some c) e r = ran c e r (roomAt answers shown at (answerS s c)) refl

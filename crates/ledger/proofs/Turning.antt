@@ -1,0 +1,252 @@
+-- What the functions of one turn promise, one law for each way that they return: its premises are what is known there, the callees' promises and
+-- the tests on the way.
+use Prim.Native.Nat.{ℕ, suc, _+_, _*_, _-_, _≤_, _<_}
+use native.Mathlib.Nat.{add-sub-cancel-left}
+use native.Mathlib.Omega.{arith}
+use native.Mathlib.Numerals.{add-one}
+use mathlib.Core.Path.{_≡_, refl, sym, ap, _∙_}
+use mathlib.Core.Bool.{Bool, true, false, _&&_, cond}
+use mathlib.Core.Option.{Option, some, none}
+use mathlib.Core.List.{List, [], _∷_}
+use lib.Dec.{eqb, leb}
+use lib.ListN.{length, take, drop, set, length-drop}
+use borrow.Author.Tests.{le-leb, lt-leb, eq-eqb, ne-eqb}
+use Rattle.word.specs.Place.{place, part}
+use Rattle.word.proofs.Place.{part-length, place-none, place-stores}
+use Rattle.store.specs.Answer.{numberOf}
+use Rattle.store.specs.Refusals.{formatAnswer, updateAnswer, deleteAnswer, settleAnswer, revertAnswer}
+use Rattle.store.specs.Calls.{formatMst, formatXrf, viewOf, settledViewOf, createOf, createMst, createXrf, updateMst, updateXrf, deleteMst, deleteXrf, settleMst, settleXrf, revertXrf}
+use Rattle.store.specs.declared.answer.Answer.{Answer}
+use Rattle.store.specs.declared.create.Created.{Created}
+use Rattle.store.specs.declared.views.Shown.{Shown}
+use Rattle.layout.specs.declared.sizes.Mfn.{Mfn}
+use Rattle.layout.specs.declared.sizes.Tag.{Tag}
+use Rattle.soundness.specs.Sound.{checkAnswer}
+use Rattle.ledger.specs.Call.{Call, create, update, Outcome}
+use Rattle.ledger.specs.StoreRun.{Store, store, answerS, nextS}
+use Rattle.ledger.specs.Replay.{Script, firstCall, onCall, hasRoom, threeNumbers, stopAt}
+use Rattle.ledger.specs.Turns.{counts, draftsOf, leftOf, noDraft, opIn, readingCall, writingAt, draftOf, scriptAt, leftAt, moved, DraftWithin, Within, shownOutcome, createdOutcome, withoutMfn, Wrote, roomAt, Ran, Halted, Turned}
+use Rattle.ledger.specs.declared.replay.Stop.{Stop}
+use Rattle.ledger.specs.declared.replay.Stop.the-variants.{Ended, NoRoom}
+use Rattle.ledger.specs.declared.replay.Counts.{Counts}
+use Rattle.ledger.specs.declared.replay.Reading.{Reading}
+use Rattle.ledger.specs.declared.replay.Reading.the-variants.{View, Settled, Check}
+use Rattle.ledger.specs.declared.replay.Writing.{Writing}
+use Rattle.ledger.specs.declared.replay.Writing.the-variants.{Format, Create, Update, Delete, Settle, Revert}
+use Rattle.ledger.specs.declared.replay.Op.{Op}
+use Rattle.ledger.specs.declared.replay.Op.the-variants.{Asks, Writes}
+use Rattle.ledger.specs.declared.replay.Cursor.{Cursor}
+use Rattle.ledger.specs.declared.replay.Turn.{Turn}
+use Rattle.ledger.specs.declared.replay.Turn.the-variants.{Next, Stopped}
+use Rattle.ledger.proofs.Decoding.{Fits, Decoded, decoded, asks-call, writes-call, malformed-call, too-short}
+use Rattle.ledger.specs.declared.replay.Op.the-variants as op
+use Rattle.ledger.specs.declared.replay.Stop.the-variants as stop
+
+-- ---- calls that read
+
+module _ (mst xrf : List ℕ) (r : Reading) (sh : Shown) where
+  pub view-asked : (m : Mfn) (tag : Tag) (occ : ℕ) → r ≡ View m tag occ → sh ≡ viewOf mst xrf (m .0) (tag .0) occ
+      → shownOutcome mst sh ≡ answerS (store mst xrf) (readingCall r)
+  unfolding answerS
+  view-asked m tag occ e f = rw (e, f)
+
+  pub settled-asked : (m : Mfn) (tag : Tag) (occ : ℕ) → r ≡ Settled m tag occ → sh ≡ settledViewOf mst xrf (m .0) (tag .0) occ
+      → shownOutcome mst sh ≡ answerS (store mst xrf) (readingCall r)
+  unfolding answerS
+  settled-asked m tag occ e f = rw (e, f)
+
+pub check-asked : (mst xrf : List ℕ) (r : Reading) (a : Answer) → r ≡ Check → a ≡ checkAnswer mst xrf
+    → shownOutcome mst (record { answer = a; start = 0; len = 0 }) ≡ answerS (store mst xrf) (readingCall r)
+unfolding answerS
+check-asked mst xrf r a e f = rw (e, f)
+
+-- ---- calls that may write
+
+module _ (mst xrf mst′ xrf′ tags lens bytes : List ℕ) (c : Call) where
+  pub create-wrote : (r : Created) → r ≡ createOf mst xrf tags lens bytes → mst′ ≡ createMst mst xrf tags lens bytes
+      → xrf′ ≡ createXrf mst xrf tags lens bytes → c ≡ create tags lens bytes → Wrote (store mst xrf) c r (store mst′ xrf′)
+  unfolding answerS nextS
+  create-wrote r e f g h = record { outcome = rw (h, e); left = rw (h, f, g) }
+
+  pub update-wrote : (m : ℕ) (a : Answer) → a ≡ updateAnswer mst xrf m tags lens bytes → mst′ ≡ updateMst mst xrf m tags lens bytes
+      → xrf′ ≡ updateXrf mst xrf m tags lens bytes → c ≡ update m tags lens bytes → Wrote (store mst xrf) c (withoutMfn a) (store mst′ xrf′)
+  unfolding answerS nextS
+  update-wrote m a e f g h = record { outcome = rw (h, e); left = rw (h, f, g) }
+
+module _ (mst xrf tags lens bytes mst′ xrf′ : List ℕ) (at : Cursor) where
+  module _ (w : Writing) (a : Answer) (r : Created) where
+    pub format-writes : w ≡ Format → r ≡ withoutMfn a → a ≡ formatAnswer mst xrf → mst′ ≡ formatMst mst xrf → xrf′ ≡ formatXrf mst xrf
+        → Wrote (store mst xrf) (writingAt tags lens bytes at w) r (store mst′ xrf′)
+    unfolding answerS nextS
+    format-writes k i e f g = record { outcome = rw (k, i, e); left = rw (k, f, g) }
+
+    pub create-writes : (n : Counts) → w ≡ Create n → Wrote (store mst xrf) (writingAt tags lens bytes at (Create n)) r (store mst′ xrf′)
+        → Wrote (store mst xrf) (writingAt tags lens bytes at w) r (store mst′ xrf′)
+    create-writes n k h = rw k h
+
+    pub update-writes : (m : Mfn) (n : Counts) → w ≡ Update m n → r ≡ withoutMfn a
+        → Wrote (store mst xrf) (writingAt tags lens bytes at (Update m n)) (withoutMfn a) (store mst′ xrf′)
+        → Wrote (store mst xrf) (writingAt tags lens bytes at w) r (store mst′ xrf′)
+    update-writes m n k i h = rw (k, i) h
+
+    pub delete-writes : (m : Mfn) → w ≡ Delete m → r ≡ withoutMfn a → a ≡ deleteAnswer mst xrf (m .0)
+        → mst′ ≡ deleteMst mst xrf (m .0) → xrf′ ≡ deleteXrf mst xrf (m .0)
+        → Wrote (store mst xrf) (writingAt tags lens bytes at w) r (store mst′ xrf′)
+    unfolding answerS nextS
+    delete-writes m k i e f g = record { outcome = rw (k, i, e); left = rw (k, f, g) }
+
+    pub settle-writes : (m : Mfn) → w ≡ Settle m → r ≡ withoutMfn a → a ≡ settleAnswer mst xrf (m .0)
+        → mst′ ≡ settleMst mst xrf (m .0) → xrf′ ≡ settleXrf mst xrf (m .0)
+        → Wrote (store mst xrf) (writingAt tags lens bytes at w) r (store mst′ xrf′)
+    unfolding answerS nextS
+    settle-writes m k i e f g = record { outcome = rw (k, i, e); left = rw (k, f, g) }
+
+pub revert-writes : (mst xrf tags lens bytes xrf′ : List ℕ) (at : Cursor) (w : Writing) (a : Answer) (r : Created) (m : Mfn)
+    → w ≡ Revert m → r ≡ withoutMfn a → a ≡ revertAnswer mst xrf (m .0) → xrf′ ≡ revertXrf mst xrf (m .0)
+    → Wrote (store mst xrf) (writingAt tags lens bytes at w) r (store mst xrf′)
+unfolding answerS nextS
+revert-writes mst xrf tags lens bytes xrf′ at w a r m k i e g = record { outcome = rw (k, i, e); left = rw (k, g) }
+
+-- ---- a call is run and reported
+
+-- a call that reads leaves the store as it was
+reading-keeps : (s : Store) (r : Reading) → nextS s (readingCall r) ≡ s
+unfolding nextS
+reading-keeps s (View m tag occ) = refl
+reading-keeps s (Settled m tag occ) = refl
+reading-keeps s Check = refl
+
+module _ (s : Store) (c : Call) (n : Counts) (answers shown : List ℕ) (at : Cursor) where
+  full : roomAt answers shown at (answerS s c) ≡ false → Ran s c n answers shown at (Stopped NoRoom) s answers shown
+  full b = record { turn = rw b; left = rw b; numbers = rw b; fields = rw b }
+
+  pub no-numbers : length answers - 3 * at .calls < 3 → Ran s c n answers shown at (Stopped NoRoom) s answers shown
+  no-numbers h = full (rw (lt-leb 3 (length answers - 3 * at .calls) h))
+
+module _ (mst xrf answers shown : List ℕ) (at : Cursor) (r : Reading) (sh : Shown)
+    (e : shownOutcome mst sh ≡ answerS (store mst xrf) (readingCall r)) (w : sh .start + sh .len ≤ length mst) (h : 3 ≤ length answers - 3 * at .calls) where
+  abbrev s : Store
+  s = store mst xrf
+  abbrev o : Outcome
+  o = answerS s (readingCall r)
+
+  shown-length : length (o .shown) ≡ sh .len
+  shown-length = rw (← e) (part-length mst (sh .start) (sh .len) w)
+
+  pub no-bytes : length shown - at .shown < sh .len → Ran s (readingCall r) noDraft answers shown at (Stopped NoRoom) s answers shown
+  no-bytes k = full s (readingCall r) noDraft answers shown at (rw (le-leb 3 (length answers - 3 * at .calls) h, shown-length, lt-leb (sh .len) (length shown - at .shown) k))
+
+  pub asked-next : (answers′ shown′ : List ℕ) (n : Counts) (at′ : Cursor) → sh .len ≤ length shown - at .shown
+      → answers′ ≡ place answers (3 * at .calls) (numberOf (sh .answer) ∷ 0 ∷ sh .len ∷ [])
+      → shown′ ≡ place shown (at .shown) (part mst (sh .start) (sh .start + sh .len - sh .start))
+      → n ≡ noDraft → at′ ≡ moved at n (sh .len)
+      → Ran s (readingCall r) noDraft answers shown at (Next at′) s answers′ shown′
+  asked-next answers′ shown′ n at′ k en ef z m =
+      let b : roomAt answers shown at o ≡ true = rw (le-leb 3 (length answers - 3 * at .calls) h, shown-length, le-leb (sh .len) (length shown - at .shown) k) in
+      record {
+        turn = rw (b, shown-length, m, z);
+        left = rw (b, reading-keeps s r);
+        numbers = rw (b, shown-length, ← e) en;
+        fields = rw (b, ← e) (rw (add-sub-cancel-left (sh .start) (sh .len)) at ef);
+      }
+
+pub wrote-next : (s s′ : Store) (c : Call) (r : Created) (answers answers′ : List ℕ) (at at′ : Cursor) (k : Writing) (n : Counts)
+    → Wrote s c r s′ → 3 ≤ length answers - 3 * at .calls
+    → answers′ ≡ place answers (3 * at .calls) (numberOf (r .answer) ∷ r .mfn .0 ∷ 0 ∷ [])
+    → n ≡ draftOf k → at′ ≡ moved at n 0
+    → (shown : List ℕ) → Ran s c (draftOf k) answers shown at (Next at′) s′ answers′ shown
+wrote-next s s′ c r answers answers′ at at′ k n w h en z m shown =
+    let b : roomAt answers shown at (answerS s c) ≡ true = rw (le-leb 3 (length answers - 3 * at .calls) h, ← w .outcome, le-leb 0 (length shown - at .shown) (omega arith)) in
+    record {
+      turn = rw (b, ← w .outcome, m, z);
+      left = rw (b, w .left);
+      numbers = rw (b, ← w .outcome) en;
+      fields = rw (b, ← w .outcome) (sym (place-none shown (at .shown)));
+    }
+
+-- ---- a turn
+
+module _ (ops tags lens bytes : List ℕ) (at : Cursor) where
+  abbrev rest : Script
+  rest = scriptAt ops tags lens bytes at
+
+  rest-length : length (rest .ops) ≡ length ops - 5 * at .calls
+  rest-length = length-drop (5 * at .calls) ops
+
+  -- what is left is no call, though something is left
+  stop-malformed : (length ops ≡ 5 * at .calls → ⊥) → 5 * at .calls ≤ length ops → stop.Malformed ≡ stopAt rest
+  stop-malformed k h = rw (rest-length, ne-eqb (length ops - 5 * at .calls) 0 (λ e. k (omega arith)))
+
+  was-read : (left : Counts) (o : Op) → 5 ≤ length ops - 5 * at .calls → left ≡ leftAt (length tags) (length lens) (length bytes) at
+      → o ≡ opIn (drop (5 * at .calls) ops) left → Decoded rest o
+  was-read left o h el eo =
+      let l : left ≡ leftOf rest = el ∙ rw (length-drop (at .tags) tags, length-drop (at .lens) lens, length-drop (at .bytes) bytes) in
+      rw (eo, l) (decoded rest (let k = rest-length in omega arith))
+
+  pub draft-within : (left : Counts) (o : Op) (w : Writing) (answers shown : List ℕ) → 5 ≤ length ops - 5 * at .calls
+      → left ≡ leftAt (length tags) (length lens) (length bytes) at → o ≡ opIn (drop (5 * at .calls) ops) left → o ≡ Writes w
+      → Within ops tags lens bytes answers shown at → DraftWithin tags lens bytes at (draftOf w)
+  draft-within left o w answers shown h el eo e i =
+      let f = writes-call rest o (was-read left o h el eo) w e .2 in
+      let d = i .drafts-in in
+      let x = length-drop (at .tags) tags in
+      let y = length-drop (at .lens) lens in
+      let z = length-drop (at .bytes) bytes in
+      record { tags-in = omega arith; lens-in = omega arith; bytes-in = omega arith }
+
+  module _ (answers shown : List ℕ) (s : Store) where
+    halted : (x : Stop) → firstCall rest ≡ none → x ≡ stopAt rest → Turned rest s answers shown at (Stopped x) s answers shown
+    unfolding Turned
+    halted x e f = rw e (record { turn = ap Stopped f; left = refl; numbers = refl; fields = refl })
+
+    pub turned-ended : length ops ≡ 5 * at .calls → Turned rest s answers shown at (Stopped Ended) s answers shown
+    turned-ended h =
+        halted Ended (too-short rest (let k = rest-length in omega arith))
+        (rw (rest-length, eq-eqb (length ops - 5 * at .calls) 0 (omega arith)))
+
+    pub turned-short : (length ops ≡ 5 * at .calls → ⊥) → Within ops tags lens bytes answers shown at → length ops - 5 * at .calls < 5
+        → Turned rest s answers shown at (Stopped stop.Malformed) s answers shown
+    turned-short k w h = halted stop.Malformed (too-short rest (let l = rest-length in omega arith)) (stop-malformed k (w .ops-in))
+
+    module _ (left : Counts) (o : Op) (h : 5 ≤ length ops - 5 * at .calls) (el : left ≡ leftAt (length tags) (length lens) (length bytes) at)
+        (eo : o ≡ opIn (drop (5 * at .calls) ops) left) where
+      pub turned-malformed : o ≡ op.Malformed → Turned rest s answers shown at (Stopped stop.Malformed) s answers shown
+      turned-malformed e = halted stop.Malformed (malformed-call rest o (was-read left o h el eo) e) (stop-malformed (λ z. omega arith) (omega arith))
+
+      pub turned-asks : (r : Reading) (t : Turn) (answers′ shown′ : List ℕ) → o ≡ Asks r → Ran s (readingCall r) noDraft answers shown at t s answers′ shown′
+          → Turned rest s answers shown at t s answers′ shown′
+      unfolding Turned
+      turned-asks r t answers′ shown′ e k = let f = asks-call rest o (was-read left o h el eo) r e in rw (f .0, f .1) k
+
+      pub turned-writes : (w : Writing) (t : Turn) (s′ : Store) (answers′ : List ℕ) → o ≡ Writes w
+          → ((z : List ℕ) → Ran s (writingAt tags lens bytes at w) (draftOf w) answers z at t s′ answers′ z)
+          → Turned rest s answers shown at t s′ answers′ shown
+      unfolding Turned
+      turned-writes w t s′ answers′ e k = let f = writes-call rest o (was-read left o h el eo) w e in rw (f .0, f .1) (k shown)
+
+pub create-draft : (tags lens bytes : List ℕ) (at : Cursor) (w : Writing) (n : Counts) → w ≡ Create n → DraftWithin tags lens bytes at (draftOf w)
+    → DraftWithin tags lens bytes at n
+create-draft tags lens bytes at w n e h = rw e at h
+
+pub update-draft : (tags lens bytes : List ℕ) (at : Cursor) (w : Writing) (m : Mfn) (n : Counts) → w ≡ Update m n → DraftWithin tags lens bytes at (draftOf w)
+    → DraftWithin tags lens bytes at n
+update-draft tags lens bytes at w m n e h = rw e at h
+
+-- three stores are a place
+pub place-three : (d : List ℕ) (i x y z : ℕ) → i + 3 ≤ length d → set (set (set d i x) (i + 1) y) (i + 2) z ≡ place d i (x ∷ y ∷ z ∷ [])
+place-three d i x y z h = rw (add-one i, two i) (place-stores d i (x ∷ y ∷ z ∷ []) h)
+  where
+    two : (i : ℕ) → i + 2 ≡ suc (suc i)
+    two i = omega arith
+
+pub ruleset asked-answers = (view-asked, settled-asked, check-asked)
+
+pub ruleset written-answers = (format-writes, create-writes, update-writes, delete-writes, settle-writes, revert-writes, create-draft, update-draft)
+
+pub ruleset asked-turns = (no-numbers, no-bytes, asked-next)
+
+pub ruleset written-turns = (no-numbers, wrote-next)
+
+pub ruleset turns = (turned-ended, turned-short, turned-malformed, turned-asks, turned-writes)
+
+pub ruleset drafts = (draft-within)
