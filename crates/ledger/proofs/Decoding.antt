@@ -95,6 +95,7 @@ module _ (s : Script) (h : 5 ≤ length (s .ops)) where
     where
       n : Counts
       n = counts (getD (s .ops) 2 0) (getD (s .ops) 3 0) (getD (s .ops) 4 0)
+
       go : (b : Bool) → draftFits s ≡ b → Decoded s (opIn (s .ops) (leftOf s))
       go true t = rw (e, t) (written (Create n) (rw (five, e, t)) (rw e) (fits-test n s t))
       go false t = rw (e, t) (malformed (rw (five, e, t)))
@@ -102,6 +103,7 @@ module _ (s : Script) (h : 5 ≤ length (s .ops)) where
     where
       n : Counts
       n = counts (getD (s .ops) 2 0) (getD (s .ops) 3 0) (getD (s .ops) 4 0)
+
       go : (b : Bool) → draftFits s ≡ b → Decoded s (opIn (s .ops) (leftOf s))
       go true t = rw (e, t) (written (Update (mfnOf (getD (s .ops) 1 0)) n) (rw (five, e, t)) (rw e) (fits-test n s t))
       go false t = rw (e, t) (malformed (rw (five, e, t)))
@@ -113,6 +115,7 @@ module _ (s : Script) (h : 5 ≤ length (s .ops)) where
     where
       o : (n : ℕ) → n ≤ 8 → eqb (getD (s .ops) 0 0) n ≡ false
       o = other (getD (s .ops) 0 0) k
+
       none-first : firstCall s ≡ none
       none-first = rw (five, o 0 (omega arith), o 1 (omega arith), o 2 (omega arith), o 3 (omega arith), o 4 (omega arith), o 5 (omega arith), o 6 (omega arith), o 7 (omega arith), o 8 (omega arith))
 
@@ -169,8 +172,10 @@ has-call s c e = ⊎-elim short whole (lt-or-ge (length (s .ops)) 5)
     of-op _ (asked q f g) = rw g (fits-none s)
     of-op _ (written v f g h) = rw g h
     of-op _ (malformed f) = absurd (some-none e f)
+
     short : length (s .ops) < 5 → HasCall s
     short h = absurd (some-none e (too-short s h))
+
     whole : 5 ≤ length (s .ops) → HasCall s
     whole h = record { numbers = h; draft = of-op _ (decoded s h) }
 

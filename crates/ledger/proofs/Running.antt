@@ -116,11 +116,11 @@ module _ (ops tags lens bytes : List ℕ) where
         done = [];
         ran = [];
         within =
-          record {
-            ops-in = omega arith;
-            drafts-in = record { tags-in = omega arith; lens-in = omega arith; bytes-in = omega arith };
-            room-in = record { numbers-in = omega arith; shown-in = omega arith };
-          };
+            record {
+              ops-in = omega arith;
+              drafts-in = record { tags-in = omega arith; lens-in = omega arith; bytes-in = omega arith };
+              room-in = record { numbers-in = omega arith; shown-in = omega arith };
+            };
         answers-long = refl;
         shown-long = refl;
         done-count = refl;
@@ -236,7 +236,7 @@ module _ (ops tags lens bytes : List ℕ) where
           stop = stops;
           calls = sym n;
           left = g .store-is ∙ ap (λ (cs : List Call). afterS s₀ cs)
-            (sym (ap (λ (k : ℕ). take k (callsOf p)) n ∙ ap (take (at .calls)) (g .calls-are) ∙ take-at (g .ran) (leftCalls at) (at .calls) (g .ran-count)));
+              (sym (ap (λ (k : ℕ). take k (callsOf p)) n ∙ ap (take (at .calls)) (g .calls-are) ∙ take-at (g .ran) (leftCalls at) (at .calls) (g .ran-count)));
           numbers = g .numbers-are ∙ ap (λ (os : List Outcome). place answers₀ 0 (outcomeNumbers os)) (sym all);
           fields = g .bytes-are ∙ ap (λ (os : List Outcome). place shown₀ 0 (outcomeBytes os)) (sym all);
         }
@@ -289,6 +289,7 @@ module _ (ops tags lens bytes : List ℕ) where
               let z : at′ ≡ moved at (draftsOf rest) (length (answerS s c .shown)) = cc (rw b at (r .turn), n) in
               rw (z, rw b at (r .left), rw b at (r .numbers), rw b at (r .fields)) (going-more c e b)
           ran c e r false b = absurd (let z : _≡_ {A = ℕ} 0 1 = cc (rw b at (r .turn), n) in omega arith)
+
           go : (q : Option Call) → firstCall rest ≡ q → onCall q (Halted rest s answers shown t s′ answers′ shown′) (λ c. Ran s c (draftsOf rest) answers shown at t s′ answers′ shown′)
               → Going s₀ answers₀ shown₀ s′ answers′ shown′ at′
           go none e h = absurd (let z : _≡_ {A = ℕ} 0 1 = cc (h .turn, n) in omega arith)
@@ -306,6 +307,7 @@ module _ (ops tags lens bytes : List ℕ) where
               let l = left-now c e b in
               omega arith
           ran c e r false b = absurd (let z : _≡_ {A = ℕ} 0 1 = cc (rw b at (r .turn), n) in omega arith)
+
           go : (q : Option Call) → firstCall rest ≡ q → onCall q (Halted rest s answers shown t s′ answers′ shown′) (λ c. Ran s c (draftsOf rest) answers shown at t s′ answers′ shown′)
               → length ops - at′ .calls < length ops - at .calls
           go none e h = absurd (let z : _≡_ {A = ℕ} 0 1 = cc (h .turn, n) in omega arith)
@@ -320,6 +322,7 @@ module _ (ops tags lens bytes : List ℕ) where
           ran c e r false b =
               let z : x ≡ NoRoom = cc (rw b at (r .turn), n) in
               rw (z, rw b at (r .left), rw b at (r .numbers), rw b at (r .fields)) (finished-room c e b)
+
           go : (q : Option Call) → firstCall rest ≡ q → onCall q (Halted rest s answers shown t s′ answers′ shown′) (λ c. Ran s c (draftsOf rest) answers shown at t s′ answers′ shown′)
               → Finished s₀ answers₀ shown₀ p (record { stop = x; calls = at .calls }) s′ answers′ shown′
           go none e h =

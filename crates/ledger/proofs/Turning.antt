@@ -127,6 +127,7 @@ module _ (mst xrf answers shown : List ℕ) (at : Cursor) (r : Reading) (sh : Sh
     (e : shownOutcome mst sh ≡ answerS (store mst xrf) (readingCall r)) (w : sh .start + sh .len ≤ length mst) (h : 3 ≤ length answers - 3 * at .calls) where
   abbrev s : Store
   s = store mst xrf
+
   abbrev o : Outcome
   o = answerS s (readingCall r)
 

@@ -1,5 +1,6 @@
 // Replays a list of calls on two lent buffers and writes down what each call answers. What is written is the ledger's, for every list.
-use layout::sizes::{Mfn, Tag};
+use layout::sizes::Mfn;
+use layout::sizes::Tag;
 use store::answer::Answer;
 use store::create::Created;
 use store::views::Shown;
@@ -99,9 +100,17 @@ fn view_op(settled: bool, m: u32, tag: u32, occurrence: u32) -> Op
     let mfn = Mfn(m);
     let tag = Tag(tag as u16);
     if settled {
-        Op::Asks(Reading::Settled { mfn, tag, occurrence })
+        Op::Asks(Reading::Settled {
+            mfn,
+            tag,
+            occurrence,
+        })
     } else {
-        Op::Asks(Reading::View { mfn, tag, occurrence })
+        Op::Asks(Reading::View {
+            mfn,
+            tag,
+            occurrence,
+        })
     }
 }
 
@@ -153,8 +162,16 @@ fn ask(mst: &[u8], xrf: &[u8], r: Reading) -> Shown
     ensures within { λ s. ⌜ s .start + s .len ≤ length (now (mst .entry)) ⌝ }
 {
     match r {
-        Reading::View { mfn, tag, occurrence } => store::views::view(mst, xrf, mfn, tag, occurrence),
-        Reading::Settled { mfn, tag, occurrence } => store::views::view_settled(mst, xrf, mfn, tag, occurrence),
+        Reading::View {
+            mfn,
+            tag,
+            occurrence,
+        } => store::views::view(mst, xrf, mfn, tag, occurrence),
+        Reading::Settled {
+            mfn,
+            tag,
+            occurrence,
+        } => store::views::view_settled(mst, xrf, mfn, tag, occurrence),
         Reading::Check => Shown {
             answer: soundness::check::check(mst, xrf),
             start: 0,
@@ -164,7 +181,15 @@ fn ask(mst: &[u8], xrf: &[u8], r: Reading) -> Shown
 }
 
 // Creates a record of the draft at a cursor.
-fn create_next(mst: &mut [u8], xrf: &mut [u8], tags: &[u16], lens: &[u16], data: &[u8], at: Cursor, n: Counts) -> Created
+fn create_next(
+    mst: &mut [u8],
+    xrf: &mut [u8],
+    tags: &[u16],
+    lens: &[u16],
+    data: &[u8],
+    at: Cursor,
+    n: Counts,
+) -> Created
     requires { ⌜ DraftWithin (now tags) (now lens) (now «data») at n ⌝ }
     ensures { λ r. ⌜ Wrote (store (now (mst .entry)) (now (xrf .entry))) (writingAt (now (tags .entry)) (now (lens .entry)) (now («data» .entry)) at (Writing.Create n)) r (store (now (mst .exit)) (now (xrf .exit))) ⌝ }
 {
@@ -178,7 +203,16 @@ fn create_next(mst: &mut [u8], xrf: &mut [u8], tags: &[u16], lens: &[u16], data:
 }
 
 // Updates a record with the draft at a cursor.
-fn update_next(mst: &mut [u8], xrf: &mut [u8], m: Mfn, tags: &[u16], lens: &[u16], data: &[u8], at: Cursor, n: Counts) -> Answer
+fn update_next(
+    mst: &mut [u8],
+    xrf: &mut [u8],
+    m: Mfn,
+    tags: &[u16],
+    lens: &[u16],
+    data: &[u8],
+    at: Cursor,
+    n: Counts,
+) -> Answer
     requires { ⌜ DraftWithin (now tags) (now lens) (now «data») at n ⌝ }
     ensures { λ r. ⌜ Wrote (store (now (mst .entry)) (now (xrf .entry))) (writingAt (now (tags .entry)) (now (lens .entry)) (now («data» .entry)) at (Writing.Update m n)) (withoutMfn r) (store (now (mst .exit)) (now (xrf .exit))) ⌝ }
 {
@@ -202,7 +236,15 @@ fn without_mfn(answer: Answer) -> Created
 }
 
 // Runs a call that may write.
-fn write(mst: &mut [u8], xrf: &mut [u8], w: Writing, tags: &[u16], lens: &[u16], data: &[u8], at: Cursor) -> Created
+fn write(
+    mst: &mut [u8],
+    xrf: &mut [u8],
+    w: Writing,
+    tags: &[u16],
+    lens: &[u16],
+    data: &[u8],
+    at: Cursor,
+) -> Created
     requires { ⌜ DraftWithin (now tags) (now lens) (now «data») at (draftOf w) ⌝ }
     ensures { λ r. ⌜ Wrote (store (now (mst .entry)) (now (xrf .entry))) (writingAt (now (tags .entry)) (now (lens .entry)) (now («data» .entry)) at w) r (store (now (mst .exit)) (now (xrf .exit))) ⌝ }
 {
@@ -264,7 +306,14 @@ fn draft_of(w: Writing) -> Counts
 }
 
 // Runs and reports a call that only reads, where there is room.
-fn ask_turn(mst: &[u8], xrf: &[u8], r: Reading, answers: &mut [u32], shown: &mut [u8], at: Cursor) -> Turn
+fn ask_turn(
+    mst: &[u8],
+    xrf: &[u8],
+    r: Reading,
+    answers: &mut [u32],
+    shown: &mut [u8],
+    at: Cursor,
+) -> Turn
     requires { ⌜ RoomWithin (now answers) (now shown) at ⌝ }
     requires { ⌜ length (now mst) ≤ 536870400 ⌝ }
     ensures { λ t. ⌜ Ran (store (now (mst .entry)) (now (xrf .entry))) (readingCall r) noDraft (now (answers .entry)) (now (shown .entry)) at t (store (now (mst .entry)) (now (xrf .entry))) (now (answers .exit)) (now (shown .exit)) ⌝ }
