@@ -3,12 +3,12 @@
 use Prim.Native.Nat.{ℕ, _+_, _*_, _≤_, _<_}
 use native.Mathlib.Omega.{arith}
 use mathlib.Core.Path.{_≡_, refl, sym, ap, _∙_}
-use mathlib.Core.Logic.{_⊎_, inl, inr, ⊎-elim}
+use mathlib.Core.Logic.{_⊎_, ⊎-elim}
 use mathlib.Core.Bool.{Bool, true, false, not, _&&_, _||_, cond}
 use mathlib.Core.List.{List}
 use lib.Dec.{eqb}
 use lib.ListN.{length}
-use borrow.Author.Tests.{eqb-true, eqb-false, ltb-false, not-true, not-false}
+use borrow.Author.Tests.{eqb-false, ltb-false, not-true, not-false}
 use Rattle.layout.specs.Sizes.{mstPermitted, xrfPermitted, capacityOf}
 use Rattle.layout.specs.Entry.{placed, placeAddress}
 use Rattle.layout.specs.Control.{nextOf, endOf, formattedMst}
@@ -17,8 +17,7 @@ use Rattle.layout.specs.declared.sizes.Mfn.{Mfn}
 use Rattle.layout.specs.declared.entry.Mark.{Mark}
 use Rattle.layout.specs.declared.entry.Mark.the-variants.{Settled, Changed, New}
 use Rattle.layout.specs.declared.entry.Place.{Place}
-use Rattle.layout.specs.declared.entry.Entry.{Entry}
-use Rattle.layout.specs.declared.entry.Entry.the-variants.{Gone, Malformed, At}
+use Rattle.layout.specs.declared.entry.Entry.the-variants.{At}
 use Rattle.layout.specs.declared.leader.Leader.{Leader}
 use Rattle.layout.proofs.Tests.{false-true}
 use Rattle.record.specs.Draft.{needOf, draftRight, draftFields}
@@ -26,14 +25,14 @@ use Rattle.record.specs.Fields.{Field}
 use Rattle.record.specs.Bytes.{needFor}
 use Rattle.record.proofs.Draftable.{draft-need}
 use Rattle.store.specs.Answer.{numberOf, after}
-use Rattle.store.specs.Reading.{lengthsPermitted, controlFine, mfnKnown, entryFor, placeIn, placeFor, isMalformed, isGone, isSettled, isNew, leaderAt, recordFine, versionFine, currentFields}
+use Rattle.store.specs.Reading.{lengthsPermitted, controlFine, mfnKnown, entryFor, placeFor, isSettled, isNew, leaderAt, recordFine, versionFine, currentFields}
 use Rattle.store.specs.Refusals.{fine, bothFine, exceeds, formatAnswer, createAnswer, updateAppends, updateAnswer, deleteAnswer, settleAnswer, revertAnswer}
 use Rattle.store.specs.Calls.{placeAtEnd, pendingMark, versionAppended, versionInPlace, formatMst, formatXrf, createdMst, createdXrf, createOf, createMst, createXrf, updatedMst, updatedXrf, updateMst, updateXrf, deletedMst, deletedXrf, deleteMst, deleteXrf, settledMst, settledXrf, settleMst, settleXrf, revertedXrf, revertXrf}
 use Rattle.store.specs.Steps.{knownIf, settlePlan, revertPlan, createPlan, creatingAnswer, planIf, updatePlan, deletePlan, Planned}
 use Rattle.store.specs.Views.{knownAnswer}
 use Rattle.store.specs.Writing.{HasSlot, AtEnd, DraftFits, RecordRead}
 use Rattle.store.specs.declared.answer.Answer.{Answer}
-use Rattle.store.specs.declared.answer.Answer.the-variants.{Done, BadLength, BadControl, BadDraft, NoSuchMfn, Full, BadEntry, PhysicallyDeleted, BadRecord, Deleted, NotPending, NeverSettled, NoRoom}
+use Rattle.store.specs.declared.answer.Answer.the-variants.{Done, BadLength, BadDraft, Full, BadEntry, Deleted, NotPending, NeverSettled, NoRoom}
 use Rattle.store.specs.declared.create.Created.{Created}
 use Rattle.store.specs.declared.create.Creating.{Creating}
 use Rattle.store.specs.declared.create.Creating.the-variants.{Write, Unwritten}
@@ -41,7 +40,7 @@ use Rattle.store.specs.declared.gate.Known.{Known}
 use Rattle.store.specs.declared.gate.Known.the-variants.{Record, Refused}
 use Rattle.store.specs.declared.versions.Plan.{Plan}
 use Rattle.store.specs.declared.versions.Plan.the-variants.{Append, InPlace, Refuse}
-use Rattle.store.proofs.Gates.{Refusing, after-done, after-refused, after-cases, passed, gate-done, named-done, lengths-both, OpenFacts, open-from, KnownFacts, BackFacts, back-changed, planned-open, planned-known}
+use Rattle.store.proofs.Gates.{Refusing, after-refused, after-cases, passed, gate-done, named-done, lengths-both, OpenFacts, open-from, KnownFacts, BackFacts, back-changed, planned-open, planned-known}
 use Rattle.store.proofs.Told.{need-low, draft-fits, at-end, slot-known, read-known, read-own}
 
 -- ---- plans of answers that are done

@@ -5,7 +5,7 @@ use Prim.Native.Nat.{ℕ, _+_, _-_, _≤_}
 use native.Mathlib.Omega.{arith}
 use mathlib.Core.Path.{_≡_, refl, sym, ap, _∙_}
 use mathlib.Core.Logic.{⊎-elim}
-use mathlib.Core.Bool.{Bool, true, false, _&&_, cond}
+use mathlib.Core.Bool.{Bool, true, false, cond}
 use mathlib.Core.List.{List, [], _∷_}
 use lib.ListN.{length}
 use Rattle.word.specs.Place.{part}
@@ -19,21 +19,22 @@ use Rattle.layout.specs.declared.entry.Place.{Place}
 use Rattle.layout.specs.declared.leader.Leader.{Leader}
 use Rattle.layout.proofs.Tests.{and-false}
 use Rattle.record.specs.Record.{Readable}
-use Rattle.store.specs.Answer.{numberOf, Refusal, refuse, lowest, after}
+use Rattle.store.specs.Answer.{numberOf, refuse, lowest, after}
 use Rattle.store.specs.Reading.{placeFor, isChanged, recordFrom, leaderAt, backAddress, shownSettled}
 use Rattle.store.specs.Refusals.{gated, named, fine, bothFine, onCurrent, onSettled}
 use Rattle.store.specs.Steps.{gateOf, knownIf, knownOf, knownBoth, versionIf, currentVersion, settledVersion}
 use Rattle.store.specs.Calls.{settledAddress}
 use Rattle.store.specs.Views.{gateAnswer, knownAnswer, settledOf, Located, ReadableAt, Legible}
 use Rattle.store.specs.declared.answer.Answer.{Answer}
-use Rattle.store.specs.declared.answer.Answer.the-variants.{Done, Deleted, NeverSettled}
+use Rattle.store.specs.declared.answer.Answer.the-variants.{Done, Deleted, NeverSettled, NoField}
 use Rattle.store.specs.declared.gate.Gate.{Gate}
 use Rattle.store.specs.declared.gate.Gate.the-variants.{Open, Shut}
 use Rattle.store.specs.declared.gate.Known.{Known}
 use Rattle.store.specs.declared.gate.Known.the-variants.{Record, Refused}
 use Rattle.store.specs.declared.views.Version.{Version}
 use Rattle.store.specs.declared.views.Version.the-variants.{At as VersionAt, Refused as NoVersion}
-use Rattle.store.proofs.Gates.{Refusing, after-cases, refused-is, done-is, gated-passes, gate-done, named-done, gate-shut, OpenFacts, open-from, gate-open, part-short, RefusedFacts, known-refused, both-refused, KnownFacts, known-facts, BothFacts, both-facts}
+use Rattle.store.proofs.Gates.{Refusing, after-done, after-refused, after-cases, refused-is, done-is, gated-passes, gate-done, named-done, gate-shut, OpenFacts, open-from, gate-open, part-short, RefusedFacts, known-refused, both-refused, KnownFacts, known-facts, BothFacts, both-facts}
+use Rattle.store.proofs.Lowest.{above, lowest-append}
 
 -- ---- refusals
 
@@ -232,6 +233,32 @@ module _ (mst : List ℕ) (v : Version) (h : Legible mst v) (at end : ℕ) (e : 
   -- what lies in the record lies in the MST
   pub version-within : (start len : ℕ) → start + len ≤ leaderOf (part mst at (end - at)) .mfrl → at + start + len ≤ length mst
   version-within start len i = omega (arith, version-end-in, version-before, version-readable .record-in, part-short mst at (end - at))
+
+-- ---- 12, behind the refusals of a version
+
+abbrev pub noField : Bool → Answer
+noField none = cond none NoField Done
+
+module _ (mst xrf : List ℕ) (m : ℕ) (none : Bool) where
+  pub current-then : lowest (onCurrent mst xrf m (refuse NoField none ∷ []))
+      ≡ after (lowest (onCurrent mst xrf m [])) (noField none) (lowest (onCurrent mst xrf m []))
+  unfolding above numberOf
+  current-then = lowest-append (onCurrent mst xrf m []) (refuse NoField none ∷ []) refl
+
+  pub settled-then : lowest (onSettled mst xrf m (refuse NoField none ∷ []))
+      ≡ after (lowest (onSettled mst xrf m [])) (noField none) (lowest (onSettled mst xrf m []))
+  unfolding above numberOf
+  settled-then = lowest-append (onSettled mst xrf m []) (refuse NoField none ∷ []) refl
+
+-- what is shown of a version that was found is what is made of the later answer, and a refusal is what is made of itself
+pub version-shows : {S : Type 0} (shown : Version → S) (made : Answer → S) (a later : Answer) (at end : ℕ)
+    → shown (VersionAt at end) ≡ made later → (Refusing a → shown (NoVersion a) ≡ made a) → shown (versionIf a at end) ≡ made (after a later a)
+unfolding versionIf
+version-shows shown made a later at end found refused =
+    ⊎-elim
+    (λ d. rw (d .1, after-done a later a (d .0)) found)
+    (λ h. rw (h .1, after-refused a later a (h .0)) (refused (h .0)))
+    (after-cases a (VersionAt at end) (NoVersion a))
 
 pub ruleset version-answers =
     (version-open, current-shut, current-unknown, current-block, current-deleted, current-found, mark-deleted, mark-new, mark-settled, mark-changed, mark-block, mark-back-block, settled-shut, settled-unknown, settled-located, settled-found, arith)

@@ -3,20 +3,19 @@
 use Prim.Native.Nat.{ℕ, _+_, _-_, _^_, _≤_, _<_}
 use native.Mathlib.Omega.{arith}
 use mathlib.Core.Path.{_≡_, refl, sym, ap, _∙_}
-use mathlib.Core.Logic.{⊎-elim}
-use mathlib.Core.Bool.{cond}
-use mathlib.Core.List.{List, [], _∷_}
+use mathlib.Core.List.{List, []}
 use mir.Syntax.{w64}
 use mir.Val.{Fits}
 use lib.ListN.{length}
 use Rattle.word.specs.Place.{part}
 use Rattle.layout.specs.Entry.{placeAddress}
 use Rattle.layout.specs.Control.{endOf}
+use Rattle.layout.specs.declared.entry.Place.{Place}
 use Rattle.record.specs.Fields.{findOf}
 use Rattle.record.specs.declared.fields.Found.{Found}
 use Rattle.record.specs.declared.fields.Found.the-variants.{At, Missing}
 use Rattle.record.proofs.Search.{found-in}
-use Rattle.store.specs.Answer.{numberOf, refuse, lowest, after}
+use Rattle.store.specs.Answer.{numberOf, lowest, after}
 use Rattle.store.specs.Reading.{placeFor, recordAt, recordFrom}
 use Rattle.store.specs.Refusals.{isMissing, onCurrent, onSettled, viewAnswer, settledViewAnswer}
 use Rattle.store.specs.Steps.{versionIf, currentVersion, settledVersion}
@@ -27,9 +26,8 @@ use Rattle.store.specs.declared.answer.Answer.the-variants.{Done, NoFiel
 use Rattle.store.specs.declared.views.Shown.{Shown}
 use Rattle.store.specs.declared.views.Version.{Version}
 use Rattle.store.specs.declared.views.Version.the-variants.{At as VersionAt, Refused as NoVersion}
-use Rattle.store.proofs.Gates.{Refusing, after-cases, after-done, after-refused}
-use Rattle.store.proofs.Lowest.{above, lowest-append}
-use Rattle.store.proofs.VersionAnswers.{settled-from, current-legible, settled-legible, version-end-in, version-before, version-readable, version-within}
+use Rattle.store.proofs.Gates.{Refusing, after-refused}
+use Rattle.store.proofs.VersionAnswers.{noField, current-then, settled-then, version-shows, settled-from, current-legible, settled-legible, version-end-in, version-before, version-readable, version-within}
 
 -- ---- what is shown
 
@@ -42,10 +40,7 @@ pub refused-within : (mst : List ℕ) (a : Answer) (r : Shown) → r ≡ refused
 refused-within mst a r s = rw s (omega arith)
 
 -- 12, of what was found
-abbrev missing : Found → Answer
-missing f = cond (isMissing f) NoField Done
-
-shown-found : (at : ℕ) (f : Found) → shownFound at f ≡ shownAt (missing f) at f
+shown-found : (at : ℕ) (f : Found) → shownFound at f ≡ shownAt (noField (isMissing f)) at f
 unfolding shownAt after numberOf
 shown-found at (At start len) = refl
 shown-found at Missing = refl
@@ -74,41 +69,26 @@ module _ (mst : List ℕ) (tag occ : ℕ) (v : Version) where
       pub show-sum : Legible mst v → length mst < 2 ^ 64 → Fits w64 (at + start)
       show-sum h n = omega (arith, show-within h)
 
--- a view of a version: 12 where the search finds nothing, behind the version's own refusals
-version-shown : (mst : List ℕ) (a : Answer) (at end tag occ : ℕ)
-    → shownIn mst tag occ (versionIf a at end)
-    ≡ shownAt (after a (missing (findOf (part mst at (end - at)) tag occ)) a) at (findOf (part mst at (end - at)) tag occ)
-unfolding versionIf shownIn
-version-shown mst a at end tag occ =
-    ⊎-elim
-    (λ d. rw (d .1, after-done a (missing f) a (d .0)) (shown-found at f))
-    (λ h. rw (h .1, after-refused a (missing f) a (h .0)) (shown-refused a at f (h .0)))
-    (after-cases a (VersionAt at end) (NoVersion a))
-  where
-    f : Found
-    f = findOf (part mst at (end - at)) tag occ
-
 module _ (mst xrf : List ℕ) (m tag occ : ℕ) (v : Version) (r : Shown) (s : r ≡ shownIn mst tag occ v) where
+  version-shown : (a b : Answer) (at : ℕ) → v ≡ versionIf a at (endOf mst) → b ≡ after a (noField (isMissing (findOf (recordFrom mst at) tag occ))) a
+      → r ≡ shownAt b at (findOf (recordFrom mst at) tag occ)
+  unfolding shownIn
+  version-shown a b at e t =
+      let f : Found = findOf (recordFrom mst at) tag occ in
+      rw (s, e, t) (version-shows (shownIn mst tag occ) (λ c. shownAt c at f) a (noField (isMissing f)) at (endOf mst) (shown-found at f) (shown-refused a at f))
+
   pub view-shown : v ≡ currentVersion mst xrf m → r ≡ viewOf mst xrf m tag occ
-  unfolding currentVersion viewOf viewAnswer above numberOf
+  unfolding currentVersion viewOf viewAnswer
   view-shown e =
-      let at : ℕ = placeAddress (placeFor mst xrf m) in
-      let f : Found = findOf (recordAt mst (placeFor mst xrf m)) tag occ in
-      s
-      ∙ ap (shownIn mst tag occ) e
-      ∙ version-shown mst (lowest (onCurrent mst xrf m [])) at (endOf mst) tag occ
-      ∙ ap (λ (a : Answer). shownAt a at f) (sym (lowest-append (onCurrent mst xrf m []) (refuse NoField (isMissing f) ∷ []) refl))
+      let p : Place = placeFor mst xrf m in
+      version-shown (lowest (onCurrent mst xrf m [])) _ (placeAddress p) e (current-then mst xrf m (isMissing (findOf (recordAt mst p) tag occ)))
 
   pub settled-view-shown : v ≡ settledVersion mst xrf m → r ≡ settledViewOf mst xrf m tag occ
-  unfolding settledVersion settledViewOf settledViewAnswer above numberOf
+  unfolding settledVersion settledViewOf settledViewAnswer
   settled-view-shown e =
       let at : ℕ = settledAddress mst (placeFor mst xrf m) in
-      let f : Found = findOf (recordFrom mst at) tag occ in
       rw (← settled-from mst (placeFor mst xrf m))
-      (s
-      ∙ ap (shownIn mst tag occ) e
-      ∙ version-shown mst (lowest (onSettled mst xrf m [])) at (endOf mst) tag occ
-      ∙ ap (λ (a : Answer). shownAt a at f) (sym (lowest-append (onSettled mst xrf m []) (refuse NoField (isMissing f) ∷ []) refl)))
+      (version-shown (lowest (onSettled mst xrf m [])) _ at e (settled-then mst xrf m (isMissing (findOf (recordFrom mst at) tag occ))))
 
 -- ---- the field itself
 

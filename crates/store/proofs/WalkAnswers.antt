@@ -2,8 +2,7 @@
 -- they hand out the record's field of that number, and from the number of its fields on they answer 12.
 use Prim.Native.Nat.{ℕ, _+_, _-_, _^_, _≤_, _<_}
 use native.Mathlib.Omega.{arith}
-use mathlib.Core.Path.{_≡_, refl, sym, ap, _∙_}
-use mathlib.Core.Logic.{⊎-elim}
+use mathlib.Core.Path.{_≡_, refl, sym, _∙_}
 use mathlib.Core.Bool.{Bool, true, false, cond}
 use mathlib.Core.List.{List, [], _∷_}
 use mir.Syntax.{w64}
@@ -16,6 +15,7 @@ use Rattle.layout.specs.Entry.{placeAddress}
 use Rattle.layout.specs.Control.{endOf}
 use Rattle.layout.specs.Leader.{leaderOf}
 use Rattle.layout.specs.declared.sizes.Tag.{Tag}
+use Rattle.layout.specs.declared.entry.Place.{Place}
 use Rattle.record.specs.Directory.{tagAt, posAt, lenAt}
 use Rattle.record.specs.Fields.{Field, fieldsOf}
 use Rattle.record.specs.Walker.{atEnd, walkedAt}
@@ -23,7 +23,7 @@ use Rattle.record.specs.declared.walker.Walked.{Walked}
 use Rattle.record.specs.declared.walker.Walked.the-variants.{Field as FieldHere, End}
 use Rattle.record.proofs.FieldData.{fields-count}
 use Rattle.record.proofs.Walking.{field-in, walked-here, walked-is, walked-in}
-use Rattle.store.specs.Answer.{numberOf, refuse, lowest, after}
+use Rattle.store.specs.Answer.{numberOf, lowest, after}
 use Rattle.store.specs.Reading.{placeFor, recordAt, recordFrom, shownSettled, currentFields}
 use Rattle.store.specs.Refusals.{onCurrent, onSettled, fieldAnswer, settledFieldAnswer}
 use Rattle.store.specs.Steps.{versionIf, currentVersion, settledVersion}
@@ -34,9 +34,8 @@ use Rattle.store.specs.declared.answer.Answer.the-variants.{Done, NoFiel
 use Rattle.store.specs.declared.views.Version.{Version}
 use Rattle.store.specs.declared.views.Version.the-variants.{At as VersionAt, Refused as NoVersion}
 use Rattle.store.specs.declared.walk.ShownField.{ShownField}
-use Rattle.store.proofs.Gates.{Refusing, after-cases, after-done, after-refused, part-short}
-use Rattle.store.proofs.Lowest.{above, lowest-append}
-use Rattle.store.proofs.VersionAnswers.{settled-from, current-readable, current-legible, settled-readable, settled-legible, version-end-in, version-before, version-readable, version-within}
+use Rattle.store.proofs.Gates.{Refusing, after-refused, part-short}
+use Rattle.store.proofs.VersionAnswers.{noField, current-then, settled-then, version-shows, settled-from, current-readable, current-legible, settled-readable, settled-legible, version-end-in, version-before, version-readable, version-within}
 
 -- ---- what is handed out
 
@@ -54,16 +53,13 @@ pub refused-within : (mst : List ℕ) (a : Answer) (r : ShownField) → r ≡ re
 refused-within mst a r s = rw s (omega arith)
 
 -- 12, at the end of the directory
-abbrev ended : Bool → Answer
-ended over = cond over NoField Done
-
-handed-walked : (at : ℕ) (rec : List ℕ) (i : ℕ) → shownWalked at (walkedAt rec i) ≡ handedOut (ended (atEnd rec i)) at rec i
+handed-walked : (at : ℕ) (rec : List ℕ) (i : ℕ) → shownWalked at (walkedAt rec i) ≡ handedOut (noField (atEnd rec i)) at rec i
 unfolding walkedAt handedOut after numberOf
 handed-walked at rec i = by (atEnd rec i)
   where
     by : (over : Bool)
         → shownWalked at (cond over End (FieldHere (record { 0 = tagAt rec i }) (leaderOf rec .base + posAt rec i) (lenAt rec i)))
-        ≡ handedOut (ended over) at rec i
+        ≡ handedOut (noField over) at rec i
     by true = refl
     by false = refl
 
@@ -91,44 +87,26 @@ module _ (mst : List ℕ) (i : ℕ) (v : Version) where
       pub walk-sum : Legible mst v → length mst < 2 ^ 64 → Fits w64 (at + start)
       walk-sum h n = omega (arith, walk-within h)
 
--- the call: 12 at the end of the directory, behind the version's own refusals
-version-handed : (mst : List ℕ) (a : Answer) (at end i : ℕ)
-    → walkedIn mst i (versionIf a at end) ≡ handedOut (after a (ended (atEnd (part mst at (end - at)) i)) a) at (part mst at (end - at)) i
-unfolding versionIf walkedIn
-version-handed mst a at end i =
-    ⊎-elim
-    (λ d. rw (d .1, after-done a (ended (atEnd rec i)) a (d .0)) (handed-walked at rec i))
-    (λ h. rw (h .1, after-refused a (ended (atEnd rec i)) a (h .0)) (handed-refused a at rec i (h .0)))
-    (after-cases a (VersionAt at end) (NoVersion a))
-  where
-    rec : List ℕ
-    rec = part mst at (end - at)
+module _ (mst xrf : List ℕ) (m i : ℕ) (v : Version) (r : ShownField) (s : r ≡ walkedIn mst i v) where
+  version-handed : (a b : Answer) (at : ℕ) → v ≡ versionIf a at (endOf mst) → b ≡ after a (noField (atEnd (recordFrom mst at) i)) a
+      → r ≡ handedOut b at (recordFrom mst at) i
+  unfolding walkedIn
+  version-handed a b at e t =
+      let rec : List ℕ = recordFrom mst at in
+      rw (s, e, t) (version-shows (walkedIn mst i) (λ c. handedOut c at rec i) a (noField (atEnd rec i)) at (endOf mst) (handed-walked at rec i) (handed-refused a at rec i))
 
-module _ (mst xrf : List ℕ) (m i : ℕ) where
-  -- the answer, by the version's own refusals
-  current-answer : fieldAnswer mst xrf m i
-      ≡ after (lowest (onCurrent mst xrf m [])) (ended (atEnd (recordAt mst (placeFor mst xrf m)) i)) (lowest (onCurrent mst xrf m []))
-  unfolding fieldAnswer above numberOf
-  current-answer = lowest-append (onCurrent mst xrf m []) (refuse NoField (atEnd (recordAt mst (placeFor mst xrf m)) i) ∷ []) refl
+  pub field-handed : v ≡ currentVersion mst xrf m → r ≡ fieldOf mst xrf m i
+  unfolding currentVersion fieldOf fieldAnswer
+  field-handed e =
+      let p : Place = placeFor mst xrf m in
+      version-handed (lowest (onCurrent mst xrf m [])) _ (placeAddress p) e (current-then mst xrf m (atEnd (recordAt mst p) i))
 
-  settled-answer : settledFieldAnswer mst xrf m i
-      ≡ after (lowest (onSettled mst xrf m [])) (ended (atEnd (shownSettled mst (placeFor mst xrf m)) i)) (lowest (onSettled mst xrf m []))
-  unfolding settledFieldAnswer above numberOf
-  settled-answer = lowest-append (onSettled mst xrf m []) (refuse NoField (atEnd (shownSettled mst (placeFor mst xrf m)) i) ∷ []) refl
-
-  module _ (v : Version) (r : ShownField) (s : r ≡ walkedIn mst i v) where
-    pub field-handed : v ≡ currentVersion mst xrf m → r ≡ fieldOf mst xrf m i
-    unfolding currentVersion fieldOf
-    field-handed e =
-        let at : ℕ = placeAddress (placeFor mst xrf m) in
-        rw current-answer (s ∙ ap (walkedIn mst i) e ∙ version-handed mst (lowest (onCurrent mst xrf m [])) at (endOf mst) i)
-
-    pub settled-field-handed : v ≡ settledVersion mst xrf m → r ≡ settledFieldOf mst xrf m i
-    unfolding settledVersion settledFieldOf
-    settled-field-handed e =
-        let at : ℕ = settledAddress mst (placeFor mst xrf m) in
-        rw (settled-answer, ← settled-from mst (placeFor mst xrf m))
-        (s ∙ ap (walkedIn mst i) e ∙ version-handed mst (lowest (onSettled mst xrf m [])) at (endOf mst) i)
+  pub settled-field-handed : v ≡ settledVersion mst xrf m → r ≡ settledFieldOf mst xrf m i
+  unfolding settledVersion settledFieldOf settledFieldAnswer
+  settled-field-handed e =
+      let at : ℕ = settledAddress mst (placeFor mst xrf m) in
+      rw (← settled-from mst (placeFor mst xrf m))
+      (version-handed (lowest (onSettled mst xrf m [])) _ at e (settled-then mst xrf m (atEnd (recordFrom mst at) i)))
 
 pub ruleset walk-answers =
     (refused-within, walk-refused, walk-ended, walk-found, walk-within, walk-sum, version-end-in, version-before, version-readable, current-legible, settled-legible, field-handed, settled-field-handed, arith)
@@ -151,7 +129,7 @@ module _ (mst : List ℕ) (at end i : ℕ) (h : ReadableAt mst at end) where
       (part-part mst at (end - at) (leaderOf rec .base + posAt rec i) (lenAt rec i)
       (omega (arith, field-in rec i (record { readable = h .readable; listed = l }), h .readable .record-in, part-short mst at (end - at))))
 
-  hands-out : (a : Answer) → a ≡ Done → HandsOut mst (fieldsOf rec) i (handedOut (after a (ended (atEnd rec i)) a) at rec i)
+  hands-out : (a : Answer) → a ≡ Done → HandsOut mst (fieldsOf rec) i (handedOut (after a (noField (atEnd rec i)) a) at rec i)
   unfolding handedOut after numberOf
   hands-out a e =
       record {
@@ -165,15 +143,15 @@ module _ (mst : List ℕ) (at end i : ℕ) (h : ReadableAt mst at end) where
 module _ (mst xrf : List ℕ) (m i : ℕ) where
   -- where the current version is found, the fields that are handed out are its fields
   pub handed-out : lowest (onCurrent mst xrf m []) ≡ Done → HandsOut mst (currentFields mst (placeFor mst xrf m)) i (fieldOf mst xrf m i)
-  unfolding fieldOf
+  unfolding fieldOf fieldAnswer
   handed-out e =
-      rw (current-answer mst xrf m i)
+      rw (current-then mst xrf m (atEnd (recordAt mst (placeFor mst xrf m)) i))
       (hands-out mst (placeAddress (placeFor mst xrf m)) (endOf mst) i (current-readable mst xrf m e) (lowest (onCurrent mst xrf m [])) e)
 
   -- and those of the settled version the fields of the record that the settled view reads
   pub settled-handed-out : lowest (onSettled mst xrf m []) ≡ Done
       → HandsOut mst (fieldsOf (shownSettled mst (placeFor mst xrf m))) i (settledFieldOf mst xrf m i)
-  unfolding settledFieldOf
+  unfolding settledFieldOf settledFieldAnswer
   settled-handed-out e =
-      rw (settled-answer mst xrf m i, ← settled-from mst (placeFor mst xrf m))
+      rw (settled-then mst xrf m (atEnd (shownSettled mst (placeFor mst xrf m)) i), ← settled-from mst (placeFor mst xrf m))
       (hands-out mst (settledAddress mst (placeFor mst xrf m)) (endOf mst) i (settled-readable mst xrf m e) (lowest (onSettled mst xrf m [])) e)
