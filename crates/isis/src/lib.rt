@@ -5,7 +5,7 @@ use store::answer::number;
 ghost use mathlib.Core.Path.{_≡_};
 ghost use Rattle.store.specs.Answer.{numberOf};
 ghost use Rattle.store.specs.Refusals.{formatAnswer, updateAnswer, deleteAnswer, settleAnswer, revertAnswer};
-ghost use Rattle.store.specs.Calls.{formatMst, formatXrf, viewOf, settledViewOf, createOf, createMst, createXrf, updateMst, updateXrf, deleteMst, deleteXrf, settleMst, settleXrf, revertXrf};
+ghost use Rattle.store.specs.Calls.{formatMst, formatXrf, viewOf, settledViewOf, fieldOf, settledFieldOf, createOf, createMst, createXrf, updateMst, updateXrf, deleteMst, deleteXrf, settleMst, settleXrf, revertXrf};
 ghost use Rattle.soundness.specs.Sound.{checkAnswer};
 
 // Empties both buffers.
@@ -56,6 +56,54 @@ pub extern "C" fn isis_view_settled(
     ensures size { λ _. ⌜ now (len .exit) ≡ settledViewOf (now (mst .entry)) (now (xrf .entry)) mfn tag occurrence .len ⌝ }
 {
     let shown = store::views::view_settled(mst, xrf, Mfn(mfn), Tag(tag), occurrence);
+    *start = shown.start;
+    *len = shown.len;
+    let a = shown.answer;
+    number(a)
+}
+
+// The field at an index of the current version: its tag, and where it lies in the MST.
+#[no_mangle]
+pub extern "C" fn isis_field(
+    mst: &[u8],
+    xrf: &[u8],
+    mfn: u32,
+    index: usize,
+    tag: &mut u16,
+    start: &mut usize,
+    len: &mut usize,
+) -> u32
+    ensures answers { λ r. ⌜ r ≡ numberOf (fieldOf (now (mst .entry)) (now (xrf .entry)) mfn index .answer) ⌝ }
+    ensures tagged { λ _. ⌜ now (tag .exit) ≡ fieldOf (now (mst .entry)) (now (xrf .entry)) mfn index .tag .0 ⌝ }
+    ensures first { λ _. ⌜ now (start .exit) ≡ fieldOf (now (mst .entry)) (now (xrf .entry)) mfn index .start ⌝ }
+    ensures size { λ _. ⌜ now (len .exit) ≡ fieldOf (now (mst .entry)) (now (xrf .entry)) mfn index .len ⌝ }
+{
+    let shown = store::walk::field_at(mst, xrf, Mfn(mfn), index);
+    *tag = shown.tag.0;
+    *start = shown.start;
+    *len = shown.len;
+    let a = shown.answer;
+    number(a)
+}
+
+// The same for the settled version.
+#[no_mangle]
+pub extern "C" fn isis_field_settled(
+    mst: &[u8],
+    xrf: &[u8],
+    mfn: u32,
+    index: usize,
+    tag: &mut u16,
+    start: &mut usize,
+    len: &mut usize,
+) -> u32
+    ensures answers { λ r. ⌜ r ≡ numberOf (settledFieldOf (now (mst .entry)) (now (xrf .entry)) mfn index .answer) ⌝ }
+    ensures tagged { λ _. ⌜ now (tag .exit) ≡ settledFieldOf (now (mst .entry)) (now (xrf .entry)) mfn index .tag .0 ⌝ }
+    ensures first { λ _. ⌜ now (start .exit) ≡ settledFieldOf (now (mst .entry)) (now (xrf .entry)) mfn index .start ⌝ }
+    ensures size { λ _. ⌜ now (len .exit) ≡ settledFieldOf (now (mst .entry)) (now (xrf .entry)) mfn index .len ⌝ }
+{
+    let shown = store::walk::settled_field_at(mst, xrf, Mfn(mfn), index);
+    *tag = shown.tag.0;
     *start = shown.start;
     *len = shown.len;
     let a = shown.answer;

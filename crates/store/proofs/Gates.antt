@@ -3,10 +3,11 @@
 use Prim.Native.Nat.{ℕ, _+_, _-_, _%_, _≤_, _<_}
 use native.Mathlib.Omega.{arith}
 use mathlib.Core.Path.{_≡_, refl, sym, ap, _∙_}
+use mathlib.Core.Logic.{_⊎_, inl, inr}
 use mathlib.Core.Bool.{Bool, true, false, not, _&&_, cond}
 use mathlib.Core.List.{List}
 use lib.Dec.{eqb}
-use borrow.Author.Tests.{eq-eqb, ne-eqb}
+use borrow.Author.Tests.{eqb-true, eqb-false, eq-eqb, ne-eqb, not-false}
 use lib.ListN.{length, length-take}
 use Rattle.word.specs.Place.{part}
 use Rattle.layout.specs.Sizes.{mstPermitted, xrfPermitted, capacityOf}
@@ -87,6 +88,26 @@ after-same a old = same (eqb (numberOf a) 0)
     same true = refl
     same false = refl
 
+pub after-cases : {A : Type 0} (a : Answer) (new old : A) → ((a ≡ Done) × (after a new old ≡ new)) ⊎ (Refusing a × (after a new old ≡ old))
+after-cases a new old = by (eqb (numberOf a) 0) refl
+  where
+    by : (b : Bool) → eqb (numberOf a) 0 ≡ b → ((a ≡ Done) × (after a new old ≡ new)) ⊎ (Refusing a × (after a new old ≡ old))
+    by true e = let d = number-done a (eqb-true (numberOf a) 0 e) in inl (d, after-done a new old d)
+    by false e = let h = eqb-false (numberOf a) 0 e in inr (h, after-refused a new old h)
+
+-- what a call makes of its answer: `new` where it is done, else the answer itself, wrapped
+module _ {A : Type 0} (answer : Answer) (new : A) (wrap : Answer → A) where
+  pub refused-is : (a : Answer) → answer ≡ a → Refusing a → wrap a ≡ after answer new (wrap answer)
+  refused-is a e h = rw e (sym (after-refused a new (wrap a) h))
+
+  pub done-is : (r : A) → answer ≡ Done → r ≡ new → r ≡ after answer new (wrap answer)
+  done-is r e q = q ∙ sym (after-done answer new (wrap answer) e)
+
+-- the first refusal of a list that is done does not apply
+pub passed : (b : Bool) (a rest : Answer) → Refusing a → cond b a rest ≡ Done → (b ≡ false) × (rest ≡ Done)
+passed true a rest h e = absurd (refusing-not-done a h e)
+passed false a rest h e = (refl, e)
+
 -- ---- the gate
 
 -- 1 and 2 by whether lengths and control record are right
@@ -96,6 +117,15 @@ gateList lengths control rest = cond (not lengths) BadLength (cond (not control)
 pub gated-passes : (mst xrf : List ℕ) (rest : List Refusal) → lengthsPermitted mst xrf ≡ true → controlFine mst xrf ≡ true
     → lowest (gated mst xrf rest) ≡ lowest rest
 gated-passes mst xrf rest a b = rw (a, b)
+
+module _ (mst xrf : List ℕ) where
+  pub gate-done : (rest : Answer) → cond (not (lengthsPermitted mst xrf)) BadLength (cond (not (controlFine mst xrf)) BadControl rest) ≡ Done
+      → (lengthsPermitted mst xrf ≡ true) × (controlFine mst xrf ≡ true) × (rest ≡ Done)
+  unfolding numberOf
+  gate-done rest e =
+      let a = passed (not (lengthsPermitted mst xrf)) BadLength _ (λ z. omega arith) e in
+      let b = passed (not (controlFine mst xrf)) BadControl rest (λ z. omega arith) (a .1) in
+      (not-false _ (a .0), not-false _ (b .0), b .1)
 
 pub record ShutFacts (mst xrf : List ℕ) (a : Answer) : Type 0 where
   pub refusing : Refusing a
@@ -196,7 +226,7 @@ pub record FineFacts (mst : List ℕ) (m : ℕ) (p : Place) (l : Leader) : Type 
   pub leader : LeaderFacts m (p .deleted) (length (recordAt mst p)) l
   pub short : length (recordAt mst p) ≤ endOf mst - placeAddress p
 
-part-short : (d : List ℕ) (a n : ℕ) → length (part d a n) ≤ n
+pub part-short : (d : List ℕ) (a n : ℕ) → length (part d a n) ≤ n
 part-short d a n = simp length-take (omega arith)
 
 pub fine-facts : (mst : List ℕ) (m : ℕ) (p : Place) → recordFine mst m p ≡ true → FineFacts mst m p (leaderAt mst p)
@@ -259,6 +289,24 @@ namedList known e ok rest =
 pub named-passes : (mst xrf : List ℕ) (m : ℕ) (p : Place) (ok : Bool) (rest : List Refusal) → mfnKnown mst m ≡ true → entryFor mst xrf m ≡ At p → ok ≡ true
     → lowest (named mst xrf m ok rest) ≡ lowest rest
 named-passes mst xrf m p ok rest a b c = rw (a, b, c)
+
+entry-placed : (e : Entry) → isMalformed e ≡ false → isGone e ≡ false → e ≡ At (placeIn e)
+entry-placed Gone h k = absurd (false-true (sym k))
+entry-placed Malformed h k = absurd (false-true (sym h))
+entry-placed (At p) h k = refl
+
+module _ (mst xrf : List ℕ) where
+  pub named-done : (m : ℕ) (ok : Bool) (rest : Answer)
+      → cond (not (mfnKnown mst m)) NoSuchMfn
+      (cond (isMalformed (entryFor mst xrf m)) BadEntry (cond (isGone (entryFor mst xrf m)) PhysicallyDeleted (cond (not ok) BadRecord rest))) ≡ Done
+      → (mfnKnown mst m ≡ true) × (entryFor mst xrf m ≡ At (placeFor mst xrf m)) × (ok ≡ true) × (rest ≡ Done)
+  unfolding numberOf
+  named-done m ok rest e =
+      let a = passed (not (mfnKnown mst m)) NoSuchMfn _ (λ z. omega arith) e in
+      let b = passed (isMalformed (entryFor mst xrf m)) BadEntry _ (λ z. omega arith) (a .1) in
+      let c = passed (isGone (entryFor mst xrf m)) PhysicallyDeleted _ (λ z. omega arith) (b .1) in
+      let d = passed (not ok) BadRecord rest (λ z. omega arith) (c .1) in
+      (not-false _ (a .0), entry-placed (entryFor mst xrf m) (b .0) (c .0), not-false _ (d .0), d .1)
 
 pub record RefusedFacts (mst xrf : List ℕ) (m : ℕ) (ok : Bool) (a : Answer) : Type 0 where
   pub refusing : Refusing a

@@ -6,14 +6,14 @@ use native.Mathlib.Omega.{arith}
 use mathlib.Core.Path.{_≡_, refl, sym, ap, _∙_}
 use mathlib.Core.Logic.{_⊎_, inl, inr, ⊎-elim}
 use mathlib.Core.Bool.{Bool, true, false, _&&_, cond}
-use mathlib.Core.List.{List, [], _∷_}
+use mathlib.Core.List.{List, [], _∷_, _++_}
 use lib.Dec.{ltb}
 use Rattle.layout.proofs.Tests.{tests, false-true}
-use Rattle.store.specs.Answer.{numberOf, Refusal, lowest}
-use Rattle.store.specs.Refusals.{formatRefusals, formatAnswer, viewRefusals, viewAnswer, settledViewRefusals, settledViewAnswer, createRefusals, createAnswer, updateRefusals, updateAnswer, deleteRefusals, deleteAnswer, settleRefusals, settleAnswer, revertRefusals, revertAnswer}
+use Rattle.store.specs.Answer.{numberOf, Refusal, lowest, after}
+use Rattle.store.specs.Refusals.{formatRefusals, formatAnswer, viewRefusals, viewAnswer, settledViewRefusals, settledViewAnswer, fieldRefusals, fieldAnswer, settledFieldRefusals, settledFieldAnswer, createRefusals, createAnswer, updateRefusals, updateAnswer, deleteRefusals, deleteAnswer, settleRefusals, settleAnswer, revertRefusals, revertAnswer}
 use Rattle.store.specs.declared.answer.Answer.{Answer}
 use Rattle.store.specs.declared.answer.Answer.the-variants.{Done}
-use Rattle.store.proofs.Gates.{done-number}
+use Rattle.store.proofs.Gates.{done-number, after-done, after-refused}
 
 -- the numbers ascend, all of them above n
 unfoldable pub above : ℕ → List Refusal → Bool
@@ -73,6 +73,23 @@ lowest-above n (r ∷ rs) e = by (r .applies) refl (lowest-above (numberOf (r .a
 pub lowest-is-lowest : (rs : List Refusal) → ascends rs ≡ true → IsLowest rs (lowest rs)
 lowest-is-lowest rs e = lowest-above 0 rs e
 
+append-above : (n : ℕ) (rs ss : List Refusal) → above n rs ≡ true → lowest (rs ++ ss) ≡ after (lowest rs) (lowest ss) (lowest rs)
+unfolding above
+append-above n [] ss e = sym (after-done Done (lowest ss) Done refl)
+append-above n (r ∷ rs) ss e = by (r .applies) (append-above (numberOf (r .answer)) rs ss (q .1))
+  where
+    q : (n < numberOf (r .answer)) × (above (numberOf (r .answer)) rs ≡ true)
+    q = simp tests at e
+
+    by : (t : Bool) → lowest (rs ++ ss) ≡ after (lowest rs) (lowest ss) (lowest rs)
+        → cond t (r .answer) (lowest (rs ++ ss)) ≡ after (cond t (r .answer) (lowest rs)) (lowest ss) (cond t (r .answer) (lowest rs))
+    by true i = sym (after-refused (r .answer) (lowest ss) (r .answer) (λ z. omega (arith, q .0)))
+    by false i = i
+
+-- of two tables, one after the other: the second one's where the first one's is done
+pub lowest-append : (rs ss : List Refusal) → ascends rs ≡ true → lowest (rs ++ ss) ≡ after (lowest rs) (lowest ss) (lowest rs)
+lowest-append rs ss e = append-above 0 rs ss e
+
 -- ---- the tables
 
 module _ (mst xrf : List ℕ) where
@@ -97,6 +114,14 @@ module _ (mst xrf : List ℕ) where
     pub settled-view-lowest : (tag occ : ℕ) → IsLowest (settledViewRefusals mst xrf m tag occ) (settledViewAnswer mst xrf m tag occ)
     unfolding settledViewAnswer above numberOf
     settled-view-lowest tag occ = lowest-is-lowest (settledViewRefusals mst xrf m tag occ) refl
+
+    pub field-lowest : (i : ℕ) → IsLowest (fieldRefusals mst xrf m i) (fieldAnswer mst xrf m i)
+    unfolding fieldAnswer above numberOf
+    field-lowest i = lowest-is-lowest (fieldRefusals mst xrf m i) refl
+
+    pub settled-field-lowest : (i : ℕ) → IsLowest (settledFieldRefusals mst xrf m i) (settledFieldAnswer mst xrf m i)
+    unfolding settledFieldAnswer above numberOf
+    settled-field-lowest i = lowest-is-lowest (settledFieldRefusals mst xrf m i) refl
 
     pub delete-lowest : IsLowest (deleteRefusals mst xrf m) (deleteAnswer mst xrf m)
     unfolding deleteAnswer above numberOf

@@ -41,7 +41,7 @@ use Rattle.store.specs.declared.versions.Plan.{Plan}
 use Rattle.store.specs.declared.versions.Plan.the-variants.{Append, InPlace, Refuse}
 use Rattle.store.proofs.answer.Answer as answer
 use Rattle.store.proofs.Told.{draft-fits, read-known}
-use Rattle.store.proofs.Gates.{Refusing, after-done, after-refused, gate-shut, OpenFacts, gate-open, known-refused, both-refused, KnownFacts, known-facts, BothFacts, both-facts}
+use Rattle.store.proofs.Gates.{Refusing, refused-is, done-is, gate-shut, OpenFacts, gate-open, known-refused, both-refused, KnownFacts, known-facts, BothFacts, both-facts}
 
 -- ---- variants that are left in an `else`
 
@@ -67,15 +67,6 @@ pub not-settled : (k : Mark) → OneOf (1 ∷ 2 ∷ []) (tagOf mark.the-type k) 
 not-settled Settled v = absurd (miss (1 ∷ 2 ∷ []) 0 tt v)
 not-settled Changed v = refl
 not-settled New v = refl
-
--- ---- plans by their answers
-
-module _ {A : Type 0} (answer : Answer) (new : A) (wrap : Answer → A) where
-  refused-is : (a : Answer) → answer ≡ a → Refusing a → wrap a ≡ after answer new (wrap answer)
-  refused-is a e h = rw e (sym (after-refused a new (wrap a) h))
-
-  done-is : (r : A) → answer ≡ Done → r ≡ new → r ≡ after answer new (wrap answer)
-  done-is r e q = q ∙ sym (after-done answer new (wrap answer) e)
 
 -- what is asked behind an open gate
 module _ (mst xrf : List ℕ) (g : Gate) (p : g ≡ gateOf mst xrf) (next : Mfn) (end : ℕ) (q : g ≡ Open next end) where

@@ -3,12 +3,12 @@
 use Prim.Native.Nat.{ℕ, _+_, _*_, _≤_, _<_}
 use native.Mathlib.Omega.{arith}
 use mathlib.Core.Path.{_≡_, refl, sym, ap, _∙_}
-use mathlib.Core.Logic.{_⊎_, inl, inr, ⊎-elim}
+use mathlib.Core.Logic.{_⊎_, ⊎-elim}
 use mathlib.Core.Bool.{Bool, true, false, not, _&&_, _||_, cond}
 use mathlib.Core.List.{List}
 use lib.Dec.{eqb}
 use lib.ListN.{length}
-use borrow.Author.Tests.{eqb-true, eqb-false, ltb-false, not-true, not-false}
+use borrow.Author.Tests.{eqb-false, ltb-false, not-true, not-false}
 use Rattle.layout.specs.Sizes.{mstPermitted, xrfPermitted, capacityOf}
 use Rattle.layout.specs.Entry.{placed, placeAddress}
 use Rattle.layout.specs.Control.{nextOf, endOf, formattedMst}
@@ -17,8 +17,7 @@ use Rattle.layout.specs.declared.sizes.Mfn.{Mfn}
 use Rattle.layout.specs.declared.entry.Mark.{Mark}
 use Rattle.layout.specs.declared.entry.Mark.the-variants.{Settled, Changed, New}
 use Rattle.layout.specs.declared.entry.Place.{Place}
-use Rattle.layout.specs.declared.entry.Entry.{Entry}
-use Rattle.layout.specs.declared.entry.Entry.the-variants.{Gone, Malformed, At}
+use Rattle.layout.specs.declared.entry.Entry.the-variants.{At}
 use Rattle.layout.specs.declared.leader.Leader.{Leader}
 use Rattle.layout.proofs.Tests.{false-true}
 use Rattle.record.specs.Draft.{needOf, draftRight, draftFields}
@@ -26,14 +25,14 @@ use Rattle.record.specs.Fields.{Field}
 use Rattle.record.specs.Bytes.{needFor}
 use Rattle.record.proofs.Draftable.{draft-need}
 use Rattle.store.specs.Answer.{numberOf, after}
-use Rattle.store.specs.Reading.{lengthsPermitted, controlFine, mfnKnown, entryFor, placeIn, placeFor, isMalformed, isGone, isSettled, isNew, leaderAt, recordFine, versionFine, currentFields}
+use Rattle.store.specs.Reading.{lengthsPermitted, controlFine, mfnKnown, entryFor, placeFor, isSettled, isNew, leaderAt, recordFine, versionFine, currentFields}
 use Rattle.store.specs.Refusals.{fine, bothFine, exceeds, formatAnswer, createAnswer, updateAppends, updateAnswer, deleteAnswer, settleAnswer, revertAnswer}
 use Rattle.store.specs.Calls.{placeAtEnd, pendingMark, versionAppended, versionInPlace, formatMst, formatXrf, createdMst, createdXrf, createOf, createMst, createXrf, updatedMst, updatedXrf, updateMst, updateXrf, deletedMst, deletedXrf, deleteMst, deleteXrf, settledMst, settledXrf, settleMst, settleXrf, revertedXrf, revertXrf}
 use Rattle.store.specs.Steps.{knownIf, settlePlan, revertPlan, createPlan, creatingAnswer, planIf, updatePlan, deletePlan, Planned}
 use Rattle.store.specs.Views.{knownAnswer}
 use Rattle.store.specs.Writing.{HasSlot, AtEnd, DraftFits, RecordRead}
 use Rattle.store.specs.declared.answer.Answer.{Answer}
-use Rattle.store.specs.declared.answer.Answer.the-variants.{Done, BadLength, BadControl, BadDraft, NoSuchMfn, Full, BadEntry, PhysicallyDeleted, BadRecord, Deleted, NotPending, NeverSettled, NoRoom}
+use Rattle.store.specs.declared.answer.Answer.the-variants.{Done, BadLength, BadDraft, Full, BadEntry, Deleted, NotPending, NeverSettled, NoRoom}
 use Rattle.store.specs.declared.create.Created.{Created}
 use Rattle.store.specs.declared.create.Creating.{Creating}
 use Rattle.store.specs.declared.create.Creating.the-variants.{Write, Unwritten}
@@ -41,49 +40,12 @@ use Rattle.store.specs.declared.gate.Known.{Known}
 use Rattle.store.specs.declared.gate.Known.the-variants.{Record, Refused}
 use Rattle.store.specs.declared.versions.Plan.{Plan}
 use Rattle.store.specs.declared.versions.Plan.the-variants.{Append, InPlace, Refuse}
-use Rattle.store.proofs.Gates.{number-done, Refusing, refusing-not-done, after-done, after-refused, lengths-both, OpenFacts, open-from, KnownFacts, BackFacts, back-changed, planned-open, planned-known}
+use Rattle.store.proofs.Gates.{Refusing, after-refused, after-cases, passed, gate-done, named-done, lengths-both, OpenFacts, open-from, KnownFacts, BackFacts, back-changed, planned-open, planned-known}
 use Rattle.store.proofs.Told.{need-low, draft-fits, at-end, slot-known, read-known, read-own}
 
--- ---- answers that are done
-
-after-cases : {A : Type 0} (a : Answer) (new old : A) → ((a ≡ Done) × (after a new old ≡ new)) ⊎ (Refusing a × (after a new old ≡ old))
-after-cases a new old = by (eqb (numberOf a) 0) refl
-  where
-    by : (b : Bool) → eqb (numberOf a) 0 ≡ b → ((a ≡ Done) × (after a new old ≡ new)) ⊎ (Refusing a × (after a new old ≡ old))
-    by true e = let d = number-done a (eqb-true (numberOf a) 0 e) in inl (d, after-done a new old d)
-    by false e = let h = eqb-false (numberOf a) 0 e in inr (h, after-refused a new old h)
-
--- the first refusal of a list that is done does not apply
-passed : (b : Bool) (a rest : Answer) → Refusing a → cond b a rest ≡ Done → (b ≡ false) × (rest ≡ Done)
-passed true a rest h e = absurd (refusing-not-done a h e)
-passed false a rest h e = (refl, e)
+-- ---- plans of answers that are done
 
 module _ (mst xrf : List ℕ) where
-  gate-done : (rest : Answer) → cond (not (lengthsPermitted mst xrf)) BadLength (cond (not (controlFine mst xrf)) BadControl rest) ≡ Done
-      → (lengthsPermitted mst xrf ≡ true) × (controlFine mst xrf ≡ true) × (rest ≡ Done)
-  unfolding numberOf
-  gate-done rest e =
-      let a = passed (not (lengthsPermitted mst xrf)) BadLength _ (λ z. omega arith) e in
-      let b = passed (not (controlFine mst xrf)) BadControl rest (λ z. omega arith) (a .1) in
-      (not-false _ (a .0), not-false _ (b .0), b .1)
-
-  entry-placed : (e : Entry) → isMalformed e ≡ false → isGone e ≡ false → e ≡ At (placeIn e)
-  entry-placed Gone h k = absurd (false-true (sym k))
-  entry-placed Malformed h k = absurd (false-true (sym h))
-  entry-placed (At p) h k = refl
-
-  named-done : (m : ℕ) (ok : Bool) (rest : Answer)
-      → cond (not (mfnKnown mst m)) NoSuchMfn
-      (cond (isMalformed (entryFor mst xrf m)) BadEntry (cond (isGone (entryFor mst xrf m)) PhysicallyDeleted (cond (not ok) BadRecord rest))) ≡ Done
-      → (mfnKnown mst m ≡ true) × (entryFor mst xrf m ≡ At (placeFor mst xrf m)) × (ok ≡ true) × (rest ≡ Done)
-  unfolding numberOf
-  named-done m ok rest e =
-      let a = passed (not (mfnKnown mst m)) NoSuchMfn _ (λ z. omega arith) e in
-      let b = passed (isMalformed (entryFor mst xrf m)) BadEntry _ (λ z. omega arith) (a .1) in
-      let c = passed (isGone (entryFor mst xrf m)) PhysicallyDeleted _ (λ z. omega arith) (b .1) in
-      let d = passed (not ok) BadRecord rest (λ z. omega arith) (c .1) in
-      (not-false _ (a .0), entry-placed (entryFor mst xrf m) (b .0) (c .0), not-false _ (d .0), d .1)
-
   -- the plan's end, place and leader are the store's
   planned-at : (m : ℕ) (p : Place) (l : Leader) → lengthsPermitted mst xrf ≡ true → controlFine mst xrf ≡ true → mfnKnown mst m ≡ true
       → entryFor mst xrf m ≡ At (placeFor mst xrf m) → fine mst xrf m ≡ true → placeFor mst xrf m ≡ p → leaderAt mst (placeFor mst xrf m) ≡ l

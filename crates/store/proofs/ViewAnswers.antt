@@ -1,40 +1,33 @@
--- What the views show, by what their steps found. Each law's premises are what is known at one place of the code, so that
+-- What the views show of the version that they read. Each law's premises are what is known at one place of the code, so that
 -- `search view-answers` finds them there; a callee's result is a variable with what the callee ensures of it.
 use Prim.Native.Nat.{ℕ, _+_, _-_, _^_, _≤_, _<_}
 use native.Mathlib.Omega.{arith}
 use mathlib.Core.Path.{_≡_, refl, sym, ap, _∙_}
-use mathlib.Core.Bool.{Bool, true, false, _&&_, cond}
-use mathlib.Core.List.{List, [], _∷_}
+use mathlib.Core.List.{List, []}
 use mir.Syntax.{w64}
 use mir.Val.{Fits}
-use lib.ListN.{length, length-take}
+use lib.ListN.{length}
 use Rattle.word.specs.Place.{part}
 use Rattle.layout.specs.Entry.{placeAddress}
 use Rattle.layout.specs.Control.{endOf}
-use Rattle.layout.specs.declared.sizes.Mfn.{Mfn}
-use Rattle.layout.specs.declared.entry.Mark.{Mark}
-use Rattle.layout.specs.declared.entry.Mark.the-variants.{Settled, Changed, New}
 use Rattle.layout.specs.declared.entry.Place.{Place}
-use Rattle.layout.specs.declared.leader.Leader.{Leader}
 use Rattle.record.specs.Fields.{findOf}
-use Rattle.record.specs.Record.{Readable}
 use Rattle.record.specs.declared.fields.Found.{Found}
 use Rattle.record.specs.declared.fields.Found.the-variants.{At, Missing}
 use Rattle.record.proofs.Search.{found-in}
-use Rattle.store.specs.Answer.{numberOf, refuse, lowest, after}
-use Rattle.store.specs.Reading.{placeFor, isSettled, isChanged, isNew, recordAt, leaderAt, backAddress, shownSettled}
-use Rattle.store.specs.Refusals.{isMissing, viewAnswer, settledViewAnswer}
-use Rattle.store.specs.Steps.{gateOf, knownOf, knownBoth}
+use Rattle.store.specs.Answer.{numberOf, lowest, after}
+use Rattle.store.specs.Reading.{placeFor, recordAt, recordFrom}
+use Rattle.store.specs.Refusals.{isMissing, onCurrent, onSettled, viewAnswer, settledViewAnswer}
+use Rattle.store.specs.Steps.{versionIf, currentVersion, settledVersion}
 use Rattle.store.specs.Calls.{foundStart, foundLength, shownAt, viewOf, settledAddress, settledViewOf, shownBytes}
-use Rattle.store.specs.Views.{refusedView, gateAnswer, knownAnswer, shownFound, shownByMark, shownVersion, SettledKnown}
+use Rattle.store.specs.Views.{refusedView, versionAnswer, shownFound, shownIn, Legible}
 use Rattle.store.specs.declared.answer.Answer.{Answer}
-use Rattle.store.specs.declared.answer.Answer.the-variants.{Done, Deleted, NeverSettled, NoField}
-use Rattle.store.specs.declared.gate.Gate.{Gate}
-use Rattle.store.specs.declared.gate.Gate.the-variants.{Open, Shut}
-use Rattle.store.specs.declared.gate.Known.{Known}
-use Rattle.store.specs.declared.gate.Known.the-variants.{Record, Refused}
+use Rattle.store.specs.declared.answer.Answer.the-variants.{Done, NoField}
 use Rattle.store.specs.declared.views.Shown.{Shown}
-use Rattle.store.proofs.Gates.{Refusing, after-refused, gate-shut, OpenFacts, gate-open, known-refused, both-refused, KnownFacts, known-facts, BothFacts, both-facts}
+use Rattle.store.specs.declared.views.Version.{Version}
+use Rattle.store.specs.declared.views.Version.the-variants.{At as VersionAt, Refused as NoVersion}
+use Rattle.store.proofs.Gates.{Refusing, after-refused}
+use Rattle.store.proofs.VersionAnswers.{noField, current-then, settled-then, version-shows, settled-from, current-legible, settled-legible, version-end-in, version-before, version-readable, version-within}
 
 -- ---- what is shown
 
@@ -47,215 +40,55 @@ pub refused-within : (mst : List ℕ) (a : Answer) (r : Shown) → r ≡ refused
 refused-within mst a r s = rw s (omega arith)
 
 -- 12, of what was found
-shown-found : (at : ℕ) (f : Found) → shownFound at f ≡ shownAt (cond (isMissing f) NoField Done) at f
+shown-found : (at : ℕ) (f : Found) → shownFound at f ≡ shownAt (noField (isMissing f)) at f
 unfolding shownAt after numberOf
 shown-found at (At start len) = refl
 shown-found at Missing = refl
 
--- ---- a field in the record at an address
+-- ---- a field in a version
 
-module _ (mst : List ℕ) (end at tag occ : ℕ) (f : Found) (x : f ≡ findOf (part mst at (end - at)) tag occ) where
-  pub show-missing : (r : Shown) → f ≡ Missing → r ≡ refusedView NoField → r ≡ shownFound at (findOf (part mst at (end - at)) tag occ)
-  show-missing r e s = rw (s, ← x, e)
+module _ (mst : List ℕ) (tag occ : ℕ) (v : Version) where
+  pub show-refused : (a b : Answer) (r : Shown) → v ≡ NoVersion b → a ≡ versionAnswer v → r ≡ refusedView a → r ≡ shownIn mst tag occ v
+  unfolding shownIn
+  show-refused a b r e u s = rw (s, u, e)
 
-  module _ (start len : ℕ) (e : f ≡ At start len) where
-    pub show-found : record { answer = Done; start = at + start; len = len } ≡ shownFound at (findOf (part mst at (end - at)) tag occ)
-    show-found = rw (← x, e)
+  module _ (at end : ℕ) (e : v ≡ VersionAt at end) (f : Found) (x : f ≡ findOf (part mst at (end - at)) tag occ) where
+    pub show-missing : (r : Shown) → f ≡ Missing → r ≡ refusedView NoField → r ≡ shownIn mst tag occ v
+    unfolding shownIn
+    show-missing r d s = rw (s, e, ← x, d)
 
-    pub show-within : Readable (part mst at (end - at)) → end ≤ length mst → at ≤ end → at + start + len ≤ length mst
-    show-within d i j =
-        let n : length (part mst at (end - at)) ≤ end - at = simp length-take (omega arith) in
-        omega (arith, found-in (part mst at (end - at)) tag occ start len d (sym x ∙ e), d .record-in)
+    module _ (start len : ℕ) (d : f ≡ At start len) where
+      pub show-found : record { answer = Done; start = at + start; len = len } ≡ shownIn mst tag occ v
+      unfolding shownIn
+      show-found = rw (e, ← x, d)
 
-    pub show-sum : Readable (part mst at (end - at)) → end ≤ length mst → at ≤ end → length mst < 2 ^ 64 → Fits w64 (at + start)
-    show-sum d i j n = omega (arith, show-within d i j)
+      pub show-within : Legible mst v → at + start + len ≤ length mst
+      show-within h =
+          version-within mst v h at end e start len (found-in (part mst at (end - at)) tag occ start len (version-readable mst v h at end e) (sym x ∙ d))
 
--- ---- the current view
+      pub show-sum : Legible mst v → length mst < 2 ^ 64 → Fits w64 (at + start)
+      show-sum h n = omega (arith, show-within h)
 
-module _ (mst xrf : List ℕ) (m tag occ : ℕ) where
-  view-refused : (a : Answer) → Refusing a → viewAnswer mst xrf m tag occ ≡ a → refusedView a ≡ viewOf mst xrf m tag occ
-  unfolding viewOf
-  view-refused a h e = rw e (shown-refused a (placeAddress (placeFor mst xrf m)) (findOf (recordAt mst (placeFor mst xrf m)) tag occ) h)
+module _ (mst xrf : List ℕ) (m tag occ : ℕ) (v : Version) (r : Shown) (s : r ≡ shownIn mst tag occ v) where
+  version-shown : (a b : Answer) (at : ℕ) → v ≡ versionIf a at (endOf mst) → b ≡ after a (noField (isMissing (findOf (recordFrom mst at) tag occ))) a
+      → r ≡ shownAt b at (findOf (recordFrom mst at) tag occ)
+  unfolding shownIn
+  version-shown a b at e t =
+      let f : Found = findOf (recordFrom mst at) tag occ in
+      rw (s, e, t) (version-shows (shownIn mst tag occ) (λ c. shownAt c at f) a (noField (isMissing f)) at (endOf mst) (shown-found at f) (shown-refused a at f))
 
-  module _ (g : Gate) (p : g ≡ gateOf mst xrf) where
-    pub view-shut : (a b : Answer) (r : Shown) → g ≡ Shut b → a ≡ gateAnswer g → r ≡ refusedView a → r ≡ viewOf mst xrf m tag occ
-    unfolding viewAnswer
-    view-shut a b r q u s =
-        let f = gate-shut mst xrf b (sym p ∙ q) in
-        let is : a ≡ b = u ∙ ap gateAnswer q in
-        s ∙ ap refusedView is ∙ view-refused b (f .refusing) (f .answers (refuse _ true ∷ []))
+  pub view-shown : v ≡ currentVersion mst xrf m → r ≡ viewOf mst xrf m tag occ
+  unfolding currentVersion viewOf viewAnswer
+  view-shown e =
+      let p : Place = placeFor mst xrf m in
+      version-shown (lowest (onCurrent mst xrf m [])) _ (placeAddress p) e (current-then mst xrf m (isMissing (findOf (recordAt mst p) tag occ)))
 
-    module _ (next : Mfn) (end : ℕ) (q : g ≡ Open next end) where
-      pub view-open : gateOf mst xrf ≡ Open next end
-      view-open = sym p ∙ q
-
-      opened : OpenFacts mst xrf next end
-      opened = gate-open mst xrf next end view-open
-
-      pub view-end-in : end ≤ length mst
-      view-end-in = let o = opened in omega arith
-
-      module _ (k : Known) (u : k ≡ knownOf mst xrf m) where
-        pub view-unknown : (a b : Answer) (r : Shown) → k ≡ Refused b → a ≡ knownAnswer k → r ≡ refusedView a → r ≡ viewOf mst xrf m tag occ
-        unfolding viewAnswer
-        view-unknown a b r v w s =
-            let o = opened in
-            let f = known-refused mst xrf m b (sym u ∙ v) in
-            let is : a ≡ b = w ∙ ap knownAnswer v in
-            s ∙ ap refusedView is ∙ view-refused b (f .refusing) (rw (o .lengths, o .control) (f .answers (refuse _ true ∷ [])))
-
-        module _ (pl : Place) (l : Leader) (v : k ≡ Record pl l) where
-          found : KnownFacts mst xrf m pl l
-          found = known-facts mst xrf m pl l (sym u ∙ v)
-
-          pub view-block : 1 ≤ pl .block .0
-          view-block = found .place .block
-
-          -- behind the gate and the record, 9 and 12 are left
-          view-rest : viewAnswer mst xrf m tag occ ≡ cond (pl .deleted) Deleted (cond (isMissing (findOf (recordAt mst pl) tag occ)) NoField Done)
-          unfolding viewAnswer
-          view-rest = let o = opened in let f = found in rw (o .lengths, o .control, f .known, f .entry, f .record-fine)
-
-          pub view-deleted : (r : Shown) → pl .deleted ≡ true → r ≡ refusedView Deleted → r ≡ viewOf mst xrf m tag occ
-          unfolding numberOf
-          view-deleted r d s = s ∙ view-refused Deleted (λ z. omega arith) (view-rest ∙ rw d)
-
-          module _ (at : ℕ) (a : at ≡ placeAddress pl) where
-            pub view-before : at ≤ end
-            view-before = let o = opened in let f = found in omega arith
-
-            pub view-readable : Readable (part mst at (end - at))
-            view-readable = let o = opened in rw (a, o .end-is) (found .facts .readable)
-
-            pub view-shown : (r : Shown) → pl .deleted ≡ false → r ≡ shownFound at (findOf (part mst at (end - at)) tag occ) → r ≡ viewOf mst xrf m tag occ
-            unfolding viewOf
-            view-shown r d s =
-                let o = opened in
-                let f = found in
-                rw (s, view-rest, d, f .place-is, a, o .end-is) (shown-found (placeAddress pl) (findOf (recordAt mst pl) tag occ))
-
--- ---- the settled view
-
-module _ (mst : List ℕ) (end : ℕ) (p : Place) (l : Leader) (tag occ : ℕ) (r : Shown) where
-  pub settled-deleted : p .mark ≡ Settled → p .deleted ≡ true → r ≡ refusedView Deleted → r ≡ shownVersion mst end p l tag occ
-  unfolding shownVersion shownByMark
-  settled-deleted k d s = rw (s, k, d)
-
-  pub new-refused : p .mark ≡ New → r ≡ refusedView NeverSettled → r ≡ shownVersion mst end p l tag occ
-  unfolding shownVersion shownByMark
-  new-refused k s = rw (s, k)
-
-  module _ (at : ℕ) (s : r ≡ shownFound at (findOf (part mst at (end - at)) tag occ)) where
-    pub settled-shown : p .mark ≡ Settled → p .deleted ≡ false → at ≡ placeAddress p → r ≡ shownVersion mst end p l tag occ
-    unfolding shownVersion shownByMark
-    settled-shown k d a = rw (s, k, d, a)
-
-    pub changed-shown : p .mark ≡ Changed → at ≡ backAddress l → r ≡ shownVersion mst end p l tag occ
-    unfolding shownVersion shownByMark
-    changed-shown k a = rw (s, k, a)
-
-module _ (mst : List ℕ) (end : ℕ) (p : Place) (l : Leader) (h : SettledKnown mst end p l) where
-  pub settled-end-in : end ≤ length mst
-  settled-end-in = h .end-in
-
-  pub settled-block : 1 ≤ p .block .0
-  settled-block = h .block
-
-  pub changed-block : p .mark ≡ Changed → 1 ≤ l .mfbwb .0
-  changed-block c = h .back-block c
-
-  module _ (at : ℕ) where
-    pub settled-before : at ≡ placeAddress p → at ≤ end
-    settled-before a = rw a (h .place-in)
-
-    pub settled-readable : at ≡ placeAddress p → Readable (part mst at (end - at))
-    settled-readable a = rw a (h .current)
-
-    pub changed-before : p .mark ≡ Changed → at ≡ backAddress l → at ≤ end
-    changed-before c a = rw a (h .back-in c)
-
-    pub changed-readable : p .mark ≡ Changed → at ≡ backAddress l → Readable (part mst at (end - at))
-    changed-readable c a = rw a (h .settled c)
-
--- what the settled view shows of a record is what its table says of the mark
-module _ (mst : List ℕ) (end : ℕ) (p : Place) (l : Leader) (tag occ : ℕ) where
-  abbrev current : List ℕ
-  current = part mst (placeAddress p) (end - placeAddress p)
-
-  abbrev settled : List ℕ
-  settled = part mst (backAddress l) (end - backAddress l)
-
-  abbrev markAnswer : Mark → Bool → Answer
-  markAnswer k d =
-      lowest
-      (refuse Deleted (d && isSettled k) ∷ refuse NeverSettled (isNew k) ∷ refuse NoField (isMissing (findOf (cond (isChanged k) settled current) tag occ)) ∷ [])
-
-  live : (d : Bool) → cond d (refusedView Deleted) (shownFound (placeAddress p) (findOf current tag occ)) ≡ shownAt (markAnswer Settled d) (placeAddress p) (findOf current tag occ)
-  unfolding numberOf
-  live true = shown-refused Deleted (placeAddress p) (findOf current tag occ) (λ z. omega arith)
-  live false = shown-found (placeAddress p) (findOf current tag occ)
-
-  pending : (b : Bool) (k : Mark) → isSettled k ≡ false → (b && isSettled k) ≡ false
-  pending true k e = e
-  pending false k e = refl
-
-  by-mark : (k : Mark) → shownByMark mst end p l tag occ k
-      ≡ shownAt (markAnswer k (p .deleted)) (cond (isChanged k) (backAddress l) (placeAddress p)) (findOf (cond (isChanged k) settled current) tag occ)
-  unfolding shownByMark numberOf
-  by-mark Settled = live (p .deleted)
-  by-mark Changed = rw (pending (p .deleted) Changed refl) (shown-found (backAddress l) (findOf settled tag occ))
-  by-mark New = rw (pending (p .deleted) New refl) (shown-refused NeverSettled (placeAddress p) (findOf current tag occ) (λ z. omega arith))
-
-module _ (mst xrf : List ℕ) (m tag occ : ℕ) where
-  settled-refused : (a : Answer) → Refusing a → settledViewAnswer mst xrf m tag occ ≡ a → refusedView a ≡ settledViewOf mst xrf m tag occ
-  unfolding settledViewOf
-  settled-refused a h e = rw e (shown-refused a (settledAddress mst (placeFor mst xrf m)) (findOf (shownSettled mst (placeFor mst xrf m)) tag occ) h)
-
-  module _ (g : Gate) (p : g ≡ gateOf mst xrf) where
-    pub settled-shut : (a b : Answer) (r : Shown) → g ≡ Shut b → a ≡ gateAnswer g → r ≡ refusedView a → r ≡ settledViewOf mst xrf m tag occ
-    unfolding settledViewAnswer
-    settled-shut a b r q u s =
-        let f = gate-shut mst xrf b (sym p ∙ q) in
-        let is : a ≡ b = u ∙ ap gateAnswer q in
-        s ∙ ap refusedView is ∙ settled-refused b (f .refusing) (f .answers (refuse _ true ∷ []))
-
-    module _ (next : Mfn) (end : ℕ) (q : g ≡ Open next end) (k : Known) (u : k ≡ knownBoth mst xrf m) where
-      settled-opened : OpenFacts mst xrf next end
-      settled-opened = gate-open mst xrf next end (sym p ∙ q)
-
-      pub settled-unknown : (a b : Answer) (r : Shown) → k ≡ Refused b → a ≡ knownAnswer k → r ≡ refusedView a → r ≡ settledViewOf mst xrf m tag occ
-      unfolding settledViewAnswer
-      settled-unknown a b r v w s =
-          let o = settled-opened in
-          let f = both-refused mst xrf m b (sym u ∙ v) in
-          let is : a ≡ b = w ∙ ap knownAnswer v in
-          s ∙ ap refusedView is ∙ settled-refused b (f .refusing) (rw (o .lengths, o .control) (f .answers (refuse _ true ∷ [])))
-
-      module _ (pl : Place) (l : Leader) (v : k ≡ Record pl l) where
-        both : BothFacts mst xrf m pl l
-        both = both-facts mst xrf m pl l (sym u ∙ v)
-
-        pub settled-known : SettledKnown mst end pl l
-        settled-known =
-            let o = settled-opened in
-            let b = both in
-            record {
-              end-in = omega arith;
-              block = b .current .place .block;
-              place-in = omega arith;
-              current = rw (o .end-is) (b .current .facts .readable);
-              back-block = λ c. b .settled c .back .facts .block;
-              back-in = λ c. let s = b .settled c in omega arith;
-              settled = λ c. rw (o .end-is) (b .settled c .readable);
-            }
-
-        pub settled-told : (r : Shown) → r ≡ shownVersion mst end pl l tag occ → r ≡ settledViewOf mst xrf m tag occ
-        unfolding shownVersion settledViewOf settledViewAnswer
-        settled-told r s =
-            let o = settled-opened in
-            let f = both .current in
-            rw (s, o .lengths, o .control, f .known, f .entry, f .record-fine, both .version-fine, o .end-is, f .leader-is)
-            (by-mark mst (endOf mst) pl (leaderAt mst pl) tag occ (pl .mark))
+  pub settled-view-shown : v ≡ settledVersion mst xrf m → r ≡ settledViewOf mst xrf m tag occ
+  unfolding settledVersion settledViewOf settledViewAnswer
+  settled-view-shown e =
+      let at : ℕ = settledAddress mst (placeFor mst xrf m) in
+      rw (← settled-from mst (placeFor mst xrf m))
+      (version-shown (lowest (onSettled mst xrf m [])) _ at e (settled-then mst xrf m (isMissing (findOf (recordFrom mst at) tag occ))))
 
 -- ---- the field itself
 
@@ -276,9 +109,6 @@ module _ (mst : List ℕ) (s r : Shown) where
   field-shown e = field-part mst s ∙ ap (shownBytes mst) e
 
 pub ruleset view-answers =
-    (refused-within, show-missing, show-found, show-within, show-sum, view-shut, view-open, view-end-in, view-unknown, view-block, view-deleted, view-before, view-readable, view-shown, arith)
-
-pub ruleset settled-answers =
-    (refused-within, settled-deleted, new-refused, settled-shown, changed-shown, settled-end-in, settled-block, changed-block, settled-before, settled-readable, changed-before, changed-readable, settled-shut, view-open, settled-unknown, settled-known, settled-told, arith)
+    (refused-within, show-refused, show-missing, show-found, show-within, show-sum, version-end-in, version-before, version-readable, current-legible, settled-legible, view-shown, settled-view-shown, arith)
 
 pub ruleset field-answers = (view-number, settled-number, field-shown, arith)

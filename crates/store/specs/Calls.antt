@@ -12,6 +12,8 @@ use Rattle.layout.specs.declared.entry.Mark.{Mark}
 use Rattle.layout.specs.declared.entry.Mark.the-variants.{Settled, Changed, New}
 use Rattle.layout.specs.declared.entry.Place.{Place}
 use Rattle.layout.specs.declared.leader.Leader.{Leader}
+use Rattle.layout.specs.Leader.{leaderOf}
+use Rattle.record.specs.Directory.{tagAt, posAt, lenAt}
 use Rattle.record.specs.Fields.{Field, findOf}
 use Rattle.record.specs.Draft.{draftFields}
 use Rattle.record.specs.Bytes.{needFor, recordBytes, leaderFor}
@@ -19,9 +21,10 @@ use Rattle.record.specs.declared.fields.Found.{Found}
 use Rattle.record.specs.declared.fields.Found.the-variants.{At, Missing}
 use Rattle.store.specs.Answer.{after}
 use Rattle.store.specs.Reading.{placeFor, isSettled, isChanged, recordAt, leaderAt, backAddress, shownSettled, currentFields}
-use Rattle.store.specs.Refusals.{formatAnswer, viewAnswer, settledViewAnswer, createAnswer, updateAppends, updateAnswer, deleteAnswer, settleAnswer, revertAnswer}
+use Rattle.store.specs.Refusals.{formatAnswer, viewAnswer, settledViewAnswer, fieldAnswer, settledFieldAnswer, createAnswer, updateAppends, updateAnswer, deleteAnswer, settleAnswer, revertAnswer}
 use Rattle.store.specs.declared.answer.Answer.{Answer}
 use Rattle.store.specs.declared.views.Shown.{Shown}
+use Rattle.store.specs.declared.walk.ShownField.{ShownField}
 use Rattle.store.specs.declared.create.Created.{Created}
 
 -- ---- format
@@ -65,6 +68,30 @@ settledViewOf mst xrf m tag occ =
 -- the bytes that a view shows
 abbrev pub shownBytes : List ℕ → Shown → List ℕ
 shownBytes mst s = part mst (s .start) (s .len)
+
+-- ---- fields by directory index: the tag, and where in the MST the field lies; tag 0, nowhere and empty, where the call is refused
+
+-- directory entry i of a record at an address: its tag, and LEN bytes from BASE + POS on
+unfoldable pub handedOut : Answer → ℕ → List ℕ → ℕ → ShownField
+handedOut a at rec i =
+    record {
+      answer = a;
+      tag = record { 0 = after a (tagAt rec i) 0 };
+      start = after a (at + (leaderOf rec .base + posAt rec i)) 0;
+      len = after a (lenAt rec i) 0;
+    }
+
+unfoldable pub fieldOf : List ℕ → List ℕ → ℕ → ℕ → ShownField
+fieldOf mst xrf m i =
+    handedOut (fieldAnswer mst xrf m i) (placeAddress (placeFor mst xrf m)) (recordAt mst (placeFor mst xrf m)) i
+
+unfoldable pub settledFieldOf : List ℕ → List ℕ → ℕ → ℕ → ShownField
+settledFieldOf mst xrf m i =
+    handedOut (settledFieldAnswer mst xrf m i) (settledAddress mst (placeFor mst xrf m)) (shownSettled mst (placeFor mst xrf m)) i
+
+-- the field that is shown
+abbrev pub fieldShown : List ℕ → ShownField → Field
+fieldShown mst s = record { tag = s .tag .0; bytes = part mst (s .start) (s .len) }
 
 -- ---- writing
 

@@ -13,6 +13,7 @@ use Rattle.layout.specs.declared.leader.Leader.{Leader}
 use Rattle.record.specs.Fields.{Field, findOf}
 use Rattle.record.specs.Draft.{draftRight, draftFields}
 use Rattle.record.specs.Bytes.{needFor}
+use Rattle.record.specs.Walker.{atEnd}
 use Rattle.record.specs.declared.fields.Found.{Found}
 use Rattle.record.specs.declared.fields.Found.the-variants.{At, Missing}
 use Rattle.store.specs.Answer.{Refusal, refuse, lowest}
@@ -58,30 +59,47 @@ formatRefusals mst xrf = refuse BadLength (not (lengthsPermitted mst xrf)) ∷ [
 unfoldable pub formatAnswer : List ℕ → List ℕ → Answer
 formatAnswer mst xrf = lowest (formatRefusals mst xrf)
 
--- the current view
-abbrev pub viewRefusals : List ℕ → List ℕ → ℕ → ℕ → ℕ → List Refusal
-viewRefusals mst xrf m tag occ =
-    gated mst xrf
-    (named mst xrf m (fine mst xrf m)
-    (refuse Deleted (placeFor mst xrf m .deleted)
-    ∷ refuse NoField (isMissing (findOf (recordAt mst (placeFor mst xrf m)) tag occ))
-    ∷ []))
+-- 1, 2, 4, 6, 7, 8 and 9, for calls that show the current version
+abbrev pub onCurrent : List ℕ → List ℕ → ℕ → List Refusal → List Refusal
+onCurrent mst xrf m rest = gated mst xrf (named mst xrf m (fine mst xrf m) (refuse Deleted (placeFor mst xrf m .deleted) ∷ rest))
 
-unfoldable pub viewAnswer : List ℕ → List ℕ → ℕ → ℕ → ℕ → Answer
-viewAnswer mst xrf m tag occ = lowest (viewRefusals mst xrf m tag occ)
-
--- the settled view: 9 if deleted and settled
-abbrev pub settledViewRefusals : List ℕ → List ℕ → ℕ → ℕ → ℕ → List Refusal
-settledViewRefusals mst xrf m tag occ =
+-- the same and 11, for calls that show the settled version: 9 if deleted and settled
+abbrev pub onSettled : List ℕ → List ℕ → ℕ → List Refusal → List Refusal
+onSettled mst xrf m rest =
     gated mst xrf
     (named mst xrf m (bothFine mst xrf m)
     (refuse Deleted (placeFor mst xrf m .deleted && isSettled (placeFor mst xrf m .mark))
     ∷ refuse NeverSettled (isNew (placeFor mst xrf m .mark))
-    ∷ refuse NoField (isMissing (findOf (shownSettled mst (placeFor mst xrf m)) tag occ))
-    ∷ []))
+    ∷ rest))
+
+-- the current view
+abbrev pub viewRefusals : List ℕ → List ℕ → ℕ → ℕ → ℕ → List Refusal
+viewRefusals mst xrf m tag occ =
+    onCurrent mst xrf m (refuse NoField (isMissing (findOf (recordAt mst (placeFor mst xrf m)) tag occ)) ∷ [])
+
+unfoldable pub viewAnswer : List ℕ → List ℕ → ℕ → ℕ → ℕ → Answer
+viewAnswer mst xrf m tag occ = lowest (viewRefusals mst xrf m tag occ)
+
+-- the settled view
+abbrev pub settledViewRefusals : List ℕ → List ℕ → ℕ → ℕ → ℕ → List Refusal
+settledViewRefusals mst xrf m tag occ =
+    onSettled mst xrf m (refuse NoField (isMissing (findOf (shownSettled mst (placeFor mst xrf m)) tag occ)) ∷ [])
 
 unfoldable pub settledViewAnswer : List ℕ → List ℕ → ℕ → ℕ → ℕ → Answer
 settledViewAnswer mst xrf m tag occ = lowest (settledViewRefusals mst xrf m tag occ)
+
+-- a field by its directory index, of the current version and of the settled one: 12 where the directory has no entry of that index
+abbrev pub fieldRefusals : List ℕ → List ℕ → ℕ → ℕ → List Refusal
+fieldRefusals mst xrf m i = onCurrent mst xrf m (refuse NoField (atEnd (recordAt mst (placeFor mst xrf m)) i) ∷ [])
+
+unfoldable pub fieldAnswer : List ℕ → List ℕ → ℕ → ℕ → Answer
+fieldAnswer mst xrf m i = lowest (fieldRefusals mst xrf m i)
+
+abbrev pub settledFieldRefusals : List ℕ → List ℕ → ℕ → ℕ → List Refusal
+settledFieldRefusals mst xrf m i = onSettled mst xrf m (refuse NoField (atEnd (shownSettled mst (placeFor mst xrf m)) i) ∷ [])
+
+unfoldable pub settledFieldAnswer : List ℕ → List ℕ → ℕ → ℕ → Answer
+settledFieldAnswer mst xrf m i = lowest (settledFieldRefusals mst xrf m i)
 
 -- create: 5 where NXTMFN is capacity + 1; 6 where the new MFN's block is wrong at its first integer, or its slot is not 0
 abbrev pub createRefusals : List ℕ → List ℕ → List ℕ → List ℕ → List ℕ → List Refusal

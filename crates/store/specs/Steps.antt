@@ -1,4 +1,4 @@
--- What a call has found before it writes: each is the lowest refusal, or what was read.
+-- What a call has found before it shows or writes: each is the lowest refusal, or what was read.
 use Prim.Native.Nat.{ℕ, _+_, _≤_}
 use mathlib.Core.Path.{_≡_}
 use mathlib.Core.Bool.{Bool, true, not, _&&_, cond}
@@ -8,6 +8,7 @@ use lib.ListN.{length}
 use Rattle.layout.specs.Sizes.{capacityOf}
 use Rattle.layout.specs.CrossReference.{xrfBlock, headRight, slotFree}
 use Rattle.layout.specs.Control.{nextOf, endOf}
+use Rattle.layout.specs.Entry.{placeAddress}
 use Rattle.layout.specs.declared.entry.Place.{Place}
 use Rattle.layout.specs.declared.entry.Entry.{Entry}
 use Rattle.layout.specs.declared.entry.Entry.the-variants.{At}
@@ -16,7 +17,8 @@ use Rattle.record.specs.Draft.{draftFields}
 use Rattle.record.specs.Bytes.{needFor}
 use Rattle.store.specs.Answer.{refuse, lowest, after}
 use Rattle.store.specs.Reading.{lengthsPermitted, controlFine, mfnKnown, entryFor, placeFor, isSettled, leaderAt, recordFine}
-use Rattle.store.specs.Refusals.{gated, named, fine, bothFine, exceeds, createAnswer, updateAppends, updateAnswer, deleteAnswer, settleAnswer, revertAnswer}
+use Rattle.store.specs.Refusals.{gated, named, fine, bothFine, onCurrent, onSettled, exceeds, createAnswer, updateAppends, updateAnswer, deleteAnswer, settleAnswer, revertAnswer}
+use Rattle.store.specs.Calls.{settledAddress}
 use Rattle.store.specs.declared.answer.Answer.{Answer}
 use Rattle.store.specs.declared.answer.Answer.the-variants.{Done, Full, BadEntry, NoRoom}
 use Rattle.store.specs.declared.create.Creating.{Creating}
@@ -25,6 +27,8 @@ use Rattle.store.specs.declared.gate.Gate.{Gate}
 use Rattle.store.specs.declared.gate.Gate.the-variants.{Open, Shut}
 use Rattle.store.specs.declared.gate.Known.{Known}
 use Rattle.store.specs.declared.gate.Known.the-variants.{Record, Refused}
+use Rattle.store.specs.declared.views.Version.{Version}
+use Rattle.store.specs.declared.views.Version.the-variants.{At as VersionAt, Refused as NoVersion}
 use Rattle.store.specs.declared.versions.Plan.{Plan}
 use Rattle.store.specs.declared.versions.Plan.the-variants.{Append, InPlace, Refuse}
 
@@ -44,6 +48,17 @@ knownOf mst xrf m = knownIf (lowest (named mst xrf m (fine mst xrf m) [])) mst x
 -- the same with its settled version
 unfoldable pub knownBoth : List ℕ → List ℕ → ℕ → Known
 knownBoth mst xrf m = knownIf (lowest (named mst xrf m (bothFine mst xrf m) [])) mst xrf m
+
+-- where a version begins, and the store's end, where the answer is done
+unfoldable pub versionIf : Answer → ℕ → ℕ → Version
+versionIf a at end = after a (VersionAt at end) (NoVersion a)
+
+-- the current version of MFN m, and its settled version, where none of the refusals before 12 applies
+unfoldable pub currentVersion : List ℕ → List ℕ → ℕ → Version
+currentVersion mst xrf m = versionIf (lowest (onCurrent mst xrf m [])) (placeAddress (placeFor mst xrf m)) (endOf mst)
+
+unfoldable pub settledVersion : List ℕ → List ℕ → ℕ → Version
+settledVersion mst xrf m = versionIf (lowest (onSettled mst xrf m [])) (settledAddress mst (placeFor mst xrf m)) (endOf mst)
 
 unfoldable pub settlePlan : List ℕ → List ℕ → ℕ → Known
 settlePlan mst xrf m = knownIf (settleAnswer mst xrf m) mst xrf m

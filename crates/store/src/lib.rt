@@ -1,5 +1,6 @@
-// The calls over the two lent buffers: format, the two views, create, update, delete, settle and revert. Each call first
-// reads and decides, and only then writes; nothing that was read is believed before it is tested.
+// The calls over the two lent buffers: format, the two views, a record's fields one after the other, create, update, delete,
+// settle and revert. Each call first reads and decides, and only then writes; nothing that was read is believed before it is
+// tested.
 pub mod answer;
 pub mod create;
 pub mod format;
@@ -7,3 +8,4 @@ pub mod gate;
 pub mod settling;
 pub mod versions;
 pub mod views;
+pub mod walk;

@@ -1,4 +1,5 @@
-// The two views: where in the MST a field lies, and the field itself as a part of the lent MST.
+// The two views: where in the MST a field lies, and the field itself as a part of the lent MST. A view first finds the version
+// that it reads, current or settled, and then shows a field of it.
 use crate::answer::Answer;
 use crate::gate::Gate;
 use crate::gate::Known;
@@ -9,15 +10,13 @@ use layout::sizes::Mfn;
 use layout::sizes::Tag;
 use record::fields::Found;
 ghost use mathlib.Core.Path.{_≡_};
-ghost use Prim.Native.Nat.{_+_, _-_, _≤_};
+ghost use Prim.Native.Nat.{_+_, _≤_};
 ghost use lib.ListN.{length};
-ghost use Rattle.word.specs.Place.{part};
-ghost use Rattle.record.specs.Fields.{findOf};
-ghost use Rattle.record.specs.Record.{Readable};
 ghost use Rattle.store.specs.Answer.{numberOf};
 ghost use Rattle.store.specs.Refusals.{viewAnswer, settledViewAnswer};
 ghost use Rattle.store.specs.Calls.{viewOf, settledViewOf, shownBytes};
-ghost use Rattle.store.specs.Views.{refusedView, shownFound, shownVersion, gateAnswer, knownAnswer, SettledKnown};
+ghost use Rattle.store.specs.Steps.{currentVersion, settledVersion};
+ghost use Rattle.store.specs.Views.{gateAnswer, knownAnswer, versionAnswer, refusedView, Located, settledOf, Legible, shownIn};
 
 // The answer of a view, and where in the MST the field lies.
 pub struct Shown {
@@ -26,14 +25,10 @@ pub struct Shown {
     pub len: usize,
 }
 
-fn refused_view(answer: Answer) -> Shown
-    ensures { λ r. ⌜ r ≡ refusedView answer ⌝ }
-{
-    Shown {
-        answer,
-        start: 0,
-        len: 0,
-    }
+// The address of a version that is right, and the store's end, or the refusal.
+pub enum Version {
+    At { at: usize, end: usize },
+    Refused(Answer),
 }
 
 // The refusal of a gate that is shut.
@@ -59,13 +54,98 @@ pub fn known_answer(k: Known) -> Answer
     }
 }
 
-// The field of a tag and occurrence in the record at `at`.
-fn show_field(mst: &[u8], end: usize, at: usize, tag: Tag, occurrence: u32) -> Shown
-    requires { ⌜ (end ≤ length (now mst)) × (at ≤ end) ⌝ }
-    requires { ⌜ Readable (part (now mst) at (end - at)) ⌝ }
-    ensures is { λ r. ⌜ r ≡ shownFound at (findOf (part (now (mst .entry)) at (end - at)) (tag .0) occurrence) ⌝ }
+// The refusal of a version that is not there.
+pub fn version_answer(v: Version) -> Answer
+    ensures { λ r. ⌜ r ≡ versionAnswer v ⌝ }
+{
+    match v {
+        Version::At { at: _, end: _ } => Answer::Done,
+        Version::Refused(a) => a,
+    }
+}
+
+// Where the current version of MFN `m` begins.
+pub fn current_version(mst: &[u8], xrf: &[u8], m: Mfn) -> Version
+    ensures { λ r. ⌜ r ≡ currentVersion (now (mst .entry)) (now (xrf .entry)) (m .0) ⌝ }
+{
+    let g = crate::gate::open_gate(mst, xrf);
+    let Gate::Open { next, end } = g else {
+        return Version::Refused(gate_answer(g));
+    };
+    let k = crate::gate::find_record(mst, xrf, next, end, m);
+    let Known::Record { place, leader: _ } = k else {
+        return Version::Refused(known_answer(k));
+    };
+    if place.deleted {
+        return Version::Refused(Answer::Deleted);
+    }
+    Version::At {
+        at: layout::entry::place_address(place),
+        end,
+    }
+}
+
+// Where the settled version of a record begins, by its mark.
+fn settled_of(end: usize, place: Place, leader: Leader) -> Version
+    requires { ⌜ Located place leader ⌝ }
+    ensures { λ r. ⌜ r ≡ settledOf end place leader ⌝ }
+{
+    let mark = place.mark;
+    match mark {
+        Mark::Settled => {
+            if place.deleted {
+                return Version::Refused(Answer::Deleted);
+            }
+            Version::At {
+                at: layout::entry::place_address(place),
+                end,
+            }
+        }
+        Mark::Changed => {
+            let b = leader.mfbwb;
+            Version::At {
+                at: layout::sizes::address(b, leader.mfbwp),
+                end,
+            }
+        }
+        Mark::New => Version::Refused(Answer::NeverSettled),
+    }
+}
+
+// Where the settled version of MFN `m` begins.
+pub fn settled_version(mst: &[u8], xrf: &[u8], m: Mfn) -> Version
+    ensures { λ r. ⌜ r ≡ settledVersion (now (mst .entry)) (now (xrf .entry)) (m .0) ⌝ }
+{
+    let g = crate::gate::open_gate(mst, xrf);
+    let Gate::Open { next, end } = g else {
+        return Version::Refused(gate_answer(g));
+    };
+    let k = crate::gate::find_both(mst, xrf, next, end, m);
+    let Known::Record { place, leader } = k else {
+        return Version::Refused(known_answer(k));
+    };
+    settled_of(end, place, leader)
+}
+
+fn refused_view(answer: Answer) -> Shown
+    ensures { λ r. ⌜ r ≡ refusedView answer ⌝ }
+{
+    Shown {
+        answer,
+        start: 0,
+        len: 0,
+    }
+}
+
+// Where the field of a tag and occurrence lies in a version.
+fn show_field(mst: &[u8], v: Version, tag: Tag, occurrence: u32) -> Shown
+    requires { ⌜ Legible (now mst) v ⌝ }
+    ensures is { λ r. ⌜ r ≡ shownIn (now (mst .entry)) (tag .0) occurrence v ⌝ }
     ensures within { λ r. ⌜ r .start + r .len ≤ length (now (mst .entry)) ⌝ }
 {
+    let Version::At { at, end } = v else {
+        return refused_view(version_answer(v));
+    };
     let f = record::fields::find_field(&mst[at..end], tag, occurrence);
     let Found::At { start, len } = f else {
         return refused_view(Answer::NoField);
@@ -82,60 +162,8 @@ pub fn view(mst: &[u8], xrf: &[u8], m: Mfn, tag: Tag, occurrence: u32) -> Shown
     ensures is { λ r. ⌜ r ≡ viewOf (now (mst .entry)) (now (xrf .entry)) (m .0) (tag .0) occurrence ⌝ }
     ensures within { λ r. ⌜ r .start + r .len ≤ length (now (mst .entry)) ⌝ }
 {
-    let g = crate::gate::open_gate(mst, xrf);
-    let Gate::Open { next, end } = g else {
-        return refused_view(gate_answer(g));
-    };
-    let k = crate::gate::find_record(mst, xrf, next, end, m);
-    let Known::Record { place, leader: _ } = k else {
-        return refused_view(known_answer(k));
-    };
-    if place.deleted {
-        return refused_view(Answer::Deleted);
-    }
-    show_field(
-        mst,
-        end,
-        layout::entry::place_address(place),
-        tag,
-        occurrence,
-    )
-}
-
-// Where the field lies in a record that has its settled version.
-fn show_settled(
-    mst: &[u8],
-    end: usize,
-    place: Place,
-    leader: Leader,
-    tag: Tag,
-    occurrence: u32,
-) -> Shown
-    requires { ⌜ SettledKnown (now mst) end place leader ⌝ }
-    ensures is { λ r. ⌜ r ≡ shownVersion (now (mst .entry)) end place leader (tag .0) occurrence ⌝ }
-    ensures within { λ r. ⌜ r .start + r .len ≤ length (now (mst .entry)) ⌝ }
-{
-    let mark = place.mark;
-    match mark {
-        Mark::Settled => {
-            if place.deleted {
-                return refused_view(Answer::Deleted);
-            }
-            show_field(
-                mst,
-                end,
-                layout::entry::place_address(place),
-                tag,
-                occurrence,
-            )
-        }
-        Mark::Changed => {
-            let b = leader.mfbwb;
-            let at = layout::sizes::address(b, leader.mfbwp);
-            show_field(mst, end, at, tag, occurrence)
-        }
-        Mark::New => refused_view(Answer::NeverSettled),
-    }
+    let v = current_version(mst, xrf, m);
+    show_field(mst, v, tag, occurrence)
 }
 
 // Where the field of a tag and occurrence lies in the settled version of MFN `m`.
@@ -143,15 +171,8 @@ pub fn view_settled(mst: &[u8], xrf: &[u8], m: Mfn, tag: Tag, occurrence: u32) -
     ensures is { λ r. ⌜ r ≡ settledViewOf (now (mst .entry)) (now (xrf .entry)) (m .0) (tag .0) occurrence ⌝ }
     ensures within { λ r. ⌜ r .start + r .len ≤ length (now (mst .entry)) ⌝ }
 {
-    let g = crate::gate::open_gate(mst, xrf);
-    let Gate::Open { next, end } = g else {
-        return refused_view(gate_answer(g));
-    };
-    let k = crate::gate::find_both(mst, xrf, next, end, m);
-    let Known::Record { place, leader } = k else {
-        return refused_view(known_answer(k));
-    };
-    show_settled(mst, end, place, leader, tag, occurrence)
+    let v = settled_version(mst, xrf, m);
+    show_field(mst, v, tag, occurrence)
 }
 
 // The field that a view shows, as a part of the MST, empty where it is refused; the answer's number goes to `answer`.

@@ -3,75 +3,14 @@ use Rattle.store.proofs.ViewAnswers.{view-answers}
 use Rattle.store.proofs.views.view.Statement.{statement}
 use Rattle.store.proofs.views.view.Tie as tie
 
-open-gate-requires : tie.Need-open-gate-requires
-open-gate-requires c κs = search needs
-
-enum-known-g : tie.Need-enum-known-g
-enum-known-g c = search needs
-
-enum-told : tie.Need-enum-told
-enum-told c = search needs
-
-gate-answer-requires : tie.Need-gate-answer-requires
-gate-answer-requires c κs = search needs
-
-refused-view-requires : tie.Need-refused-view-requires
-refused-view-requires c κs = search needs
-
-returns : tie.Need-returns
-returns c = search view-answers
-
-find-record-requires : tie.Need-find-record-requires
-find-record-requires c κs = search view-answers
-
-enum-known-k : tie.Need-enum-known-k
-enum-known-k c = search needs
-
-enum-told-2 : tie.Need-enum-told-2
-enum-told-2 c = search needs
-
-known-answer-requires : tie.Need-known-answer-requires
-known-answer-requires c κs = search needs
-
-refused-view-requires-2 : tie.Need-refused-view-requires-2
-refused-view-requires-2 c κs = search needs
-
-returns-2 : tie.Need-returns-2
-returns-2 c = search view-answers
-
-refused-view-requires-3 : tie.Need-refused-view-requires-3
-refused-view-requires-3 c κs = search needs
-
-returns-3 : tie.Need-returns-3
-returns-3 c = search view-answers
-
-place-address-requires : tie.Need-place-address-requires
-place-address-requires c κs = search view-answers
+current-version-requires : tie.Need-current-version-requires
+current-version-requires c κs = search needs
 
 show-field-requires : tie.Need-show-field-requires
 show-field-requires c κs = search view-answers
 
-returns-4 : tie.Need-returns-4
-returns-4 c = search view-answers
+returns : tie.Need-returns
+returns c = search view-answers
 
 pub view-spec : {M : Type 1} → statement M
-view-spec =
-    tie.close
-    (tie.spec
-    open-gate-requires
-    enum-known-g
-    enum-told
-    gate-answer-requires
-    refused-view-requires
-    returns
-    find-record-requires
-    enum-known-k
-    enum-told-2
-    known-answer-requires
-    refused-view-requires-2
-    returns-2
-    refused-view-requires-3
-    returns-3
-    place-address-requires
-    show-field-requires
-    returns-4)
+view-spec = tie.close (tie.spec current-version-requires show-field-requires returns)

@@ -1,0 +1,57 @@
+use borrow.Author.Needs.{needs}
+use Rattle.store.proofs.VersionAnswers.{version-answers}
+use Rattle.store.proofs.views.settled_version.Statement.{statement}
+use Rattle.store.proofs.views.settled_version.Tie as tie
+
+open-gate-requires : tie.Need-open-gate-requires
+open-gate-requires c κs = search needs
+
+enum-known-g : tie.Need-enum-known-g
+enum-known-g c = search needs
+
+enum-told : tie.Need-enum-told
+enum-told c = search needs
+
+gate-answer-requires : tie.Need-gate-answer-requires
+gate-answer-requires c κs = search needs
+
+returns : tie.Need-returns
+returns c = search version-answers
+
+find-both-requires : tie.Need-find-both-requires
+find-both-requires c κs = search version-answers
+
+enum-known-k : tie.Need-enum-known-k
+enum-known-k c = search needs
+
+enum-told-2 : tie.Need-enum-told-2
+enum-told-2 c = search needs
+
+known-answer-requires : tie.Need-known-answer-requires
+known-answer-requires c κs = search needs
+
+returns-2 : tie.Need-returns-2
+returns-2 c = search version-answers
+
+settled-of-requires : tie.Need-settled-of-requires
+settled-of-requires c κs = search version-answers
+
+returns-3 : tie.Need-returns-3
+returns-3 c = search version-answers
+
+pub settled-version-spec : {M : Type 1} → statement M
+settled-version-spec =
+    tie.close
+    (tie.spec
+    open-gate-requires
+    enum-known-g
+    enum-told
+    gate-answer-requires
+    returns
+    find-both-requires
+    enum-known-k
+    enum-told-2
+    known-answer-requires
+    returns-2
+    settled-of-requires
+    returns-3)
