@@ -22,6 +22,7 @@ pub mod ledger;
 pub mod lists;
 pub mod random;
 pub mod record;
+pub mod replay;
 pub mod sound;
 pub mod store;
 
