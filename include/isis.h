@@ -40,8 +40,8 @@ enum isis_answer {
     ISIS_BAD_RECORD    = 8,  /* the record, or the settled version that is needed, is not well formed */
     ISIS_DELETED       = 9,  /* the record is deleted */
     ISIS_NOT_PENDING   = 10, /* settle, revert: nothing is pending */
-    ISIS_NEVER_SETTLED = 11, /* revert, view of the settled version: the record was never settled */
-    ISIS_NO_FIELD      = 12, /* no field of that tag and occurrence */
+    ISIS_NEVER_SETTLED = 11, /* revert, a field of the settled version: the record was never settled */
+    ISIS_NO_FIELD      = 12, /* no field of that tag and occurrence, or of that index */
     ISIS_NO_ROOM       = 13, /* the record does not fit before the end of the MST */
     ISIS_NOT_SOUND     = 14  /* check: the store is not sound */
 };
@@ -70,6 +70,23 @@ uint32_t isis_view(const uint8_t *mst, size_t mst_len, const uint8_t *xrf, size_
 uint32_t isis_view_settled(const uint8_t *mst, size_t mst_len, const uint8_t *xrf, size_t xrf_len,
                            uint32_t mfn, uint16_t tag, uint32_t occurrence,
                            size_t *start, size_t *len);
+
+/*
+ * Hands out a field of the current version of a record by its index in the
+ * record's directory, counted from 0: its tag, and where it lies as in isis_view.
+ * The indexes from 0 up to the first answer 12 give every field, in the order of
+ * the draft that wrote them. Changes nothing.
+ * Answers 0, 1, 2, 4, 6, 7, 8, 9 or 12.
+ */
+uint32_t isis_field(const uint8_t *mst, size_t mst_len, const uint8_t *xrf, size_t xrf_len,
+                    uint32_t mfn, size_t index, uint16_t *tag, size_t *start, size_t *len);
+
+/*
+ * The same for the settled version, as in isis_view_settled. Changes nothing.
+ * Answers 0, 1, 2, 4, 6, 7, 8, 9, 11 or 12.
+ */
+uint32_t isis_field_settled(const uint8_t *mst, size_t mst_len, const uint8_t *xrf, size_t xrf_len,
+                            uint32_t mfn, size_t index, uint16_t *tag, size_t *start, size_t *len);
 
 /*
  * Writes a new record at the end of the MST, pending, and gives its MFN.
