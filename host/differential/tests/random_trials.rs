@@ -52,8 +52,8 @@ fn damaged_cards() {
 #[test]
 fn random_cards() {
     let tally = run("random cards", &mut RandomCards, RANDOM);
-    for call in 0..9 {
-        assert!(tally.count(call, 1) >= 10);
+    for (call, name) in CALLS.iter().enumerate() {
+        assert!(tally.count(call, 1) >= 10, "{name}");
     }
 }
 
@@ -61,4 +61,5 @@ fn random_cards() {
 fn hostile_arguments() {
     let tally = run("hostile arguments", &mut Hostile, HOSTILE);
     assert!(tally.count(3, 3) > 100 && tally.count(4, 3) > 100);
+    assert!(tally.count(9, 12) > 100 && tally.count(10, 12) > 100);
 }

@@ -1,7 +1,7 @@
 //! The lists that `replay_run` is given, call by call through the archive: the lines
 //! are those that the model's ledger says.
 
-use differential::archive::{Archive, Given, Subject};
+use differential::archive::{Archive, Subject};
 use differential::guarded::Side;
 use model::call::{Call, Outcome};
 use model::layout::Control;
@@ -11,9 +11,13 @@ use model::replay::{List, Replay, Stop, lists, text};
 fn by_archive(archive: &mut Archive, list: &List) -> Replay {
     let (mut mst, mut xrf) = (vec![255; list.mst_len], vec![255; list.xrf_len]);
     let mut run = |call: &Call| {
-        let Given { number, mfn, part } = archive.run(&mut mst, &mut xrf, call, Side::Back);
-        let field = mst[part].to_vec();
-        Outcome { number, mfn, field }
+        let given = archive.run(&mut mst, &mut xrf, call, Side::Back);
+        Outcome {
+            number: given.number,
+            mfn: given.mfn,
+            tag: given.tag,
+            field: mst[given.part].to_vec(),
+        }
     };
     if run(&Call::Format).number != 0 {
         return Replay {
