@@ -91,6 +91,23 @@ fn reading() {
                 ));
             }],
         );
+        let mut tag = 0;
+        report(
+            "field",
+            &mut [&mut || {
+                black_box(raw::isis_field(
+                    a.0, a.1, a.2, a.3, 7, 39, &mut tag, &mut start, &mut len,
+                ));
+            }],
+        );
+        report(
+            "field settled",
+            &mut [&mut || {
+                black_box(raw::isis_field_settled(
+                    a.0, a.1, a.2, a.3, 7, 39, &mut tag, &mut start, &mut len,
+                ));
+            }],
+        );
         report(
             "check",
             &mut [&mut || {
