@@ -37,6 +37,7 @@ fn number(result: Result<(), u32>) -> u32 {
 }
 
 /// The current version, up to answer 9.
+#[inline(always)]
 fn current(mst: &[u8], xrf: &[u8], mfn: u32) -> Result<Tested, u32> {
     let found = found(mst, xrf, gate(mst, xrf)?, mfn)?;
     if found.place.deleted {
@@ -46,6 +47,7 @@ fn current(mst: &[u8], xrf: &[u8], mfn: u32) -> Result<Tested, u32> {
 }
 
 /// The settled version, up to answer 11.
+#[inline(always)]
 fn kept(mst: &[u8], xrf: &[u8], mfn: u32) -> Result<Tested, u32> {
     let found = found(mst, xrf, gate(mst, xrf)?, mfn)?;
     match found.place.mark {
