@@ -38,6 +38,20 @@ static void show_title(uint32_t mfn)
         printf("    title settled: none yet\n");
 }
 
+/* Prints every field of a record in the order of its draft: index 0, 1, 2 and so on
+ * until there is none. A field may be empty, and a tag may come more than once. */
+static size_t show_fields(uint32_t mfn)
+{
+    size_t index = 0, start, len;
+    uint16_t tag;
+
+    while (isis_field(mst, sizeof mst, xrf, sizeof xrf, mfn, index, &tag, &start, &len) == ISIS_DONE) {
+        printf("    %5u  %.*s\n", (unsigned)tag, (int)len, (const char *)mst + start);
+        index++;
+    }
+    return index;
+}
+
 /* A draft: the tags, the length of each field, and the bytes one after the other. */
 static const uint16_t tags[] = { TITLE, AUTHOR };
 
@@ -63,6 +77,9 @@ int main(void)
                      isis_create(mst, sizeof mst, xrf, sizeof xrf, tags, 2, lens, 2, data, size, &mfn));
     printf("    its MFN is %u\n", (unsigned)mfn);
     show_title(mfn);
+    printf("    its fields:\n");
+    if (show_fields(mfn) != 2)
+        failed = 1;
 
     failed |= report("settle it, now indexed (touch 2)",
                      isis_settle(mst, sizeof mst, xrf, sizeof xrf, mfn));

@@ -35,12 +35,11 @@ pub fn run() {
     }
 }
 
-/// Views every field of every record.
+/// Has every field of every record handed out.
 fn read(card: &Card) {
     for mfn in 1..=RECORDS as u32 {
-        for tag in 1..=FIELDS {
-            black_box(card.view(mfn, tag, 1).expect("the field is there"));
-        }
+        let fields = card.fields(mfn).expect("the record is there");
+        assert_eq!(fields.map(black_box).count(), usize::from(FIELDS));
     }
 }
 

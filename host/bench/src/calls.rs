@@ -71,6 +71,7 @@ pub fn run() {
     let settled = card(RECORDS, &eight, Kind::Settled);
     let changed = card(RECORDS, &eight, Kind::Changed);
     views(&settled, &changed);
+    fields(&settled, &changed);
     writes(&new, &settled, &eight);
     for (name, base, wanted) in [
         ("settle, a new record", &new, 0),
@@ -129,6 +130,42 @@ fn views(settled: &Buffers, changed: &Buffers) {
         0,
         |card, mfn| library(card.view_settled_part(mfn, 8, 1)),
         |mst, xrf, mfn| plain::view_settled(mst, xrf, mfn, 8, 1).0,
+    );
+}
+
+/// Fields by their index, and all fields of a record one after the other.
+fn fields(settled: &Buffers, changed: &Buffers) {
+    for (name, index) in [
+        ("field by index, first of 8", 0),
+        ("field by index, last of 8", 7),
+    ] {
+        measure(
+            name,
+            settled,
+            RECORDS,
+            0,
+            |card, mfn| library(card.field(mfn, index)),
+            |mst, xrf, mfn| plain::field(mst, xrf, mfn, index).0,
+        );
+    }
+    measure(
+        "settled field by index, last of 8",
+        changed,
+        RECORDS,
+        0,
+        |card, mfn| library(card.field_settled(mfn, 7)),
+        |mst, xrf, mfn| plain::field_settled(mst, xrf, mfn, 7).0,
+    );
+    measure(
+        "all 8 fields by index, one after the other",
+        settled,
+        RECORDS,
+        8,
+        |card, mfn| card.fields(mfn).map_or(0, |fields| fields.count() as u32),
+        |mst, xrf, mfn| {
+            let there = |index: &usize| plain::field(mst, xrf, mfn, *index).0 == 0;
+            (0..).take_while(there).count() as u32
+        },
     );
 }
 

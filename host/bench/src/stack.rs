@@ -52,6 +52,7 @@ pub fn run() {
         .stack_size(4 << 20)
         .spawn(|| {
             reading();
+            fields();
             drafts();
             acts();
         })
@@ -95,6 +96,31 @@ fn reading() {
             "check",
             &mut [&mut || {
                 black_box(raw::isis_check(a.0, a.1, a.2, a.3));
+            }],
+        );
+    }
+}
+
+/// Fields by their index.
+fn fields() {
+    let a = arguments(Kind::Changed);
+    let (mut tag, mut start, mut len) = (0, 0, 0);
+    // SAFETY: as in `reading`.
+    unsafe {
+        report(
+            "field",
+            &mut [&mut || {
+                black_box(raw::isis_field(
+                    a.0, a.1, a.2, a.3, 7, 39, &mut tag, &mut start, &mut len,
+                ));
+            }],
+        );
+        report(
+            "field settled",
+            &mut [&mut || {
+                black_box(raw::isis_field_settled(
+                    a.0, a.1, a.2, a.3, 7, 39, &mut tag, &mut start, &mut len,
+                ));
             }],
         );
     }

@@ -1,6 +1,6 @@
 //! `card show`: records with all their fields, deleted and pending ones marked, and
-//! the settled version beside a pending change. The tags are read from the
-//! directory, every field is shown by the library.
+//! the settled version beside a pending change. Every field is handed out by the
+//! library.
 
 use crate::arguments::Arguments;
 use crate::calls::About;
@@ -8,19 +8,9 @@ use crate::check::reason;
 use crate::files::Files;
 use crate::survey;
 use crate::trouble::{Trouble, printed};
-use isis::{Answer, Card, Refusal};
-use model::bytes::u16_at;
-use model::layout::{Control, Entry, ITEM, LEADER, Mark, Place};
-use model::record::Leader;
-use std::collections::HashMap;
+use isis::{Answer, Card, Fields, Refusal};
+use model::layout::{Control, Entry, Mark, Place};
 use std::io::{self, BufWriter, Write};
-
-/// Which version of a record is shown.
-#[derive(Clone, Copy)]
-enum Version {
-    Current,
-    Settled,
-}
 
 /// `card show`.
 pub fn show(mut arguments: Arguments) -> Result<(), Trouble> {
@@ -108,17 +98,11 @@ fn record(files: &mut Files, mfn: u32, place: Place, out: &mut dyn Write) -> Ans
     let current = if place.deleted {
         Err(Refusal::Deleted)
     } else {
-        print(&card, mfn, place.address(), Version::Current, out)
+        card.fields(mfn).map(|fields| print(fields, "  ", out))
     };
     if place.mark == Mark::Changed {
-        let leader = Leader::read(card.mst(), place.address());
-        let back = Place {
-            block: leader.back_block,
-            offset: leader.back_offset,
-            ..place
-        };
         let _ = writeln!(out, "  settled version:");
-        print(&card, mfn, back.address(), Version::Settled, out)?;
+        print(card.fields_settled(mfn)?, "    ", out);
     }
     current
 }
@@ -134,64 +118,12 @@ fn words(place: Place) -> String {
     format!("{deleted}, {mark}")
 }
 
-/// Prints the fields of a version.
-fn print(card: &Card, mfn: u32, at: usize, version: Version, out: &mut dyn Write) -> Answer<()> {
-    let indent = match version {
-        Version::Current => "  ",
-        Version::Settled => "    ",
-    };
-    for (tag, field) in fields(card, mfn, at, version)? {
-        let _ = writeln!(out, "{indent}{tag:>5}  {}", printable(field));
+/// Prints the fields of a version, a line each.
+fn print(fields: Fields, indent: &str, out: &mut dyn Write) {
+    for field in fields {
+        let (tag, text) = (field.tag, printable(field.bytes));
+        let _ = writeln!(out, "{indent}{tag:>5}  {text}");
     }
-    Ok(())
-}
-
-/// All fields of a version in directory order. The library shows a field by its tag and
-/// occurrence, so the tags are read from the directory of the record at `at`, once the
-/// library has found it well formed. A function of the library that hands out the fields
-/// one after the other can take the place of this one alone.
-fn fields<'a>(
-    card: &'a Card,
-    mfn: u32,
-    at: usize,
-    version: Version,
-) -> Answer<Vec<(u16, &'a [u8])>> {
-    match view(card, mfn, 1, 0, version) {
-        Err(Refusal::NoField) | Ok(_) => {}
-        Err(refusal) => return Err(refusal),
-    }
-    let mut seen = HashMap::new();
-    let mut fields = Vec::new();
-    for tag in tags(card.mst(), at) {
-        let occurrence = seen.entry(tag).or_insert(0);
-        *occurrence += 1;
-        fields.push((tag, view(card, mfn, tag, *occurrence, version)?));
-    }
-    Ok(fields)
-}
-
-/// A view of the library.
-fn view<'a>(
-    card: &'a Card,
-    mfn: u32,
-    tag: u16,
-    occurrence: u32,
-    version: Version,
-) -> Answer<&'a [u8]> {
-    match version {
-        Version::Current => card.view(mfn, tag, occurrence),
-        Version::Settled => card.view_settled(mfn, tag, occurrence),
-    }
-}
-
-/// The tags of a well-formed record in directory order.
-fn tags(mst: &[u8], at: usize) -> Vec<u16> {
-    let base = usize::from(Leader::read(mst, at).base);
-    let directory = &mst[at + LEADER..at + base];
-    directory
-        .chunks_exact(ITEM)
-        .map(|item| u16_at(item, 0))
-        .collect()
 }
 
 /// A field as text: what is no printable text is shown as \xNN.

@@ -149,6 +149,89 @@ fn show_marks_deleted_pending_and_gone() {
 }
 
 #[test]
+fn show_has_every_field_in_directory_order() {
+    let folder = Folder::with_card("fields");
+    folder.done("create a.mst a.xrf 70=one 24=Kite 70= 1=x 70=two");
+    folder.done("create a.mst a.xrf --empty");
+    let five = "     70  one\n     24  Kite\n     70  \n      1  x\n     70  two\n";
+    let wanted = format!("MFN 1: live, new, pending\n{five}MFN 2: live, new, pending\n");
+    assert_eq!(folder.done("show a.mst a.xrf"), wanted);
+    folder.done("settle a.mst a.xrf 1");
+    folder.done("settle a.mst a.xrf 2");
+    folder.done("update a.mst a.xrf 1 --empty");
+    folder.done("update a.mst a.xrf 2 70=");
+    let settled = five.replace("     ", "       ");
+    let wanted = format!(
+        "MFN 1: live, changed, pending\n  settled version:\n{settled}\
+         MFN 2: live, changed, pending\n     70  \n  settled version:\n"
+    );
+    assert_eq!(folder.done("show a.mst a.xrf"), wanted);
+}
+
+#[test]
+fn show_of_a_pending_deletion_has_the_settled_fields() {
+    let folder = Folder::with_card("deletion");
+    folder.done("create a.mst a.xrf 24=a 24=b 70=");
+    folder.done("settle a.mst a.xrf 1");
+    folder.done("delete a.mst a.xrf 1");
+    let settled = "MFN 1: deleted, changed, pending\n  settled version:\n       24  a\n       24  b\n       70  \n";
+    assert_eq!(folder.done("show a.mst a.xrf"), settled);
+    let run = folder.card("show a.mst a.xrf 1");
+    assert_eq!((run.status, run.out.as_str()), (9, settled));
+    folder.done("settle a.mst a.xrf 1");
+    let run = folder.card("show a.mst a.xrf 1");
+    assert_eq!(
+        (run.status, run.out.as_str()),
+        (9, "MFN 1: deleted, settled\n")
+    );
+}
+
+/// A damaged record shows no field; the records beside it are shown all the same.
+#[test]
+fn show_of_damaged_records() {
+    let folder = Folder::with_card("damaged");
+    for field in ["24=one", "24=two", "24=three"] {
+        folder.done(&format!("create a.mst a.xrf {field} 70=x"));
+    }
+    // MFN 2 stands at 98: 64 + 18 + 2 x 6 + 4. Its second tag is there 98 + 24.
+    folder.damage("a.mst", 98 + 24, &[0, 0]);
+    folder.refused("show a.mst a.xrf 2", 8, "tag");
+    let run = folder.card("show a.mst a.xrf");
+    assert_eq!(run.status, 8);
+    let lines: Vec<&str> = run.out.lines().collect();
+    assert_eq!(
+        lines[..3],
+        ["MFN 1: live, new, pending", "     24  one", "     70  x"]
+    );
+    assert!(
+        lines[3].starts_with("MFN 2: ") && !lines[3].contains("two"),
+        "{}",
+        lines[3]
+    );
+    assert_eq!(
+        lines[4..],
+        ["MFN 3: live, new, pending", "     24  three", "     70  x"]
+    );
+}
+
+/// A damaged settled version is refused; the current version is shown before.
+#[test]
+fn show_of_a_damaged_settled_version() {
+    let folder = Folder::with_card("damaged-settled");
+    folder.done("create a.mst a.xrf 24=Kite");
+    folder.done("settle a.mst a.xrf 1");
+    folder.done("update a.mst a.xrf 1 24=Kites");
+    folder.damage("a.mst", 64 + 16, &[1]);
+    let run = folder.card("show a.mst a.xrf 1");
+    assert_eq!(run.status, 8);
+    assert_eq!(
+        run.out,
+        "MFN 1: live, changed, pending\n     24  Kites\n  settled version:\n"
+    );
+    assert!(run.err.contains("STATUS"), "{run:?}");
+}
+
+#[test]
 fn stat_counts_records_and_space() {
     let folder = Folder::with_card("stat");
     folder.done("create a.mst a.xrf 24=Kite");

@@ -3,16 +3,30 @@
 
 use crate::guarded::{Area, Side};
 use isis::raw;
-use model::call::{Call, OwnedDraft};
+use model::call::{Call, Outcome, OwnedDraft};
 use std::ops::Range;
 
-/// What a call gave: its number, the MFN of a create, the part of a view.
+/// What a call gave: its number, the MFN of a create, the tag of a field by its
+/// index, and the part that is shown.
 #[derive(Clone, Debug, PartialEq, Eq)]
 #[allow(missing_docs)]
 pub struct Given {
     pub number: u32,
     pub mfn: u32,
+    pub tag: u16,
     pub part: Range<usize>,
+}
+
+impl Given {
+    /// What the model says that a call must give.
+    pub fn wanted(outcome: &Outcome, part: Range<usize>) -> Given {
+        Given {
+            number: outcome.number,
+            mfn: outcome.mfn,
+            tag: outcome.tag,
+            part,
+        }
+    }
 }
 
 /// Something that answers calls on two buffers.
@@ -28,6 +42,7 @@ pub struct Archive {
     lens: Area,
     data: Area,
     outputs: Area,
+    tag: Area,
 }
 
 /// The longest list of a draft that fits into its area.
@@ -42,6 +57,7 @@ impl Archive {
             lens: Area::new(2 * LONGEST_LIST),
             data: Area::new(2 * LONGEST_LIST),
             outputs: Area::new(16),
+            tag: Area::new(2),
         }
     }
 
@@ -90,6 +106,7 @@ fn plain(number: u32) -> Given {
     Given {
         number,
         mfn: 0,
+        tag: 0,
         part: 0..0,
     }
 }
@@ -109,6 +126,7 @@ impl Subject for Archive {
                 Call::Create(draft) => self.create(b, draft, side),
                 Call::Update(mfn, draft) => self.update(b, *mfn, draft, side),
                 Call::View { .. } | Call::ViewSettled { .. } => self.view(b, call, side),
+                Call::Field { .. } | Call::FieldSettled { .. } => self.field(b, call, side),
             }
         }
     }
@@ -167,6 +185,33 @@ impl Archive {
                 _ => unreachable!("only views come here"),
             };
             Given {
+                part: *start..(*start).wrapping_add(*len),
+                ..plain(number)
+            }
+        }
+    }
+
+    unsafe fn field(&mut self, b: Buffers, call: &Call, side: Side) -> Given {
+        let output = self.outputs.buffer(16, side);
+        output.fill(0xEE);
+        let start: *mut usize = output.as_mut_ptr().cast();
+        let output = self.tag.buffer(2, side);
+        output.fill(0xEE);
+        let tag: *mut u16 = output.as_mut_ptr().cast();
+        // SAFETY: as in `view`; the tag has an area of its own.
+        unsafe {
+            let len = start.add(1);
+            let number = match *call {
+                Call::Field { mfn, index } => {
+                    raw::isis_field(b.0, b.1, b.2, b.3, mfn, index, tag, start, len)
+                }
+                Call::FieldSettled { mfn, index } => {
+                    raw::isis_field_settled(b.0, b.1, b.2, b.3, mfn, index, tag, start, len)
+                }
+                _ => unreachable!("only fields by index come here"),
+            };
+            Given {
+                tag: *tag,
                 part: *start..(*start).wrapping_add(*len),
                 ..plain(number)
             }

@@ -164,13 +164,17 @@ impl Family for FromFormat {
         match done {
             0 => Some(Step::Call(Call::Format)),
             _ if done == self.steps => None,
-            _ => Some(Step::Call(lists::call(random, self.taste, run.next_mfn()))),
+            _ => Some(Step::Call(lists::call_or_field(
+                random,
+                self.taste,
+                run.next_mfn(),
+            ))),
         }
     }
 }
 
 /// A good card and arguments that are not: drafts that do not fit together or are far
-/// too long, MFNs, tags and occurrences at the edges of their numbers.
+/// too long, MFNs, tags, occurrences and indexes at the edges of their numbers.
 #[derive(Debug, Default)]
 pub struct Hostile;
 
@@ -192,7 +196,7 @@ impl Family for Hostile {
             0 => random.next() as u32,
             _ => lists::mfn(random, run.next_mfn()),
         };
-        Some(Step::Call(match random.below(8) {
+        Some(Step::Call(match random.below(10) {
             0..=1 => Call::Create(lists::hostile_draft(random, Taste::SHORT)),
             2..=3 => Call::Update(mfn, lists::hostile_draft(random, Taste::SHORT)),
             4 => Call::View {
@@ -204,6 +208,14 @@ impl Family for Hostile {
                 mfn,
                 tag: random.next() as u16,
                 occurrence,
+            },
+            6 => Call::Field {
+                mfn,
+                index: random.next() as usize,
+            },
+            7 => Call::FieldSettled {
+                mfn,
+                index: lists::index(random),
             },
             _ => lists::call(random, Taste::SHORT, run.next_mfn()),
         }))

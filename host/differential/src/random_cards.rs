@@ -37,7 +37,8 @@ impl Family for RandomCards {
             format_in: 60,
             ..Taste::SHORT
         };
-        (done < 24).then(|| Step::Call(lists::call(random, taste, run.next_mfn().min(9))))
+        let next_mfn = run.next_mfn().min(9);
+        (done < 24).then(|| Step::Call(lists::call_or_field(random, taste, next_mfn)))
     }
 }
 

@@ -95,7 +95,9 @@ fn without(steps: &[Step], from: usize, to: usize, lower: bool) -> Vec<Step> {
                     | Call::Settle(mfn)
                     | Call::Revert(mfn)
                     | Call::View { mfn, .. }
-                    | Call::ViewSettled { mfn, .. },
+                    | Call::ViewSettled { mfn, .. }
+                    | Call::Field { mfn, .. }
+                    | Call::FieldSettled { mfn, .. },
                 ) if *mfn > before + removed => *mfn -= removed,
                 _ => {}
             }

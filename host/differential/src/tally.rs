@@ -4,8 +4,11 @@
 use model::call::Call;
 use std::fmt;
 
-/// The calls, in the order of the paper's list.
-pub const CALLS: [&str; 9] = [
+/// How many calls there are.
+const COUNT: usize = 11;
+
+/// The calls, in the order of the paper's list; then the fields by their index.
+pub const CALLS: [&str; COUNT] = [
     "format",
     "view",
     "view settled",
@@ -15,10 +18,13 @@ pub const CALLS: [&str; 9] = [
     "settle",
     "revert",
     "check",
+    "field",
+    "field settled",
 ];
 
-/// The answers that the table of document 01 has for each call.
-pub const ANSWERS: [&[usize]; 9] = [
+/// The answers that the table of document 01 has for each call; a field by its index
+/// is answered as a view.
+pub const ANSWERS: [&[usize]; COUNT] = [
     &[0, 1],
     &[0, 1, 2, 4, 6, 7, 8, 9, 12],
     &[0, 1, 2, 4, 6, 7, 8, 9, 11, 12],
@@ -28,12 +34,14 @@ pub const ANSWERS: [&[usize]; 9] = [
     &[0, 1, 2, 4, 6, 7, 8, 10],
     &[0, 1, 2, 4, 6, 7, 8, 10, 11],
     &[0, 1, 2, 14],
+    &[0, 1, 2, 4, 6, 7, 8, 9, 12],
+    &[0, 1, 2, 4, 6, 7, 8, 9, 11, 12],
 ];
 
 /// Counts by call and answer.
 #[derive(Clone, Debug, Default)]
 pub struct Tally {
-    counts: [[usize; 15]; 9],
+    counts: [[usize; 15]; COUNT],
 }
 
 /// The place of a call in `CALLS`.
@@ -48,6 +56,8 @@ fn index(call: &Call) -> usize {
         Call::Settle(_) => 6,
         Call::Revert(_) => 7,
         Call::Check => 8,
+        Call::Field { .. } => 9,
+        Call::FieldSettled { .. } => 10,
     }
 }
 

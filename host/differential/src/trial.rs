@@ -153,11 +153,7 @@ impl<'s> Run<'s> {
         let given = self.on_subject(call);
         let (outcome, part) = on_bytes(&mut self.mst, &mut self.xrf, call);
         tally.add(call, outcome.number);
-        let wanted = Given {
-            number: outcome.number,
-            mfn: outcome.mfn,
-            part,
-        };
+        let wanted = Given::wanted(&outcome, part);
         if given != wanted {
             return Err(format!("gave {given:?}, wanted {wanted:?}"));
         }
@@ -170,7 +166,11 @@ impl<'s> Run<'s> {
     fn on_subject(&mut self, call: &Call) -> Given {
         let reads = matches!(
             call,
-            Call::View { .. } | Call::ViewSettled { .. } | Call::Check
+            Call::View { .. }
+                | Call::ViewSettled { .. }
+                | Call::Field { .. }
+                | Call::FieldSettled { .. }
+                | Call::Check
         );
         let shut = reads && self.step.is_multiple_of(16);
         if shut {

@@ -36,11 +36,7 @@ impl Subject for Fake {
     fn run(&mut self, mst: &mut [u8], xrf: &mut [u8], call: &Call, _: Side) -> Given {
         let before = (mst.to_vec(), xrf.to_vec());
         let (outcome, part) = on_bytes(mst, xrf, call);
-        let given = Given {
-            number: outcome.number,
-            mfn: outcome.mfn,
-            part,
-        };
+        let given = Given::wanted(&outcome, part);
         let mut seen = Seen {
             call,
             given,
@@ -75,7 +71,7 @@ fn a_store_that_always_refuses() {
 
 #[test]
 fn one_that_answers_0_and_stores_nothing() {
-    found(&mut FromFormat::new(), 3, |_, seen| {
+    found(&mut FromFormat::new(), 4, |_, seen| {
         if matches!(seen.call, Call::Update(..)) && seen.given.number == 0 {
             seen.put_back();
         }
@@ -98,7 +94,7 @@ fn one_that_shows_the_same_field_for_every_mfn() {
 
 #[test]
 fn one_that_writes_the_first_update_and_only_reports_the_later_ones() {
-    found(&mut FromFormat::new(), 4, |fake, seen| {
+    found(&mut FromFormat::new(), 5, |fake, seen| {
         if *seen.call == Call::Format {
             fake.updates = 0;
         }
@@ -162,6 +158,61 @@ fn the_gap_before_a_block_written_over() {
         if moved && matches!(seen.call, Call::Create(_)) {
             let block = seen.mst[8] as usize;
             seen.mst[(block - 1) * 512 - 1] = 0xAA;
+        }
+    });
+}
+
+#[test]
+fn the_first_field_for_every_index() {
+    found(&mut FromFormat::new(), 3, |_, seen| {
+        if let Call::Field { mfn, .. } = *seen.call
+            && seen.given.number == 0
+        {
+            let (tag, part) = model::store::field(seen.mst, seen.xrf, mfn, 0).unwrap();
+            (seen.given.tag, seen.given.part) = (tag, part);
+        }
+    });
+}
+
+#[test]
+fn one_index_too_many() {
+    found(&mut FromFormat::new(), 3, |_, seen| {
+        if let Call::Field { mfn, index } = *seen.call
+            && seen.given.number == 12
+            && index > 0
+            && model::store::field(seen.mst, seen.xrf, mfn, index - 1).is_ok()
+        {
+            (seen.given.number, seen.given.tag) = (0, 0);
+        }
+    });
+}
+
+#[test]
+fn the_current_field_for_the_settled_one() {
+    found(&mut FromFormat::new(), 6, |_, seen| {
+        if let Call::FieldSettled { mfn, index } = *seen.call
+            && seen.given.number == 0
+            && let Ok((tag, part)) = model::store::field(seen.mst, seen.xrf, mfn, index)
+        {
+            (seen.given.tag, seen.given.part) = (tag, part);
+        }
+    });
+}
+
+#[test]
+fn a_tag_left_standing_by_a_refusal() {
+    found(&mut FromFormat::new(), 2, |_, seen| {
+        if matches!(seen.call, Call::Field { .. }) && seen.given.number != 0 {
+            seen.given.tag = 24;
+        }
+    });
+}
+
+#[test]
+fn a_field_of_a_damaged_record() {
+    found(&mut Damaged::default(), 8, |_, seen| {
+        if matches!(seen.call, Call::Field { .. }) && seen.given.number == 8 {
+            seen.given.number = 12;
         }
     });
 }

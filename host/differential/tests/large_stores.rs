@@ -1,7 +1,7 @@
 //! The ends of the ranges: every MFN of the largest XRF given out, and records in the
 //! last block of the largest MST, where an entry comes near the largest integer.
 
-use isis::{Card, Refusal};
+use isis::{Card, Field, Refusal};
 use model::call::OwnedDraft;
 use model::store;
 
@@ -42,6 +42,8 @@ fn one_block_too_many_is_refused_by_every_call() {
         assert_eq!(card.format(), refused);
         assert_eq!(card.view(1, 24, 1).map(|_| ()), refused);
         assert_eq!(card.view_settled(1, 24, 1).map(|_| ()), refused);
+        assert_eq!(card.field(1, 0).map(|_| ()), refused);
+        assert_eq!(card.field_settled(1, 0).map(|_| ()), refused);
         assert_eq!(card.create([(24, "Kite")]).map(|_| ()), refused);
         assert_eq!(card.update(1, [(24, "Kite")]), refused);
         assert_eq!(card.delete(1), refused);
@@ -74,6 +76,9 @@ fn records_in_the_last_block_of_the_largest_mst() {
     assert_eq!(card.mst()[8..14], [0, 0, 0x10, 0, 0, 0]);
     assert_eq!(card.create::<&[u8]>([]), Err(Refusal::NoRoom));
     assert_eq!(card.view_settled(1, 24, 1), Ok(&b"Kite"[..]));
+    let field = |tag, bytes| Ok(Field { tag, bytes });
+    assert_eq!(card.field(1, 0), field(24, b"Kites, many"));
+    assert_eq!(card.field_settled(1, 0), field(24, b"Kite"));
     assert_eq!(card.delete(1), Ok(()));
     assert_eq!(
         card.xrf()[4..8],
@@ -82,4 +87,22 @@ fn records_in_the_last_block_of_the_largest_mst() {
     assert_eq!(card.revert(1), Ok(()));
     assert_eq!(card.xrf()[4..8], entry.to_le_bytes());
     assert_eq!(card.check(), Err(Refusal::NotSound));
+}
+
+/// (32,766 - 18) / 6 = 5,458 directory entries are the most that a record has.
+#[test]
+fn every_field_of_the_longest_directory() {
+    const MOST: usize = 5_458;
+    let (mut mst, mut xrf) = (vec![0; 80 * 512], vec![0; 512]);
+    let mut card = Card::over(&mut mst, &mut xrf);
+    card.format().unwrap();
+    let tag = |index: usize| (index % 32_767 + 1) as u16;
+    let empty = |fields: usize| (0..fields).map(move |index| (tag(index), ""));
+    assert_eq!(card.create(empty(MOST + 1)), Err(Refusal::BadDraft));
+    assert_eq!(card.create(empty(MOST)), Ok(1));
+    let tags: Vec<u16> = card.fields(1).unwrap().map(|field| field.tag).collect();
+    assert!(tags.into_iter().eq((0..MOST).map(tag)));
+    assert_eq!(card.field(1, MOST - 1).map(|field| field.tag), Ok(5_458));
+    assert_eq!(card.field(1, MOST), Err(Refusal::NoField));
+    assert_eq!(card.field(1, MOST + 65_536), Err(Refusal::NoField));
 }

@@ -91,6 +91,18 @@ mod subject {
         read(mst, xrf, call).map(|given| given.part)
     }
 
+    pub type Indexed = (u16, Range<usize>);
+
+    pub fn field(mst: &[u8], xrf: &[u8], mfn: u32, index: usize) -> Answer<Indexed> {
+        let given = read(mst, xrf, Call::Field { mfn, index });
+        given.map(|given| (given.tag, given.part))
+    }
+
+    pub fn field_settled(mst: &[u8], xrf: &[u8], mfn: u32, index: usize) -> Answer<Indexed> {
+        let given = read(mst, xrf, Call::FieldSettled { mfn, index });
+        given.map(|given| (given.tag, given.part))
+    }
+
     pub fn create(mst: &mut [u8], xrf: &mut [u8], draft: &Draft) -> Answer<u32> {
         run(mst, xrf, Call::Create(owned(draft))).map(|given| given.mfn)
     }

@@ -14,6 +14,7 @@
 //! card.update(mfn, [(24, "Kites")])?;
 //! assert_eq!(card.view(mfn, 24, 1)?, b"Kites");
 //! assert_eq!(card.view_settled(mfn, 24, 1)?, b"Kite");
+//! assert_eq!(card.fields_settled(mfn)?.count(), 2);
 //! card.revert(mfn)?;
 //! assert_eq!(card.view(mfn, 24, 1)?, b"Kite");
 //! card.check()?;
@@ -21,10 +22,12 @@
 //! ```
 
 mod draft;
+mod fields;
 pub mod raw;
 mod refusal;
 
 pub use draft::{Draft, Lists};
+pub use fields::{Field, Fields};
 pub use refusal::{Answer, Refusal};
 use std::ops::Range;
 
@@ -57,8 +60,51 @@ type View = unsafe extern "C" fn(
     *mut usize,
 ) -> u32;
 
+/// A function of the C interface that shows a field by its index.
+type FieldCall = unsafe extern "C" fn(
+    *const u8,
+    usize,
+    *const u8,
+    usize,
+    u32,
+    usize,
+    *mut u16,
+    *mut usize,
+    *mut usize,
+) -> u32;
+
 /// A function of the C interface that names an MFN and may write.
 type Act = unsafe extern "C" fn(*mut u8, usize, *mut u8, usize, u32) -> u32;
+
+/// The field at an index, as the part of the MST that the library names.
+fn by_index<'c>(
+    mst: &'c [u8],
+    xrf: &[u8],
+    call: FieldCall,
+    mfn: u32,
+    index: usize,
+) -> Answer<Field<'c>> {
+    let (mut tag, mut start, mut len) = (0, 0, 0);
+    // SAFETY: the buffers are borrowed for their whole length, the outputs are three
+    // variables of this function.
+    let number = unsafe {
+        call(
+            mst.as_ptr(),
+            mst.len(),
+            xrf.as_ptr(),
+            xrf.len(),
+            mfn,
+            index,
+            &mut tag,
+            &mut start,
+            &mut len,
+        )
+    };
+    answer(number).map(|()| Field {
+        tag,
+        bytes: &mst[start..start + len],
+    })
+}
 
 impl<'a> Card<'a> {
     /// A card over two buffers with any bytes in them.
@@ -123,6 +169,26 @@ impl<'a> Card<'a> {
             )
         };
         answer(number).map(|()| start..start + len)
+    }
+
+    /// A field of the current version by its index in the directory, from 0.
+    pub fn field(&self, mfn: u32, index: usize) -> Answer<Field<'_>> {
+        by_index(self.mst, self.xrf, raw::isis_field, mfn, index)
+    }
+
+    /// A field of the settled version by its index in the directory, from 0.
+    pub fn field_settled(&self, mfn: u32, index: usize) -> Answer<Field<'_>> {
+        by_index(self.mst, self.xrf, raw::isis_field_settled, mfn, index)
+    }
+
+    /// All fields of the current version, in directory order.
+    pub fn fields(&self, mfn: u32) -> Answer<Fields<'_>> {
+        Fields::of(self.mst, self.xrf, raw::isis_field, mfn)
+    }
+
+    /// All fields of the settled version, in directory order.
+    pub fn fields_settled(&self, mfn: u32) -> Answer<Fields<'_>> {
+        Fields::of(self.mst, self.xrf, raw::isis_field_settled, mfn)
     }
 
     /// Writes a new record, pending, and gives its MFN.

@@ -31,6 +31,32 @@ unsafe extern "C" {
         len: *mut usize,
     ) -> u32;
 
+    /// Shows a field of the current version by its index in the directory.
+    pub fn isis_field(
+        mst: *const u8,
+        mst_len: usize,
+        xrf: *const u8,
+        xrf_len: usize,
+        mfn: u32,
+        index: usize,
+        tag: *mut u16,
+        start: *mut usize,
+        len: *mut usize,
+    ) -> u32;
+
+    /// Shows a field of the settled version by its index in the directory.
+    pub fn isis_field_settled(
+        mst: *const u8,
+        mst_len: usize,
+        xrf: *const u8,
+        xrf_len: usize,
+        mfn: u32,
+        index: usize,
+        tag: *mut u16,
+        start: *mut usize,
+        len: *mut usize,
+    ) -> u32;
+
     /// Writes a new record.
     pub fn isis_create(
         mst: *mut u8,

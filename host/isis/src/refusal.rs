@@ -32,7 +32,7 @@ pub enum Refusal {
     NotPending = 10,
     /// 11: the record was never settled.
     NeverSettled = 11,
-    /// 12: no field of that tag and occurrence.
+    /// 12: no field of that tag and occurrence, or of that index.
     NoField = 12,
     /// 13: the record does not fit before the end of the MST.
     NoRoom = 13,

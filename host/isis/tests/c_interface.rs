@@ -29,6 +29,8 @@ fn the_example_compiles_without_a_warning_and_does_what_it_says() {
     std::fs::remove_file(&program).unwrap();
     let printed = String::from_utf8(output.stdout).unwrap();
     assert!(printed.contains("its MFN is 1\n"), "{printed}");
+    let fields = "its fields:\n       24  The Kite Runner\n       70  Hosseini, Khaled\n";
+    assert!(printed.contains(fields), "{printed}");
     assert!(printed.contains("title now:     The Kite\n"), "{printed}");
     assert!(
         printed.contains("title settled: The Kite Runner\n"),

@@ -1,7 +1,7 @@
 //! The wrapper hands everything through: the worked run of document 01 by way of the
 //! archive, each answer as its number, and drafts from iterators.
 
-use isis::{Card, Draft, Lists, Refusal};
+use isis::{Answer, Card, Draft, Field, Fields, Lists, Refusal};
 
 #[test]
 fn the_worked_run_through_the_archive() {
@@ -90,4 +90,73 @@ fn no_fields_at_all_are_a_record() {
     assert_eq!(card.create::<&[u8]>([]), Ok(1));
     assert_eq!(card.mst()[68], 18);
     assert_eq!(card.check(), Ok(()));
+}
+
+/// Fields with their tags, as a caller gathers them.
+fn all(fields: Answer<Fields<'_>>) -> Answer<Vec<(u16, &[u8])>> {
+    let pair = |Field { tag, bytes }| (tag, bytes);
+    fields.map(|fields| fields.map(pair).collect())
+}
+
+#[test]
+fn fields_come_in_directory_order() {
+    let (mut mst, mut xrf) = (vec![0; 1024], vec![0; 512]);
+    let mut card = Card::over(&mut mst, &mut xrf);
+    card.format().unwrap();
+    let four = [(24, &b"one"[..]), (70, b""), (24, b"two"), (32_767, b"x")];
+    assert_eq!(card.create(four), Ok(1));
+    assert_eq!(all(card.fields(1)), Ok(four.to_vec()));
+    assert_eq!(all(card.fields_settled(1)), Err(Refusal::NeverSettled));
+    let third = Field {
+        tag: 24,
+        bytes: b"two",
+    };
+    assert_eq!(card.field(1, 2), Ok(third));
+    assert_eq!(card.field(1, 4), Err(Refusal::NoField));
+    assert_eq!(card.field(1, usize::MAX), Err(Refusal::NoField));
+    card.settle(1).unwrap();
+    card.update(1, [(70, "later")]).unwrap();
+    assert_eq!(all(card.fields(1)), Ok(vec![(70, &b"later"[..])]));
+    assert_eq!(all(card.fields_settled(1)), Ok(four.to_vec()));
+    assert_eq!(card.field_settled(1, 2), Ok(third));
+    card.delete(1).unwrap();
+    assert_eq!(all(card.fields(1)), Err(Refusal::Deleted));
+    assert_eq!(all(card.fields_settled(1)), Ok(four.to_vec()));
+}
+
+#[test]
+fn a_record_without_fields_has_none_to_hand_out() {
+    let (mut mst, mut xrf) = (vec![0; 512], vec![0; 512]);
+    let mut card = Card::over(&mut mst, &mut xrf);
+    card.format().unwrap();
+    assert_eq!(all(card.fields(1)), Err(Refusal::NoMfn));
+    assert_eq!(card.create::<&[u8]>([]), Ok(1));
+    assert_eq!(all(card.fields(1)), Ok(Vec::new()));
+    assert_eq!(card.field(1, 0), Err(Refusal::NoField));
+}
+
+/// The fields of a damaged record are refused as a whole, before the first.
+#[test]
+fn a_damaged_record_hands_out_no_field() {
+    let (mut mst, mut xrf) = (vec![0; 512], vec![0; 512]);
+    let mut card = Card::over(&mut mst, &mut xrf);
+    card.format().unwrap();
+    assert_eq!(card.create([(24, "Kite"), (70, "x")]), Ok(1));
+    // The second tag of the record at 64.
+    mst[64 + 18 + 6] = 0;
+    let card = Card::over(&mut mst, &mut xrf);
+    assert_eq!(all(card.fields(1)), Err(Refusal::BadRecord));
+    assert_eq!(card.field(1, 0), Err(Refusal::BadRecord));
+}
+
+/// When an iterator has ended it stays so.
+#[test]
+fn past_the_last_field_there_is_none() {
+    let (mut mst, mut xrf) = (vec![0; 512], vec![0; 512]);
+    let mut card = Card::over(&mut mst, &mut xrf);
+    card.format().unwrap();
+    assert_eq!(card.create([(24, "Kite")]), Ok(1));
+    let mut fields = card.fields(1).unwrap();
+    assert!(fields.next().is_some());
+    assert!(fields.next().is_none() && fields.next().is_none());
 }

@@ -4,7 +4,7 @@
 use crate::answer::{Refusal, number};
 use crate::draft::Draft;
 use crate::ledger::Ledger;
-use crate::store;
+use crate::store::{self, Indexed};
 use std::ops::Range;
 
 /// A draft that owns its three lists; it need not be right.
@@ -39,7 +39,7 @@ impl OwnedDraft {
     }
 }
 
-/// One of the nine calls.
+/// A call: the nine of document 01, and the two that show a field by its index.
 #[derive(Clone, Debug, PartialEq, Eq)]
 #[allow(missing_docs)]
 pub enum Call {
@@ -52,14 +52,18 @@ pub enum Call {
     Settle(u32),
     Revert(u32),
     Check,
+    Field { mfn: u32, index: usize },
+    FieldSettled { mfn: u32, index: usize },
 }
 
-/// What a call gave: its answer number, the MFN of a create, the field of a view.
+/// What a call gave: its answer number, the MFN of a create, the field that is shown,
+/// and its tag where the call names none.
 #[derive(Clone, Debug, PartialEq, Eq, Default)]
 #[allow(missing_docs)]
 pub struct Outcome {
     pub number: u32,
     pub mfn: u32,
+    pub tag: u16,
     pub field: Vec<u8>,
 }
 
@@ -75,15 +79,22 @@ impl Outcome {
         Outcome {
             number: number(result),
             mfn: result.unwrap_or(0),
-            field: Vec::new(),
+            ..Outcome::default()
         }
     }
 
     fn shown(result: Result<&[u8], Refusal>) -> Outcome {
         Outcome {
             number: number(&result),
-            mfn: 0,
             field: result.unwrap_or(&[]).to_vec(),
+            ..Outcome::default()
+        }
+    }
+
+    fn indexed(result: Result<(u16, &[u8]), Refusal>) -> Outcome {
+        Outcome {
+            tag: result.map_or(0, |(tag, _)| tag),
+            ..Outcome::shown(result.map(|(_, field)| field))
         }
     }
 }
@@ -105,6 +116,12 @@ pub fn on_bytes(mst: &mut [u8], xrf: &mut [u8], call: &Call) -> (Outcome, Range<
         } => {
             return shown_part(mst, store::view_settled(mst, xrf, *mfn, *tag, *occurrence));
         }
+        Call::Field { mfn, index } => {
+            return indexed_part(mst, store::field(mst, xrf, *mfn, *index));
+        }
+        Call::FieldSettled { mfn, index } => {
+            return indexed_part(mst, store::field_settled(mst, xrf, *mfn, *index));
+        }
         Call::Format => Outcome::plain(&store::format(mst, xrf)),
         Call::Create(draft) => Outcome::created(&store::create(mst, xrf, &draft.lent())),
         Call::Update(mfn, draft) => Outcome::plain(&store::update(mst, xrf, *mfn, &draft.lent())),
@@ -120,6 +137,13 @@ pub fn on_bytes(mst: &mut [u8], xrf: &mut [u8], call: &Call) -> (Outcome, Range<
 fn shown_part(mst: &[u8], result: Result<Range<usize>, Refusal>) -> (Outcome, Range<usize>) {
     let part = result.clone().unwrap_or(0..0);
     (Outcome::shown(result.map(|part| &mst[part])), part)
+}
+
+/// The outcome of a field by index, with the part of the MST that it shows.
+fn indexed_part(mst: &[u8], result: Result<Indexed, Refusal>) -> (Outcome, Range<usize>) {
+    let part = result.clone().map_or(0..0, |(_, part)| part);
+    let shown = result.map(|(tag, part)| (tag, &mst[part]));
+    (Outcome::indexed(shown), part)
 }
 
 /// The ledger's outcome.
@@ -142,5 +166,7 @@ pub fn on_ledger(ledger: &mut Ledger, call: &Call) -> Outcome {
         Call::Settle(mfn) => Outcome::plain(&ledger.settle(*mfn)),
         Call::Revert(mfn) => Outcome::plain(&ledger.revert(*mfn)),
         Call::Check => Outcome::plain(&ledger.check()),
+        Call::Field { mfn, index } => Outcome::indexed(ledger.field(*mfn, *index)),
+        Call::FieldSettled { mfn, index } => Outcome::indexed(ledger.field_settled(*mfn, *index)),
     }
 }

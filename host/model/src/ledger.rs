@@ -98,24 +98,44 @@ impl Ledger {
         Ok(step_over(self.end + need))
     }
 
-    /// A field of the current fields.
-    pub fn view(&self, mfn: u32, tag: u16, occurrence: u32) -> Result<&[u8], Refusal> {
+    /// The current fields of a live record.
+    fn current(&self, mfn: u32) -> Result<&Fields, Refusal> {
         let item = &self.items[self.index(mfn)?];
         if item.deleted {
             return Err(Refusal::Deleted);
         }
-        pick(&item.fields, tag, occurrence)
+        Ok(&item.fields)
+    }
+
+    /// The settled fields under changed, otherwise the current ones of a live record.
+    fn settled(&self, mfn: u32) -> Result<&Fields, Refusal> {
+        let item = &self.items[self.index(mfn)?];
+        match &item.standing {
+            Standing::Changed { settled, .. } => Ok(settled),
+            Standing::Settled if item.deleted => Err(Refusal::Deleted),
+            Standing::Settled => Ok(&item.fields),
+            Standing::New { .. } => Err(Refusal::New),
+        }
+    }
+
+    /// A field of the current fields.
+    pub fn view(&self, mfn: u32, tag: u16, occurrence: u32) -> Result<&[u8], Refusal> {
+        pick(self.current(mfn)?, tag, occurrence)
     }
 
     /// A field of the settled fields under changed, otherwise of the current ones.
     pub fn view_settled(&self, mfn: u32, tag: u16, occurrence: u32) -> Result<&[u8], Refusal> {
-        let item = &self.items[self.index(mfn)?];
-        match &item.standing {
-            Standing::Changed { settled, .. } => pick(settled, tag, occurrence),
-            Standing::Settled if item.deleted => Err(Refusal::Deleted),
-            Standing::Settled => pick(&item.fields, tag, occurrence),
-            Standing::New { .. } => Err(Refusal::New),
-        }
+        pick(self.settled(mfn)?, tag, occurrence)
+    }
+
+    /// The current field at an index, from 0, in draft order.
+    pub fn field(&self, mfn: u32, index: usize) -> Result<(u16, &[u8]), Refusal> {
+        at_index(self.current(mfn)?, index)
+    }
+
+    /// The settled field at an index, from 0, in draft order.
+    pub fn field_settled(&self, mfn: u32, index: usize) -> Result<(u16, &[u8]), Refusal> {
+        at_index(self.settled(mfn)?, index)
     }
 
     /// The next MFN gets the draft's fields, live, new, appended.
@@ -243,4 +263,10 @@ fn pick(fields: &Fields, tag: u16, occurrence: u32) -> Result<&[u8], Refusal> {
         }
     }
     Err(Refusal::NoField)
+}
+
+/// The field at an index, from 0.
+fn at_index(fields: &Fields, index: usize) -> Result<(u16, &[u8]), Refusal> {
+    let (tag, bytes) = fields.get(index).ok_or(Refusal::NoField)?;
+    Ok((*tag, bytes))
 }

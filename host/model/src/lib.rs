@@ -3,7 +3,7 @@
 //! It exists to be compared with the proved library, so it shares no code and no
 //! table with it. Two programs live here:
 //!
-//! * the **byte store** ([`store`]): the nine calls over two lent buffers that may
+//! * the **byte store** ([`store`]): the calls over two lent buffers that may
 //!   hold any bytes, with the whole-store check ([`sound`]) written as the
 //!   paper states it: collect the steps, then look at every entry;
 //! * the **ledger** ([`ledger`]): the plain ledger of demand 3, which never sees a
@@ -22,6 +22,7 @@ pub mod ledger;
 pub mod lists;
 pub mod random;
 pub mod record;
+pub mod replay;
 pub mod sound;
 pub mod store;
 

@@ -36,7 +36,20 @@ impl Taste {
     };
 }
 
-/// A random call for a store whose next MFN is about `next`.
+/// A random call, or one in eight times a field by its index.
+pub fn call_or_field(random: &mut Random, taste: Taste, next: usize) -> Call {
+    if !random.one_in(8) {
+        return call(random, taste, next);
+    }
+    let (mfn, index) = (mfn(random, next), index(random));
+    if random.one_in(2) {
+        Call::Field { mfn, index }
+    } else {
+        Call::FieldSettled { mfn, index }
+    }
+}
+
+/// A random call of document 01 for a store whose next MFN is about `next`.
 pub fn call(random: &mut Random, taste: Taste, next: usize) -> Call {
     if random.one_in(taste.format_in) {
         return Call::Format;
@@ -87,6 +100,16 @@ pub fn occurrence(random: &mut Random) -> u32 {
         1 => 3,
         2..=4 => 2,
         _ => 1,
+    }
+}
+
+/// A directory index: mostly one of the first three.
+pub fn index(random: &mut Random) -> usize {
+    match random.below(16) {
+        0 => random.pick(&[usize::MAX, 1 << 63, 1 << 32, 0x1_0000, usize::MAX / 6 + 1]),
+        1 => random.below(40),
+        2 => random.next() as usize,
+        _ => random.below(3),
     }
 }
 

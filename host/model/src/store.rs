@@ -1,4 +1,4 @@
-//! The nine calls on the bytes. Each asks for the refusals in the order of their
+//! The calls on the bytes. Each asks for the refusals in the order of their
 //! numbers and writes only after the last of them.
 
 use crate::answer::Refusal;
@@ -89,16 +89,30 @@ pub fn format(mst: &mut [u8], xrf: &mut [u8]) -> Answer<()> {
     Ok(())
 }
 
-/// A field of the current version, as a part of the MST.
-pub fn view(mst: &[u8], xrf: &[u8], mfn: u32, tag: u16, occurrence: u32) -> Answer<Range<usize>> {
+/// The current version, for the calls that show it: answers up to 9.
+fn current(mst: &[u8], xrf: &[u8], mfn: u32) -> Answer<Record> {
     let found = find(mst, xrf, gate(mst, xrf)?, mfn)?;
     if found.place.deleted {
         return Err(Refusal::Deleted);
     }
-    found
-        .record
-        .find(mst, tag, occurrence)
-        .ok_or(Refusal::NoField)
+    Ok(found.record)
+}
+
+/// The settled version, for the calls that show it: answers up to 11.
+fn settled(mst: &[u8], xrf: &[u8], mfn: u32) -> Answer<Record> {
+    let found = find(mst, xrf, gate(mst, xrf)?, mfn)?;
+    match found.place.mark {
+        Mark::Changed => settled_version(mst, &found),
+        Mark::Settled if found.place.deleted => Err(Refusal::Deleted),
+        Mark::Settled => Ok(found.record),
+        Mark::New => Err(Refusal::New),
+    }
+}
+
+/// A field of the current version, as a part of the MST.
+pub fn view(mst: &[u8], xrf: &[u8], mfn: u32, tag: u16, occurrence: u32) -> Answer<Range<usize>> {
+    let shown = current(mst, xrf, mfn)?;
+    shown.find(mst, tag, occurrence).ok_or(Refusal::NoField)
 }
 
 /// A field of the settled version, as a part of the MST.
@@ -109,14 +123,23 @@ pub fn view_settled(
     tag: u16,
     occurrence: u32,
 ) -> Answer<Range<usize>> {
-    let found = find(mst, xrf, gate(mst, xrf)?, mfn)?;
-    let shown = match found.place.mark {
-        Mark::Changed => settled_version(mst, &found)?,
-        Mark::Settled if found.place.deleted => return Err(Refusal::Deleted),
-        Mark::Settled => found.record,
-        Mark::New => return Err(Refusal::New),
-    };
+    let shown = settled(mst, xrf, mfn)?;
     shown.find(mst, tag, occurrence).ok_or(Refusal::NoField)
+}
+
+/// A field by its place in the directory: its tag, and its part of the MST.
+pub type Indexed = (u16, Range<usize>);
+
+/// The field of the current version that stands at an index, from 0, in the directory.
+pub fn field(mst: &[u8], xrf: &[u8], mfn: u32, index: usize) -> Answer<Indexed> {
+    let shown = current(mst, xrf, mfn)?;
+    shown.fields(mst).nth(index).ok_or(Refusal::NoField)
+}
+
+/// The field of the settled version that stands at an index, from 0, in the directory.
+pub fn field_settled(mst: &[u8], xrf: &[u8], mfn: u32, index: usize) -> Answer<Indexed> {
+    let shown = settled(mst, xrf, mfn)?;
+    shown.fields(mst).nth(index).ok_or(Refusal::NoField)
 }
 
 /// Writes a new record at the end and returns its MFN.

@@ -1,6 +1,7 @@
 //! Demand 3 on random lists: from format on, the byte store and the ledger give the
 //! same answers, MFNs and fields; NXTMFN and the end are the ledger's; the store
-//! stays sound; and after the list every field of every MFN is shown in both views.
+//! stays sound; and after the list every field of every MFN is shown in both views,
+//! and by its index in both versions.
 
 use model::call::{Call, Outcome, on_bytes, on_ledger};
 use model::layout::Control;
@@ -19,7 +20,7 @@ fn run(seed: u64, blocks: (usize, usize), taste: Taste, calls: usize) -> BTreeSe
     on_bytes(&mut mst, &mut xrf, &Call::Format);
     let mut came = BTreeSet::new();
     for i in 0..calls {
-        let call = lists::call(&mut random, taste, ledger.next_mfn());
+        let call = lists::call_or_field(&mut random, taste, ledger.next_mfn());
         let (outcome, _) = on_bytes(&mut mst, &mut xrf, &call);
         let wanted: Outcome = on_ledger(&mut ledger, &call);
         assert_eq!(outcome, wanted, "seed {seed}, call {i}: {call:?}");
@@ -33,7 +34,8 @@ fn run(seed: u64, blocks: (usize, usize), taste: Taste, calls: usize) -> BTreeSe
     came
 }
 
-/// Both views of every MFN, for every tag and occurrence that its drafts could have.
+/// Both versions of every MFN: by every tag and occurrence that its drafts could have,
+/// and by index up to the first that the directory does not have.
 fn every_field_is_shown(seed: u64, mst: &mut [u8], xrf: &mut [u8], ledger: &mut Ledger) {
     for mfn in 1..ledger.next_mfn() as u32 {
         for tag in [1, 24, 70, 32_767] {
@@ -55,6 +57,15 @@ fn every_field_is_shown(seed: u64, mst: &mut [u8], xrf: &mut [u8], ledger: &mut 
                 }
             }
         }
+        for index in 0..10 {
+            for call in [
+                Call::Field { mfn, index },
+                Call::FieldSettled { mfn, index },
+            ] {
+                let (outcome, _) = on_bytes(mst, xrf, &call);
+                assert_eq!(outcome, on_ledger(ledger, &call), "seed {seed}: {call:?}");
+            }
+        }
     }
 }
 
@@ -69,11 +80,13 @@ fn kind(call: &Call) -> u8 {
         Call::Settle(_) => 6,
         Call::Revert(_) => 7,
         Call::Check => 8,
+        Call::Field { .. } => 9,
+        Call::FieldSettled { .. } => 10,
     }
 }
 
 /// Every answer that a list from format can give, by call, in the order of `kind`.
-const WANTED: [(u8, &[u32]); 9] = [
+const WANTED: [(u8, &[u32]); 11] = [
     (0, &[0]),
     (1, &[0, 4, 9, 12]),
     (2, &[0, 4, 9, 11, 12]),
@@ -83,6 +96,8 @@ const WANTED: [(u8, &[u32]); 9] = [
     (6, &[0, 4, 10]),
     (7, &[0, 4, 10, 11]),
     (8, &[0]),
+    (9, &[0, 4, 9, 12]),
+    (10, &[0, 4, 9, 11, 12]),
 ];
 
 #[test]

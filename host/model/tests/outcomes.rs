@@ -7,7 +7,8 @@ mod script;
 /// What the lines are made on: the model.
 mod subject {
     pub use model::store::{
-        Answer, check, create, delete, format, revert, settle, update, view, view_settled,
+        Answer, Indexed, check, create, delete, field, field_settled, format, revert, settle,
+        update, view, view_settled,
     };
 }
 
@@ -16,8 +17,9 @@ use std::collections::BTreeSet;
 /// The outcomes, line by line.
 const EXPECTED: &str = include_str!("../examples/outcomes/expected.txt");
 
-/// The calls and the answers that the paper's table gives to each.
-const ANSWERS: [(&str, &[u32]); 9] = [
+/// The calls and the answers that the paper's table gives to each; a field by its
+/// index is answered as a view.
+const ANSWERS: [(&str, &[u32]); 11] = [
     ("format", &[0, 1]),
     ("view", &[0, 1, 2, 4, 6, 7, 8, 9, 12]),
     ("settled view", &[0, 1, 2, 4, 6, 7, 8, 9, 11, 12]),
@@ -27,6 +29,8 @@ const ANSWERS: [(&str, &[u32]); 9] = [
     ("settle", &[0, 1, 2, 4, 6, 7, 8, 10]),
     ("revert", &[0, 1, 2, 4, 6, 7, 8, 10, 11]),
     ("check", &[0, 1, 2, 14]),
+    ("field", &[0, 1, 2, 4, 6, 7, 8, 9, 12]),
+    ("settled field", &[0, 1, 2, 4, 6, 7, 8, 9, 11, 12]),
 ];
 
 /// The answer of a line that tells of a call.

@@ -8,7 +8,7 @@ mod store;
 mod write;
 
 pub use check::check;
-pub use store::{delete, revert, settle, view, view_settled};
+pub use store::{delete, field, field_settled, revert, settle, view, view_settled};
 pub use write::{create, format, update};
 
 /// The 2-byte integer at `at`.
@@ -129,7 +129,7 @@ mod tests {
 
     /// The outcome of a call in plain safe Rust.
     fn run(mst: &mut [u8], xrf: &mut [u8], call: &Call) -> Outcome {
-        let (mut mfn, mut field) = (0, (0, 0, 0));
+        let (mut mfn, mut tag, mut part) = (0, 0, (0, 0));
         let number = match call {
             Call::Format => super::format(mst, xrf),
             Call::Check => super::check(mst, xrf),
@@ -142,25 +142,41 @@ mod tests {
                 mfn = created;
                 number
             }
+            _ => {
+                let (number, its, start, len) = shown(mst, xrf, call);
+                (tag, part) = (its, (start, len));
+                number
+            }
+        };
+        let field = mst[part.0..part.0 + part.1].to_vec();
+        Outcome {
+            number,
+            mfn,
+            tag,
+            field,
+        }
+    }
+
+    /// The answer, tag, start and length of the calls that show a field.
+    fn shown(mst: &[u8], xrf: &[u8], call: &Call) -> (u32, u16, usize, usize) {
+        let (number, start, len) = match *call {
             Call::View {
                 mfn,
                 tag,
                 occurrence,
-            } => {
-                field = super::view(mst, xrf, *mfn, *tag, *occurrence);
-                field.0
-            }
+            } => super::view(mst, xrf, mfn, tag, occurrence),
             Call::ViewSettled {
                 mfn,
                 tag,
                 occurrence,
-            } => {
-                field = super::view_settled(mst, xrf, *mfn, *tag, *occurrence);
-                field.0
+            } => super::view_settled(mst, xrf, mfn, tag, occurrence),
+            Call::Field { mfn, index } => return super::field(mst, xrf, mfn, index),
+            Call::FieldSettled { mfn, index } => {
+                return super::field_settled(mst, xrf, mfn, index);
             }
+            _ => unreachable!("only calls that show a field come here"),
         };
-        let field = mst[field.1..field.1 + field.2].to_vec();
-        Outcome { number, mfn, field }
+        (number, 0, start, len)
     }
 
     /// What is timed does the model's work: on lists from format, damaged now and then.
@@ -189,7 +205,7 @@ mod tests {
                     xrf[at % 40] ^= bit;
                     model_xrf[at % 40] ^= bit;
                 }
-                call = lists::call(&mut random, Taste::SHORT, 12);
+                call = lists::call_or_field(&mut random, Taste::SHORT, 12);
             }
         }
     }

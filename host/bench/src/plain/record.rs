@@ -1,4 +1,4 @@
-//! The record test and the field search.
+//! The record test, the field search and the field of an index.
 
 use super::{Place, i32_at, place_at, u16_at};
 
@@ -82,4 +82,12 @@ pub fn find(mst: &[u8], record: &Tested, tag: u16, occurrence: u32) -> Option<(u
         }
     }
     None
+}
+
+/// Tag, start and length of the field at an index of the directory.
+pub fn at_index(mst: &[u8], record: &Tested, index: usize) -> Option<(u16, usize, usize)> {
+    let base = record.at + record.base;
+    let item = mst[record.at + 18..base].as_chunks::<6>().0.get(index)?;
+    let start = base + usize::from(u16_at(item, 2));
+    Some((u16_at(item, 0), start, usize::from(u16_at(item, 4))))
 }

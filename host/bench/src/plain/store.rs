@@ -1,6 +1,6 @@
 //! The calls that name an MFN and take no draft.
 
-use super::record::{Tested, find, settled, test};
+use super::record::{Tested, at_index, find, settled, test};
 use super::{CHANGED, Control, Place, SETTLED};
 use super::{entry, entry_of, gate, i32_at, numbered, slot, step_over};
 
@@ -36,37 +36,67 @@ fn number(result: Result<(), u32>) -> u32 {
     result.err().unwrap_or(0)
 }
 
-/// A field of the current version: the answer, its start and its length.
-pub fn view(mst: &[u8], xrf: &[u8], mfn: u32, tag: u16, occurrence: u32) -> (u32, usize, usize) {
-    let shown = || {
-        let found = found(mst, xrf, gate(mst, xrf)?, mfn)?;
-        if found.place.deleted {
-            return Err(9);
-        }
-        find(mst, &found.record, tag, occurrence).ok_or(12)
-    };
-    shown().map_or_else(|refusal| (refusal, 0, 0), |(start, len)| (0, start, len))
+/// The current version, up to answer 9.
+#[inline(always)]
+fn current(mst: &[u8], xrf: &[u8], mfn: u32) -> Result<Tested, u32> {
+    let found = found(mst, xrf, gate(mst, xrf)?, mfn)?;
+    if found.place.deleted {
+        return Err(9);
+    }
+    Ok(found.record)
+}
+
+/// The settled version, up to answer 11.
+#[inline(always)]
+fn kept(mst: &[u8], xrf: &[u8], mfn: u32) -> Result<Tested, u32> {
+    let found = found(mst, xrf, gate(mst, xrf)?, mfn)?;
+    match found.place.mark {
+        CHANGED => settled(mst, found.control.end, found.mfn, &found.record).ok_or(8),
+        SETTLED if found.place.deleted => Err(9),
+        SETTLED => Ok(found.record),
+        _ => Err(11),
+    }
+}
+
+/// The answer, the start and the length of a field that is shown.
+type Shown = (u32, usize, usize);
+
+fn shown(field: Result<(usize, usize), u32>) -> Shown {
+    field.map_or_else(|refusal| (refusal, 0, 0), |(start, len)| (0, start, len))
+}
+
+/// A field of the current version.
+pub fn view(mst: &[u8], xrf: &[u8], mfn: u32, tag: u16, occurrence: u32) -> Shown {
+    let find = |record| find(mst, &record, tag, occurrence).ok_or(12);
+    shown(current(mst, xrf, mfn).and_then(find))
 }
 
 /// A field of the settled version.
-pub fn view_settled(
-    mst: &[u8],
-    xrf: &[u8],
-    mfn: u32,
-    tag: u16,
-    occurrence: u32,
-) -> (u32, usize, usize) {
-    let shown = || {
-        let found = found(mst, xrf, gate(mst, xrf)?, mfn)?;
-        let record = match found.place.mark {
-            CHANGED => settled(mst, found.control.end, found.mfn, &found.record).ok_or(8u32)?,
-            SETTLED if found.place.deleted => return Err(9),
-            SETTLED => found.record,
-            _ => return Err(11),
-        };
-        find(mst, &record, tag, occurrence).ok_or(12)
-    };
-    shown().map_or_else(|refusal| (refusal, 0, 0), |(start, len)| (0, start, len))
+pub fn view_settled(mst: &[u8], xrf: &[u8], mfn: u32, tag: u16, occurrence: u32) -> Shown {
+    let find = |record| find(mst, &record, tag, occurrence).ok_or(12);
+    shown(kept(mst, xrf, mfn).and_then(find))
+}
+
+/// The answer, the tag, the start and the length of a field by its index.
+type Indexed = (u32, u16, usize, usize);
+
+fn indexed(field: Result<(u16, usize, usize), u32>) -> Indexed {
+    field.map_or_else(
+        |refusal| (refusal, 0, 0, 0),
+        |(tag, start, len)| (0, tag, start, len),
+    )
+}
+
+/// A field of the current version by its index.
+pub fn field(mst: &[u8], xrf: &[u8], mfn: u32, index: usize) -> Indexed {
+    let at = |record| at_index(mst, &record, index).ok_or(12);
+    indexed(current(mst, xrf, mfn).and_then(at))
+}
+
+/// A field of the settled version by its index.
+pub fn field_settled(mst: &[u8], xrf: &[u8], mfn: u32, index: usize) -> Indexed {
+    let at = |record| at_index(mst, &record, index).ok_or(12);
+    indexed(kept(mst, xrf, mfn).and_then(at))
 }
 
 /// Deletes a record.

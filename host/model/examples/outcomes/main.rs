@@ -6,7 +6,8 @@ mod script;
 /// What the lines are made on: the model.
 mod subject {
     pub use model::store::{
-        Answer, check, create, delete, format, revert, settle, update, view, view_settled,
+        Answer, Indexed, check, create, delete, field, field_settled, format, revert, settle,
+        update, view, view_settled,
     };
 }
 

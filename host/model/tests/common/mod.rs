@@ -77,6 +77,15 @@ impl Card {
         store::view_settled(&self.mst, &self.xrf, mfn, tag, occurrence).map(|part| &self.mst[part])
     }
 
+    pub fn field(&self, mfn: u32, index: usize) -> Result<(u16, &[u8]), Refusal> {
+        store::field(&self.mst, &self.xrf, mfn, index).map(|(tag, part)| (tag, &self.mst[part]))
+    }
+
+    pub fn field_settled(&self, mfn: u32, index: usize) -> Result<(u16, &[u8]), Refusal> {
+        let found = store::field_settled(&self.mst, &self.xrf, mfn, index);
+        found.map(|(tag, part)| (tag, &self.mst[part]))
+    }
+
     pub fn create(&mut self, fields: &[(u16, &[u8])]) -> Result<u32, Refusal> {
         let draft = model::OwnedDraft::of(fields);
         self.kept_if_refused(|card| store::create(&mut card.mst, &mut card.xrf, &draft.lent()))

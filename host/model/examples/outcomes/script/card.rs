@@ -210,19 +210,38 @@ impl Card {
         self.settled_view_of(what, mfn, 24, 1);
     }
 
-    /// The six calls that name an MFN.
-    pub fn six(&mut self, what: &str, mfn: u32) {
+    pub fn field(&mut self, what: &str, mfn: u32, index: usize) {
+        let result = store::field(&self.mst, &self.xrf, mfn, index);
+        self.indexed(what, "field", result);
+    }
+
+    pub fn settled_field(&mut self, what: &str, mfn: u32, index: usize) {
+        let result = store::field_settled(&self.mst, &self.xrf, mfn, index);
+        self.indexed(what, "settled field", result);
+    }
+
+    fn indexed(&mut self, what: &str, call: &str, result: store::Answer<store::Indexed>) {
+        let answer = number(&result);
+        let (tag, part) = result.unwrap_or((0, 0..0));
+        let field = String::from_utf8_lossy(&self.mst[part]);
+        writeln!(self.lines, "{what}: {call} {answer} tag {tag} \"{field}\"").unwrap();
+    }
+
+    /// The calls that name an MFN.
+    pub fn naming(&mut self, what: &str, mfn: u32) {
         self.view(what, mfn);
         self.settled_view(what, mfn);
+        self.field(what, mfn, 0);
+        self.settled_field(what, mfn, 0);
         self.update(what, mfn, b"Kites");
         self.delete(what, mfn);
         self.settle(what, mfn);
         self.revert(what, mfn);
     }
 
-    /// The six calls on MFN 1, create and check.
-    pub fn eight(&mut self, what: &str) {
-        self.six(what, 1);
+    /// The calls that name an MFN, on MFN 1; create and check.
+    pub fn all_on_one(&mut self, what: &str) {
+        self.naming(what, 1);
         self.create(what, b"Kites");
         self.check(what);
     }

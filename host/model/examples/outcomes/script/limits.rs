@@ -33,6 +33,9 @@ fn fields(card: &mut Card) {
     for tag in [1, 32_767, 25, 65_535] {
         card.view_of(&format!("tag {tag}"), 1, tag, 1);
     }
+    for index in [0, 1, 2, 3, 4, 5, usize::MAX] {
+        card.field(&format!("index {index}"), 1, index);
+    }
 }
 
 /// 12: the settled version of MFN 1, and MFN 2 of no fields.
@@ -44,8 +47,14 @@ fn settled_fields(card: &mut Card) {
     card.settled_view_of("tag 25", 1, 25, 1);
     card.view_of("one field, occurrence 1", 1, 24, 1);
     card.view_of("one field, occurrence 2", 1, 24, 2);
+    for index in [0, 1, 2, 3, 4, 5, usize::MAX] {
+        let what = format!("one field over five, index {index}");
+        card.field(&what, 1, index);
+        card.settled_field(&what, 1, index);
+    }
     card.create_of("no fields", &OwnedDraft::default().lent());
     card.view("no fields", 2);
+    card.field("no fields", 2, 0);
     card.check("no fields");
 }
 

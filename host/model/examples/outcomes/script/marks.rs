@@ -13,6 +13,8 @@ pub fn run(card: &mut Card) {
 fn new(card: &mut Card) {
     card.new_record().view("new", 1);
     card.settled_view("new", 1);
+    card.field("new", 1, 0);
+    card.settled_field("new", 1, 0);
     card.revert("new", 1);
     card.update("new, in place", 1, b"Wind");
     card.state("new, in place", 64..92);
@@ -27,12 +29,14 @@ fn new_deleted(card: &mut Card) {
     card.state("new, deleted", 64..92);
     card.view("new, deleted", 1);
     card.settled_view("new, deleted", 1);
+    card.field("new, deleted", 1, 0);
+    card.settled_field("new, deleted", 1, 0);
     card.update("new, deleted", 1, b"Kit");
     card.delete("new, deleted", 1);
     card.revert("new, deleted", 1);
     card.settle("new, deleted", 1);
     card.state("settled, deleted", 64..92);
-    card.six("settled, deleted", 1);
+    card.naming("settled, deleted", 1);
     card.check("settled, deleted");
 }
 
@@ -44,6 +48,8 @@ fn settled(card: &mut Card) {
     card.delete("settled", 1);
     card.state("settled, then deleted", 92..120);
     card.settled_view("settled, then deleted", 1);
+    card.field("settled, then deleted", 1, 0);
+    card.settled_field("settled, then deleted", 1, 0);
     card.settle("settled, then deleted", 1);
     card.state("settled, then deleted", 92..120);
     card.check("settled, then deleted");
@@ -57,6 +63,8 @@ fn changed(card: &mut Card) {
     card.state("changed, at the end", 122..162);
     card.view("changed, at the end", 1);
     card.settled_view("changed, at the end", 1);
+    card.field("changed, at the end", 1, 0);
+    card.settled_field("changed, at the end", 1, 0);
     card.settle("changed, at the end", 1);
     card.state("changed, settled", 122..162);
     card.check("changed, settled");

@@ -47,10 +47,10 @@ fn back_pointer(card: &mut Card) {
     }
 }
 
-/// All six calls.
+/// All calls that name an MFN.
 fn broken(card: &mut Card) {
     card.changed_record().set_mst(92 + 16, 1);
-    card.six("STATUS 1 under a live entry", 1);
+    card.naming("STATUS 1 under a live entry", 1);
     card.check("STATUS 1 under a live entry");
 }
 
@@ -65,6 +65,8 @@ fn settled_version(card: &mut Card) {
         card.changed_record().set_mst(64 + at, value);
         card.view(what, 1);
         card.settled_view(what, 1);
+        card.field(what, 1, 0);
+        card.settled_field(what, 1, 0);
         card.revert(what, 1);
         card.check(what);
     }

@@ -18,11 +18,11 @@ pub fn lengths(card: &mut Card) {
     card.settled_record();
     std::mem::swap(&mut card.mst, &mut odd);
     card.format("MST of 511 bytes");
-    card.eight("MST of 511 bytes");
+    card.all_on_one("MST of 511 bytes");
     std::mem::swap(&mut card.mst, &mut odd);
     std::mem::swap(&mut card.xrf, &mut odd);
     card.format("XRF of 511 bytes");
-    card.eight("XRF of 511 bytes");
+    card.all_on_one("XRF of 511 bytes");
     std::mem::swap(&mut card.xrf, &mut odd);
 }
 
@@ -43,7 +43,7 @@ fn control(card: &mut Card) {
     card.new_record().set_mst(12, low).set_mst(13, high);
     card.check("NXTMFP 500");
     card.new_record().set_mst(14, 1);
-    card.eight("MFTYPE 1");
+    card.all_on_one("MFTYPE 1");
     card.format("MFTYPE 1");
 }
 
@@ -72,7 +72,7 @@ fn draft(card: &mut Card, what: &str, tags: &[u16], lens: &[u16], data: &[u8]) {
 fn mfns(card: &mut Card) {
     card.new_record();
     for mfn in [0, 2, 0x8000_0001] {
-        card.six(&format!("MFN {mfn}"), mfn);
+        card.naming(&format!("MFN {mfn}"), mfn);
     }
 }
 
@@ -83,14 +83,14 @@ fn entries(card: &mut Card) {
         card.view(&format!("entry {entry}"), 1);
     }
     card.changed_record().set_entry(3676);
-    card.six("entry 3676", 1);
+    card.naming("entry 3676", 1);
     card.check("entry 3676");
 }
 
 /// 6: the first integer, and create's slot.
 fn cross_reference(card: &mut Card) {
     card.changed_record().set_xrf(0, 1);
-    card.eight("first integer -255");
+    card.all_on_one("first integer -255");
     card.settled_record().set_xrf(8, 1);
     card.create("slot of MFN 2 not 0", b"Kites");
     card.check("slot of MFN 2 not 0");
@@ -99,6 +99,6 @@ fn cross_reference(card: &mut Card) {
 /// 7: physically deleted.
 fn gone(card: &mut Card) {
     card.settled_record().set_entry(-2048);
-    card.six("entry -2048", 1);
+    card.naming("entry -2048", 1);
     card.check("entry -2048");
 }

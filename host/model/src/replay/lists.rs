@@ -1,0 +1,254 @@
+//! The lists that `replay_run` is given: the worked run of document 01, two long ones,
+//! the ends that rows P9 to P12 name, and short ones for every stop.
+
+use super::{CALL, List, catalogue};
+use crate::call::{Call, OwnedDraft, on_ledger};
+use crate::layout::BLOCK;
+use crate::ledger::Ledger;
+use crate::lists::{self, Taste};
+use crate::random::Random;
+
+/// All lists, in the order of the text.
+pub fn all() -> Vec<List> {
+    let mut all = vec![worked_run(), catalogue(), random(1988)];
+    all.extend(ends());
+    all.extend(stops());
+    all.extend(malformed());
+    all.extend(rooms());
+    all.extend(bad_lengths());
+    all
+}
+
+/// The draft of one field of tag 24.
+fn title(text: &str) -> OwnedDraft {
+    OwnedDraft::of(&[(24, text.as_bytes())])
+}
+
+fn view(mfn: u32, tag: u16, occurrence: u32) -> Call {
+    Call::View {
+        mfn,
+        tag,
+        occurrence,
+    }
+}
+
+fn view_settled(mfn: u32, tag: u16, occurrence: u32) -> Call {
+    Call::ViewSettled {
+        mfn,
+        tag,
+        occurrence,
+    }
+}
+
+/// A list on a store of one block and one block.
+fn small(title: &'static str, calls: &[Call]) -> List {
+    List::of(title, (BLOCK, BLOCK), calls).room(30, 30)
+}
+
+/// "One run, one-block XRF", with both views in between.
+pub fn worked_run() -> List {
+    let calls = [
+        Call::Create(title("Kite")),
+        Call::Update(1, title("Kit")),
+        Call::Settle(1),
+        Call::Update(1, title("Kites")),
+        view(1, 24, 1),
+        view_settled(1, 24, 1),
+        Call::Revert(1),
+        view(1, 24, 1),
+        Call::Check,
+    ];
+    small("the worked run", &calls)
+}
+
+/// The long list that goes through a whole catalogue.
+pub fn catalogue() -> List {
+    let lengths = (20 * BLOCK, BLOCK);
+    List::of("a whole catalogue", lengths, &catalogue::calls()).exact_room()
+}
+
+/// A long list of the model's generator. The fields are made of letters, so that they
+/// can be printed, and drafts that are too long for the program are left out.
+fn random(seed: u64) -> List {
+    let lengths = (6 * BLOCK, BLOCK);
+    let taste = Taste {
+        format_in: 250,
+        ..Taste::SHORT
+    };
+    let mut random = Random::new(seed);
+    let mut ledger = Ledger::new(lengths.0, lengths.1).expect("whole blocks");
+    let mut calls = Vec::new();
+    while calls.len() < 500 {
+        let mut call = lists::call(&mut random, taste, ledger.next_mfn());
+        if let Call::Create(draft) | Call::Update(_, draft) = &mut call {
+            if draft.tags.len().max(draft.lens.len()).max(draft.data.len()) > 100 {
+                continue;
+            }
+            let letter = |byte: &mut u8| *byte = b'a' + *byte % 26;
+            draft.data.iter_mut().for_each(letter);
+        }
+        on_ledger(&mut ledger, &call);
+        calls.push(call);
+    }
+    List::of("a random list", lengths, &calls).exact_room()
+}
+
+/// Ends at offset 498, moved on from 500, and at the length of the MST; MFNs 127 and 128.
+fn ends() -> Vec<List> {
+    let long = |need: usize| Call::Create(title(&"k".repeat(need - 24)));
+    let empty = || Call::Create(OwnedDraft::default());
+    let mut two_blocks: Vec<Call> = (0..129).map(|_| empty()).collect();
+    for mfn in [127, 128, 129] {
+        two_blocks.extend([
+            Call::Settle(mfn),
+            Call::Update(mfn, title("Kite")),
+            view(mfn, 24, 1),
+            view_settled(mfn, 24, 1),
+            Call::Revert(mfn),
+        ]);
+    }
+    two_blocks.push(Call::Check);
+    vec![
+        small("an end at the last offset", &[long(434), Call::Check]),
+        small("an end moved on to the next block", &[long(436), empty()]),
+        small(
+            "an end at the last byte",
+            &[long(448), empty(), Call::Check],
+        ),
+        List::of(
+            "one offset too long",
+            (2 * BLOCK, BLOCK),
+            &[long(436), long(514)],
+        )
+        .room(6, 0),
+        List::of(
+            "two blocks, one record each",
+            (2 * BLOCK, BLOCK),
+            &[long(436), long(512)],
+        )
+        .room(6, 0),
+        List::of("two blocks of entries", (8 * BLOCK, 2 * BLOCK), &two_blocks).exact_room(),
+    ]
+}
+
+/// Ends of short lists, and what comes with a draft that is refused.
+fn stops() -> Vec<List> {
+    let bad = OwnedDraft {
+        tags: vec![24, 70],
+        lens: vec![3],
+        data: b"Bad".to_vec(),
+    };
+    let taken = [
+        Call::Create(bad.clone()),
+        Call::Create(title("Kite")),
+        Call::Update(1, bad),
+        Call::Update(7, title("Seven")),
+        view(1, 24, 1),
+        Call::Update(1, title("Kit")),
+        view(1, 24, 1),
+    ];
+    let again = [
+        Call::Create(title("Kite")),
+        Call::Format,
+        view(1, 24, 1),
+        Call::Create(title("Kit")),
+        view(1, 24, 1),
+    ];
+    vec![
+        small("an empty list", &[]).room(0, 0),
+        small("a refused draft is taken all the same", &taken),
+        small("format again", &again),
+        small("drafts left over", &taken[1..]).without_calls(5),
+        small(
+            "the highest tag of a view",
+            &[view(1, 65535, 1), view_settled(1, 65535, 1)],
+        ),
+    ]
+}
+
+impl List {
+    /// The same list without its last calls; their drafts stay.
+    fn without_calls(mut self, calls: usize) -> List {
+        self.numbers.truncate(self.numbers.len() - CALL * calls);
+        self
+    }
+
+    /// The same list with other numbers from some number on.
+    fn with_numbers(mut self, at: usize, numbers: &[u32]) -> List {
+        self.numbers.truncate(at);
+        self.numbers.extend(numbers);
+        self
+    }
+}
+
+/// What is no call, first and after a call.
+fn malformed() -> Vec<List> {
+    let one = |title_of_list, numbers: &[u32]| {
+        small(title_of_list, &[Call::Create(title("Kite"))]).with_numbers(CALL, numbers)
+    };
+    let mut spare = one("one byte too many asked for", &[3, 0, 1, 1, 5]);
+    spare.tags.push(24);
+    spare.lens.push(4);
+    spare.bytes.extend(b"Kite");
+    vec![
+        small("one number alone", &[]).with_numbers(0, &[8]),
+        one("four numbers left", &[8, 0, 0, 0]),
+        one("a call of no name", &[9, 0, 0, 0, 0]),
+        one("a call of no name, far off", &[u32::MAX, 1, 24, 1, 0]),
+        one("view of a tag too large", &[1, 1, 65536, 1, 0]),
+        one("settled view of a tag too large", &[2, 1, 65536 + 24, 1, 0]),
+        one("create with a tag too many", &[3, 0, 1, 0, 0]),
+        one("create with a length too many", &[3, 0, 0, 1, 0]),
+        one("create with a byte too many", &[3, 0, 0, 0, 1]),
+        one("update with a tag too many", &[4, 1, 1, 0, 0]),
+        one("update with a length too many", &[4, 1, 0, 1, 0]),
+        one("update with a byte too many", &[4, 1, 0, 0, 1]),
+        one(
+            "create with far too many of all",
+            &[3, 0, u32::MAX, u32::MAX, u32::MAX],
+        ),
+        spare,
+    ]
+}
+
+/// Rooms that are too small, and just large enough.
+fn rooms() -> Vec<List> {
+    let calls = [
+        Call::Create(title("Kite")),
+        view(1, 24, 1),
+        view(1, 70, 1),
+        Call::Create(title("Kites")),
+        view(2, 24, 1),
+        Call::Create(title("")),
+        view(3, 24, 1),
+    ];
+    let list = |title_of_list, answers, shown| small(title_of_list, &calls).room(answers, shown);
+    vec![
+        list("no number of room", 0, 9),
+        list("room for two numbers", 2, 9),
+        list("room for one call", 3, 9),
+        list("room for one call and two numbers", 5, 9),
+        list("room for three calls, the next a create", 9, 9),
+        list("room for all calls but the last", 20, 9),
+        list("room for all calls", 21, 9),
+        list("no byte of room", 21, 0),
+        list("a byte short at the first view", 21, 3),
+        list("enough for the first view only", 21, 4),
+        list("a byte short at the second view", 21, 8),
+    ]
+}
+
+/// Lengths that are not permitted, with a call that is then not run.
+fn bad_lengths() -> Vec<List> {
+    let calls = [Call::Create(title("Kite"))];
+    let list = |title_of_list, lengths| List::of(title_of_list, lengths, &calls).room(3, 0);
+    vec![
+        list("MST empty", (0, BLOCK)),
+        list("MST a byte short", (BLOCK - 1, BLOCK)),
+        list("MST a byte long", (BLOCK + 1, BLOCK)),
+        list("XRF empty", (BLOCK, 0)),
+        list("XRF a byte short", (BLOCK, BLOCK - 1)),
+        list("XRF a byte long", (BLOCK, BLOCK + 1)),
+        list("the smallest lengths", (BLOCK, BLOCK)),
+    ]
+}
