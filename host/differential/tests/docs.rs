@@ -1,0 +1,158 @@
+//! What docs/TRACE.md and docs/PROMISES.md name is there: definitions, laws, functions,
+//! tests and must-fail edits. A trace that points nowhere would be worse than none.
+
+use std::collections::BTreeSet;
+use std::fs;
+use std::path::{Path, PathBuf};
+
+/// The repository's folder.
+fn root() -> PathBuf {
+    Path::new(env!("CARGO_MANIFEST_DIR")).join("../..")
+}
+
+fn text(path: &Path) -> Option<String> {
+    fs::read_to_string(root().join(path)).ok()
+}
+
+/// The words between backticks of a page.
+fn words(page: &str) -> BTreeSet<String> {
+    let text = text(Path::new(page)).unwrap_or_else(|| panic!("{page} is not there"));
+    let mut words = BTreeSet::new();
+    for line in text.lines() {
+        words.extend(line.split('`').skip(1).step_by(2).map(str::to_owned));
+    }
+    words
+}
+
+/// Whether a line of a specs or proofs file declares a name: `pub name : …`,
+/// `pub record Name …`, `unfoldable pub name : …` and the like.
+fn declares(line: &str, name: &str) -> bool {
+    let mut words = line
+        .split([' ', '(', '{'])
+        .filter(|word| !word.is_empty())
+        .skip_while(|word| {
+            matches!(
+                *word,
+                "unfoldable" | "abbrev" | "pub" | "record" | "data" | "ruleset"
+            )
+        });
+    words.next() == Some(name) && words.next().is_some()
+}
+
+/// Whether a line of a source file begins a function or a type of a name.
+fn begins(line: &str, name: &str) -> bool {
+    ["fn ", "struct ", "enum "].iter().any(|kind| {
+        line.split_once(kind).is_some_and(|(before, after)| {
+            before
+                .split_whitespace()
+                .all(|word| matches!(word, "pub" | "extern" | "\"C\""))
+                && after
+                    .split(|c: char| !(c.is_alphanumeric() || c == '_'))
+                    .next()
+                    == Some(name)
+        })
+    })
+}
+
+/// Why a name points nowhere, if it does. A word that is no name of this kind is left alone.
+fn missing(word: &str) -> Option<String> {
+    let has = |file: String, found: &dyn Fn(&str) -> bool| match text(Path::new(&file)) {
+        None => Some(format!("{word}: there is no {file}")),
+        Some(text) if text.lines().any(found) => None,
+        Some(_) => Some(format!("{word}: it is not in {file}")),
+    };
+    let parts: Vec<&str> = word.split('/').collect();
+    match parts[..] {
+        [krate, kind @ ("specs" | "proofs"), name] => match name.split_once('.') {
+            None => has(format!("crates/{krate}/{kind}/{name}.antt"), &|_| true),
+            Some((file, law)) => has(format!("crates/{krate}/{kind}/{file}.antt"), &|line| {
+                declares(line, law)
+            }),
+        },
+        [krate, "must-fail", edit] => {
+            has(format!("crates/{krate}/must-fail/{edit}.edit"), &|_| true)
+        }
+        [krate, "tests", name] => match name.split_once("::") {
+            None => has(format!("host/{krate}/tests/{name}.rs"), &|_| true),
+            Some((file, test)) => has(format!("host/{krate}/tests/{file}.rs"), &|line| {
+                begins(line, test)
+            }),
+        },
+        [_, _, ..] if !word.contains(['…', ' ']) => (!root().join(word).exists())
+            .then(|| format!("{word}: there is no such file or folder")),
+        [one] => match one.split("::").collect::<Vec<_>>()[..] {
+            [krate, module, name] => has(format!("crates/{krate}/src/{module}.rt"), &|line| {
+                begins(line, name)
+            }),
+            _ => None,
+        },
+        _ => None,
+    }
+}
+
+fn all_are_there(page: &str, at_least: usize) {
+    let words = words(page);
+    let names = words.iter().filter(|word| word.contains(['/', ':']));
+    assert!(names.count() >= at_least, "{page} names too little");
+    let missing: Vec<String> = words.iter().filter_map(|word| missing(word)).collect();
+    assert!(missing.is_empty(), "{page}:\n{}", missing.join("\n"));
+}
+
+#[test]
+fn every_name_of_the_trace_is_there() {
+    all_are_there("docs/TRACE.md", 200);
+}
+
+#[test]
+fn every_name_of_the_promises_is_there() {
+    all_are_there("docs/PROMISES.md", 40);
+}
+
+#[test]
+fn every_must_fail_edit_is_named_with_a_promise() {
+    let named = words("docs/PROMISES.md");
+    let mut edits = 0;
+    for krate in fs::read_dir(root().join("crates")).unwrap() {
+        let krate = krate.unwrap();
+        let Ok(folder) = fs::read_dir(krate.path().join("must-fail")) else {
+            continue;
+        };
+        for edit in folder {
+            let edit = edit.unwrap().path();
+            let name = format!(
+                "{}/must-fail/{}",
+                krate.file_name().to_str().unwrap(),
+                edit.file_stem().unwrap().to_str().unwrap()
+            );
+            assert!(named.contains(&name), "{name} is not in docs/PROMISES.md");
+            edits += 1;
+        }
+    }
+    assert!(edits > 20, "only {edits} edits");
+}
+
+#[test]
+fn names_that_point_nowhere_are_found() {
+    for wrong in [
+        "store/specs/Calls.noSuchDefinition",
+        "store/specs/NoSuchFile",
+        "ledger/proofs/Theorem.no-such-law",
+        "store/must-fail/no_such_edit",
+        "model/tests/answers::no_such_test",
+        "store::views::no_such_function",
+        "docs/NO-SUCH-PAGE.md",
+    ] {
+        assert!(missing(wrong).is_some(), "{wrong} was found");
+    }
+    for right in [
+        "store/specs/Calls.viewOf",
+        "layout/specs/Entry.wellPlaced",
+        "ledger/specs/Ledger.Item",
+        "ledger/proofs/Theorem.demand-3",
+        "store::views::view",
+        "layout::sizes::Mfn",
+        "differential/tests/docs::names_that_point_nowhere_are_found",
+    ] {
+        assert_eq!(missing(right), None);
+    }
+}
