@@ -3,6 +3,8 @@
 //! stays sound; and after the list every field of every MFN is shown in both views,
 //! and by its index in both versions.
 
+mod common;
+
 use model::call::{Call, Outcome, on_bytes, on_ledger};
 use model::layout::Control;
 use model::lists::{self, Taste};
@@ -11,7 +13,7 @@ use model::{Ledger, sound};
 use std::collections::BTreeSet;
 
 /// One list on a store of so many blocks; gives the (call, answer) pairs that came.
-fn run(seed: u64, blocks: (usize, usize), taste: Taste, calls: usize) -> BTreeSet<(u8, u32)> {
+fn run(seed: u64, blocks: (usize, usize), taste: Taste, calls: usize) -> BTreeSet<(u32, u32)> {
     let mut random = Random::new(seed);
     let (mut mst, mut xrf) = (vec![0; blocks.0 * 512], vec![0; blocks.1 * 512]);
     random.fill(&mut mst);
@@ -69,7 +71,7 @@ fn every_field_is_shown(seed: u64, mst: &mut [u8], xrf: &mut [u8], ledger: &mut 
     }
 }
 
-fn kind(call: &Call) -> u8 {
+fn kind(call: &Call) -> u32 {
     match call {
         Call::Format => 0,
         Call::View { .. } => 1,
@@ -85,21 +87,6 @@ fn kind(call: &Call) -> u8 {
     }
 }
 
-/// Every answer that a list from format can give, by call, in the order of `kind`.
-const WANTED: [(u8, &[u32]); 11] = [
-    (0, &[0]),
-    (1, &[0, 4, 9, 12]),
-    (2, &[0, 4, 9, 11, 12]),
-    (3, &[0, 3, 5, 13]),
-    (4, &[0, 3, 4, 9, 13]),
-    (5, &[0, 4, 9, 13]),
-    (6, &[0, 4, 10]),
-    (7, &[0, 4, 10, 11]),
-    (8, &[0]),
-    (9, &[0, 4, 9, 12]),
-    (10, &[0, 4, 9, 11, 12]),
-];
-
 #[test]
 fn random_lists_agree_and_every_answer_comes() {
     let mut came = BTreeSet::new();
@@ -109,11 +96,7 @@ fn random_lists_agree_and_every_answer_comes() {
         came.extend(run(seed + 2000, (40, 2), Taste::LONG, 200));
     }
     came.extend(run(3000, (400, 1), Taste::SHORT, 2_500));
-    let wanted: BTreeSet<(u8, u32)> = WANTED
-        .iter()
-        .flat_map(|(kind, numbers)| numbers.iter().map(|number| (*kind, *number)))
-        .collect();
-    assert_eq!(came, wanted);
+    assert_eq!(came, common::from_format(11));
 }
 
 #[test]

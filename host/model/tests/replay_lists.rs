@@ -3,6 +3,8 @@
 //! the same lists; they fit into the program's buffers; they reach every answer and
 //! every stop; and the byte store says the same as the ledger.
 
+mod common;
+
 use model::call::{Call, Outcome, on_bytes, on_ledger};
 use model::draft::need;
 use model::layout::Control;
@@ -102,19 +104,6 @@ fn the_worked_run_is_the_papers() {
     assert!(file("stdout").starts_with(wanted));
 }
 
-/// The number of a call in a list, and the answers that it can give from format on.
-const ANSWERS: [(u32, &[u32]); 9] = [
-    (0, &[0]),
-    (1, &[0, 4, 9, 12]),
-    (2, &[0, 4, 9, 11, 12]),
-    (3, &[0, 3, 5, 13]),
-    (4, &[0, 3, 4, 9, 13]),
-    (5, &[0, 4, 9, 13]),
-    (6, &[0, 4, 10]),
-    (7, &[0, 4, 10, 11]),
-    (8, &[0]),
-];
-
 /// The calls of a list that were run, as numbers, each with its answer.
 fn answers(list: &List) -> BTreeSet<(u32, u32)> {
     let calls = list.numbers.iter().step_by(5).copied();
@@ -126,10 +115,7 @@ fn answers(list: &List) -> BTreeSet<(u32, u32)> {
 
 #[test]
 fn the_long_list_reaches_every_answer_of_every_call() {
-    let wanted: BTreeSet<(u32, u32)> = ANSWERS
-        .iter()
-        .flat_map(|(call, answers)| answers.iter().map(move |answer| (*call, *answer)))
-        .collect();
+    let wanted = common::from_format(9);
     assert_eq!(answers(&lists::catalogue()), wanted);
     let all: BTreeSet<(u32, u32)> = lists::all().iter().flat_map(answers).collect();
     assert_eq!(all, wanted);

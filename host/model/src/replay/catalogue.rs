@@ -3,6 +3,7 @@
 //! of both versions, reverts after other records changed, every refusal, the MST full,
 //! and then a second catalogue over the first.
 
+use super::lists::{view, view_settled};
 use crate::call::{Call, OwnedDraft};
 
 /// MFNs that are given out before the changes begin.
@@ -51,22 +52,6 @@ fn draft(mfn: u32, turn: u32) -> OwnedDraft {
 /// One field of so many letters.
 fn long(letters: usize) -> OwnedDraft {
     OwnedDraft::of(&[(24, &vec![b'z'; letters])])
-}
-
-fn view(mfn: u32, tag: u16, occurrence: u32) -> Call {
-    Call::View {
-        mfn,
-        tag,
-        occurrence,
-    }
-}
-
-fn view_settled(mfn: u32, tag: u16, occurrence: u32) -> Call {
-    Call::ViewSettled {
-        mfn,
-        tag,
-        occurrence,
-    }
 }
 
 /// The first hundred records, new; every fifth is looked at.

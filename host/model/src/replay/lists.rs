@@ -24,7 +24,7 @@ fn title(text: &str) -> OwnedDraft {
     OwnedDraft::of(&[(24, text.as_bytes())])
 }
 
-fn view(mfn: u32, tag: u16, occurrence: u32) -> Call {
+pub(super) fn view(mfn: u32, tag: u16, occurrence: u32) -> Call {
     Call::View {
         mfn,
         tag,
@@ -32,7 +32,7 @@ fn view(mfn: u32, tag: u16, occurrence: u32) -> Call {
     }
 }
 
-fn view_settled(mfn: u32, tag: u16, occurrence: u32) -> Call {
+pub(super) fn view_settled(mfn: u32, tag: u16, occurrence: u32) -> Call {
     Call::ViewSettled {
         mfn,
         tag,

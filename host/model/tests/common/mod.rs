@@ -1,7 +1,33 @@
-//! A card for tests, with its integers reachable by their byte numbers in the paper.
+//! A card for tests, with its integers reachable by their byte numbers in the paper; and
+//! the answers that each call can give from format on.
 #![allow(dead_code)]
 
 use model::{Draft, Refusal, store};
+use std::collections::BTreeSet;
+
+/// Every answer that a list from format can give, by the call's number in a list; then
+/// the two fields by index.
+pub const FROM_FORMAT: [(u32, &[u32]); 11] = [
+    (0, &[0]),
+    (1, &[0, 4, 9, 12]),
+    (2, &[0, 4, 9, 11, 12]),
+    (3, &[0, 3, 5, 13]),
+    (4, &[0, 3, 4, 9, 13]),
+    (5, &[0, 4, 9, 13]),
+    (6, &[0, 4, 10]),
+    (7, &[0, 4, 10, 11]),
+    (8, &[0]),
+    (9, &[0, 4, 9, 12]),
+    (10, &[0, 4, 9, 11, 12]),
+];
+
+/// The first `calls` rows of it as pairs.
+pub fn from_format(calls: usize) -> BTreeSet<(u32, u32)> {
+    FROM_FORMAT[..calls]
+        .iter()
+        .flat_map(|(call, answers)| answers.iter().map(move |answer| (*call, *answer)))
+        .collect()
+}
 
 /// The two buffers.
 #[derive(Clone, Debug, PartialEq, Eq)]
