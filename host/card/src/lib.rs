@@ -6,9 +6,14 @@
 mod arguments;
 mod calls;
 mod check;
+mod disk;
 mod draw;
 mod files;
+mod intent;
+mod mark;
 mod progress;
+mod recover;
+pub mod replace;
 mod show;
 mod stat;
 mod survey;

@@ -3,6 +3,8 @@
 // Each file of tests uses a part of this.
 #![allow(dead_code)]
 
+pub mod cut;
+
 use std::fs;
 use std::path::PathBuf;
 use std::process::Command;
