@@ -1,13 +1,14 @@
-//! `card` itself is killed at every system call of its run, as `kill -9` would; the next
-//! command finds the card as it was or as the call leaves it.
+//! `card` itself is stopped at every system call of its run. A writer is killed there, as
+//! by `kill -9`, and the next command finds the card as it was or as the call leaves it. A
+//! reader goes on after another has written, and shows no mixed card.
 
 mod folder;
 
 use folder::Folder;
 use std::ffi::{c_int, c_long, c_void};
-use std::io;
+use std::io::{self, Read};
 use std::os::unix::process::CommandExt;
-use std::process::Stdio;
+use std::process::{Child, Stdio};
 use std::ptr::null_mut;
 
 unsafe extern "C" {
@@ -17,6 +18,7 @@ unsafe extern "C" {
 
 const TRACE_ME: c_long = 0;
 const RUN_TO_SYSTEM_CALL: c_long = 24;
+const RUN_ON: c_long = 7;
 
 /// Waits for the traced process; whether it goes on, that is, has only stopped.
 fn goes_on(pid: c_int) -> bool {
@@ -26,11 +28,11 @@ fn goes_on(pid: c_int) -> bool {
     status & 0xFF == 0x7F
 }
 
-/// Runs `card` until it is about to make its n-th system call and kills it there; false if
-/// it came to its end before.
-fn killed_at(folder: &Folder, words: &str, calls: usize) -> bool {
+/// Runs `card` until it is about to make its n-th system call; `None` if it came to its end
+/// before.
+fn stopped_at(folder: &Folder, words: &str, calls: usize) -> Option<Child> {
     let mut command = folder.command(words);
-    command.stdout(Stdio::null()).stderr(Stdio::null());
+    command.stdout(Stdio::piped()).stderr(Stdio::null());
     // SAFETY: between fork and exec only this one system call is made.
     unsafe {
         command.pre_exec(|| match ptrace(TRACE_ME, 0, null_mut(), null_mut()) {
@@ -38,7 +40,7 @@ fn killed_at(folder: &Folder, words: &str, calls: usize) -> bool {
             _ => Ok(()),
         });
     }
-    let mut child = command.spawn().expect("a process can be traced");
+    let child = command.spawn().expect("a process can be traced");
     let pid = child.id() as c_int;
     assert!(goes_on(pid));
     // A process stops before each system call and behind it.
@@ -46,11 +48,19 @@ fn killed_at(folder: &Folder, words: &str, calls: usize) -> bool {
         // SAFETY: the process is ours and has stopped.
         unsafe { ptrace(RUN_TO_SYSTEM_CALL, pid, null_mut(), null_mut()) };
         if !goes_on(pid) {
-            return false;
+            return None;
         }
     }
+    Some(child)
+}
+
+/// Runs `card` up to its n-th system call and kills it there; false if it came to its end.
+fn killed_at(folder: &Folder, words: &str, calls: usize) -> bool {
+    let Some(mut child) = stopped_at(folder, words, calls) else {
+        return false;
+    };
     child.kill().unwrap();
-    while goes_on(pid) {}
+    while goes_on(child.id() as c_int) {}
     true
 }
 
@@ -122,5 +132,32 @@ fn format_is_killed_everywhere() {
         if !killed {
             break;
         }
+    }
+}
+
+/// A reader is stopped at every system call; there another command writes both files.
+#[test]
+fn a_reader_meets_a_writer_everywhere() {
+    let folder = Folder::with_card("meets");
+    folder.done("create a.mst a.xrf 24=one");
+    let before = folder.files();
+    for calls in 1.. {
+        for (path, bytes) in &before {
+            std::fs::write(path, bytes).unwrap();
+        }
+        let Some(child) = stopped_at(&folder, "check a.mst a.xrf", calls) else {
+            break;
+        };
+        folder.done("create a.mst a.xrf 24=two");
+        let pid = child.id() as c_int;
+        // SAFETY: the process is ours and has stopped.
+        unsafe { ptrace(RUN_ON, pid, null_mut(), null_mut()) };
+        while goes_on(pid) {
+            // SAFETY: as before.
+            unsafe { ptrace(RUN_ON, pid, null_mut(), null_mut()) };
+        }
+        let mut out = String::new();
+        child.stdout.unwrap().read_to_string(&mut out).unwrap();
+        assert_eq!(out, "sound\n", "system call {calls}");
     }
 }

@@ -269,3 +269,20 @@ fn a_write_that_fails_is_undone_at_once() {
     );
     assert_eq!(folder.done(&format!("check {name} a.xrf")), "sound\n");
 }
+
+/// A file under the name of a new one is somebody's; it is let be.
+#[test]
+fn a_file_in_the_way_is_let_be() {
+    let folder = worked("way");
+    let (before, after) = before_and_after(&folder, CALLS[0]);
+    for name in ["a.mst", "a.xrf"] {
+        let new = format!("{name}.{}.new", std::process::id());
+        folder.write(&new, b"mine");
+        let files = folder.files();
+        let (mst, xrf) = (folder.0.join("a.mst"), folder.0.join("a.xrf"));
+        let trouble = write(&mst, &xrf, Some(&before), &after).run().unwrap_err();
+        assert!(trouble.to_string().contains("in the way"), "{trouble}");
+        assert!(files == folder.files());
+        fs::remove_file(folder.0.join(new)).unwrap();
+    }
+}
