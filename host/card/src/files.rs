@@ -1,10 +1,15 @@
-//! The two files of a card. They are read whole; what has changed is written to a
-//! file beside and renamed, so that no reader ever meets a half-written one.
+//! The two files of a card. They are read whole; what has changed is written to new
+//! files beside and both are replaced as one, so that no reader meets a half-written
+//! card, even if the power was cut.
 
+use crate::disk;
+use crate::intent::new_name;
 use crate::progress::with_progress;
+use crate::recover::{is_pending, recover};
+use crate::replace::{Change, Replacement};
 use crate::trouble::Trouble;
-use std::fs::{self, File, OpenOptions};
-use std::io::{self, Write};
+use std::fs::{self, File};
+use std::io::{self, Read};
 use std::path::{Path, PathBuf};
 
 /// Longer files are refused unread: no MST of more bytes is permitted.
@@ -22,19 +27,9 @@ pub struct Files {
     pub xrf: Vec<u8>,
 }
 
-/// What was wrong with a file.
-fn file_trouble(path: &Path, what: &str, why: &io::Error) -> Trouble {
-    let reason = match why.kind() {
-        io::ErrorKind::NotFound => "there is no such file".to_string(),
-        io::ErrorKind::PermissionDenied => "permission denied".to_string(),
-        _ => why.to_string(),
-    };
-    Trouble::File(format!("{}: {what}: {reason}", path.display()))
-}
-
-/// Reads a file whole.
-fn read(path: &Path) -> Result<Vec<u8>, Trouble> {
-    let cannot = |why: io::Error| file_trouble(path, "cannot be read", &why);
+/// Opens a file and reads it whole.
+fn read(path: &Path) -> Result<(File, Vec<u8>), Trouble> {
+    let cannot = |why: io::Error| disk::trouble(path, "cannot be read", &why);
     let meta = fs::metadata(path).map_err(cannot)?;
     if !meta.is_file() {
         let path = path.display();
@@ -45,71 +40,23 @@ fn read(path: &Path) -> Result<Vec<u8>, Trouble> {
         let words = format!("{path} has {len} bytes, more than the longest MST");
         return Err(Trouble::Refused(isis::Refusal::BadLength, words));
     }
-    with_progress(&format!("reading {}", path.display()), || fs::read(path)).map_err(cannot)
+    let mut file = File::open(path).map_err(cannot)?;
+    let mut bytes = Vec::new();
+    with_progress(&format!("reading {}", path.display()), || {
+        file.read_to_end(&mut bytes)
+    })
+    .map_err(cannot)?;
+    Ok((file, bytes))
 }
 
-/// The real file behind a name, held to be writable.
-fn writable(path: &Path) -> Result<PathBuf, Trouble> {
-    let cannot = |why: io::Error| file_trouble(path, "cannot be written", &why);
-    let real = fs::canonicalize(path).map_err(cannot)?;
-    let meta = fs::metadata(&real).map_err(cannot)?;
-    if meta.permissions().readonly() {
-        return Err(cannot(io::ErrorKind::PermissionDenied.into()));
-    }
-    OpenOptions::new().write(true).open(&real).map_err(cannot)?;
-    Ok(real)
-}
-
-/// Bytes that stand in a file beside the one they are for; removed unless they
-/// take its place.
-struct Beside {
-    beside: PathBuf,
-    target: PathBuf,
-}
-
-impl Beside {
-    fn write(target: &Path, bytes: &[u8]) -> Result<Beside, Trouble> {
-        let mut name = target.file_name().unwrap_or_default().to_os_string();
-        name.push(format!(".{}.new", std::process::id()));
-        let beside = target.with_file_name(name);
-        let cannot = |why: io::Error| file_trouble(target, "cannot be written", &why);
-        let mut file = File::create_new(&beside).map_err(cannot)?;
-        let guard = Beside {
-            beside,
-            target: target.to_path_buf(),
-        };
-        if let Ok(meta) = fs::metadata(target) {
-            file.set_permissions(meta.permissions()).map_err(cannot)?;
-        }
-        let what = format!("writing {}", target.display());
-        with_progress(&what, || {
-            file.write_all(bytes).and_then(|()| file.sync_all())
-        })
-        .map_err(cannot)?;
-        Ok(guard)
-    }
-
-    fn take_place(self) -> Result<(), Trouble> {
-        fs::rename(&self.beside, &self.target)
-            .map_err(|why| file_trouble(&self.target, "cannot be replaced", &why))?;
-        // The new name is to last as well; a file system that has no such thing says no.
-        if let Some(Ok(folder)) = self.target.parent().map(File::open) {
-            let _ = folder.sync_all();
-        }
-        Ok(())
-    }
-}
-
-impl Drop for Beside {
-    fn drop(&mut self) {
-        // After the rename there is nothing left to remove.
-        let _ = fs::remove_file(&self.beside);
-    }
+/// The real place of a file that is to be written.
+fn real(path: &Path) -> Result<PathBuf, Trouble> {
+    disk::real(path).map_err(|why| disk::trouble(path, "cannot be written", &why))
 }
 
 /// Whether two names lead to one file.
 fn same_file(one: &Path, other: &Path) -> bool {
-    let real = |path: &Path| fs::canonicalize(path).unwrap_or_else(|_| path.to_path_buf());
+    let real = |path: &Path| disk::real(path).unwrap_or_else(|_| path.to_path_buf());
     real(one) == real(other)
 }
 
@@ -123,21 +70,33 @@ pub fn two_files(paths: &(PathBuf, PathBuf)) -> Result<(), Trouble> {
 }
 
 impl Files {
-    /// Reads both files.
+    /// Reads both files, once no write of them is pending.
     pub fn read(paths: (PathBuf, PathBuf)) -> Result<Files, Trouble> {
         two_files(&paths)?;
         let (mst_path, xrf_path) = paths;
-        let (mst, xrf) = (read(&mst_path)?, read(&xrf_path)?);
-        Ok(Files {
-            mst_path,
-            xrf_path,
-            mst,
-            xrf,
-        })
+        loop {
+            recover(&mst_path, &xrf_path)?;
+            let (mst_file, mst) = read(&mst_path)?;
+            let (xrf_file, xrf) = read(&xrf_path)?;
+            // If another process has replaced one meanwhile, they are read again. The
+            // intent comes first: it goes only after both files are replaced.
+            let as_one = !is_pending(&mst_path)
+                && disk::leads_to(&mst_path, &mst_file)
+                && disk::leads_to(&xrf_path, &xrf_file);
+            if as_one {
+                return Ok(Files {
+                    mst_path,
+                    xrf_path,
+                    mst,
+                    xrf,
+                });
+            }
+        }
     }
 
     /// Makes two files that must not be there yet.
     pub fn make(&self) -> Result<(), Trouble> {
+        recover(&self.mst_path, &self.xrf_path)?;
         for path in [&self.mst_path, &self.xrf_path] {
             if fs::symlink_metadata(path).is_ok() {
                 let path = path.display();
@@ -146,12 +105,7 @@ impl Files {
                 )));
             }
         }
-        let mst = Beside::write(&self.mst_path, &self.mst)?;
-        let xrf = Beside::write(&self.xrf_path, &self.xrf)?;
-        mst.take_place()?;
-        xrf.take_place().inspect_err(|_| {
-            let _ = fs::remove_file(&self.mst_path);
-        })
+        self.replace(None, None)
     }
 
     /// Writes some other file whole, which must not be one of the card's.
@@ -162,29 +116,37 @@ impl Files {
                 "{path} is a file of the card itself"
             )));
         }
-        Beside::write(path, bytes)?.take_place()
+        let new = new_name(path, std::process::id());
+        disk::write_new(&new, path, bytes)?;
+        disk::rename(&new, path).inspect_err(|_| {
+            let _ = fs::remove_file(&new);
+        })?;
+        disk::keep_names(path);
+        Ok(())
     }
 
     /// Writes back the files whose bytes are not as they were read.
     pub fn write_back(&self, mst_before: &[u8], xrf_before: &[u8]) -> Result<(), Trouble> {
-        let (mst_path, xrf_path) = (writable(&self.mst_path)?, writable(&self.xrf_path)?);
-        let changed = |now: &[u8], before: &[u8]| now != before;
-        let mut mst = None;
-        if changed(&self.mst, mst_before) {
-            mst = Some(Beside::write(&mst_path, &self.mst)?);
-        }
-        let mut xrf = None;
-        if changed(&self.xrf, xrf_before) {
-            xrf = Some(Beside::write(&xrf_path, &self.xrf)?);
-        }
-        let mst_replaced = mst.is_some();
-        mst.map_or(Ok(()), Beside::take_place)?;
-        let Err(trouble) = xrf.map_or(Ok(()), Beside::take_place) else {
+        disk::writable(&self.mst_path)?;
+        disk::writable(&self.xrf_path)?;
+        if self.mst == mst_before && self.xrf == xrf_before {
             return Ok(());
-        };
-        if mst_replaced {
-            Beside::write(&mst_path, mst_before)?.take_place()?;
         }
-        Err(trouble)
+        self.replace(Some(mst_before), Some(xrf_before))
+    }
+
+    /// Replaces both files as one.
+    fn replace(&self, mst: Option<&[u8]>, xrf: Option<&[u8]>) -> Result<(), Trouble> {
+        let mst = Change {
+            path: real(&self.mst_path)?,
+            before: mst,
+            after: &self.mst,
+        };
+        let xrf = Change {
+            path: real(&self.xrf_path)?,
+            before: xrf,
+            after: &self.xrf,
+        };
+        Replacement::new(mst, xrf).run()
     }
 }

@@ -2,101 +2,10 @@
 //! files, its exit status; and for every kind of bad input one sentence on standard
 //! error with nothing changed.
 
+mod folder;
+
+use folder::Folder;
 use std::fs;
-use std::path::PathBuf;
-use std::process::Command;
-
-/// A folder of its own for one test, removed at the end.
-struct Folder(PathBuf);
-
-/// What a run of the command gave.
-#[derive(Debug)]
-struct Run {
-    status: i32,
-    out: String,
-    err: String,
-}
-
-impl Folder {
-    fn new(name: &str) -> Folder {
-        let path = std::env::temp_dir().join(format!("card-test-{}-{name}", std::process::id()));
-        let _ = fs::remove_dir_all(&path);
-        fs::create_dir_all(&path).unwrap();
-        Folder(path)
-    }
-
-    /// A folder with a formatted card `a.mst`, `a.xrf` of 8 blocks and 1.
-    fn with_card(name: &str) -> Folder {
-        let folder = Folder::new(name);
-        folder.done("format a.mst a.xrf 8 1");
-        folder
-    }
-
-    /// Runs `card`; the words are separated by spaces, `_` stands for one in a word.
-    fn card(&self, words: &str) -> Run {
-        let output = Command::new(env!("CARGO_BIN_EXE_card"))
-            .current_dir(&self.0)
-            .args(words.split(' ').map(|word| word.replace('_', " ")))
-            .output()
-            .unwrap();
-        Run {
-            status: output.status.code().unwrap(),
-            out: String::from_utf8(output.stdout).unwrap(),
-            err: String::from_utf8(output.stderr).unwrap(),
-        }
-    }
-
-    /// Runs `card`, which must do its work without a word on standard error.
-    fn done(&self, words: &str) -> String {
-        let run = self.card(words);
-        assert_eq!((run.status, run.err.as_str()), (0, ""), "{words}");
-        run.out
-    }
-
-    /// Runs `card`, which must refuse with a status, one sentence that has `part` in
-    /// it, and every file of the folder as it was.
-    fn refused(&self, words: &str, status: i32, part: &str) {
-        let before = self.files();
-        let run = self.card(words);
-        assert_eq!(run.status, status, "{words}: {run:?}");
-        assert!(run.err.starts_with("card: "), "{words}: {run:?}");
-        assert!(run.err.contains(part), "{words}: {run:?}");
-        assert!(before == self.files(), "{words} changed a file");
-    }
-
-    /// Every file of the folder with its bytes.
-    fn files(&self) -> Vec<(PathBuf, Vec<u8>)> {
-        let mut files: Vec<_> = fs::read_dir(&self.0)
-            .unwrap()
-            .map(|entry| entry.unwrap().path())
-            .filter(|path| path.is_file())
-            .map(|path| (path.clone(), fs::read(path).unwrap()))
-            .collect();
-        files.sort();
-        files
-    }
-
-    fn read(&self, name: &str) -> Vec<u8> {
-        fs::read(self.0.join(name)).unwrap()
-    }
-
-    fn write(&self, name: &str, bytes: &[u8]) {
-        fs::write(self.0.join(name), bytes).unwrap();
-    }
-
-    /// Changes some bytes of a file.
-    fn damage(&self, name: &str, at: usize, bytes: &[u8]) {
-        let mut file = self.read(name);
-        file[at..at + bytes.len()].copy_from_slice(bytes);
-        self.write(name, &file);
-    }
-}
-
-impl Drop for Folder {
-    fn drop(&mut self) {
-        let _ = fs::remove_dir_all(&self.0);
-    }
-}
 
 #[test]
 fn the_worked_run_leaves_the_papers_bytes() {

@@ -1,0 +1,106 @@
+//! A folder with a card for one test, and `card` run in it.
+
+// Each file of tests uses a part of this.
+#![allow(dead_code)]
+
+pub mod cut;
+
+use std::fs;
+use std::path::PathBuf;
+use std::process::Command;
+
+/// A folder of its own for one test, removed at the end.
+pub struct Folder(pub PathBuf);
+
+/// What a run of the command gave.
+#[derive(Debug)]
+pub struct Run {
+    pub status: i32,
+    pub out: String,
+    pub err: String,
+}
+
+impl Folder {
+    pub fn new(name: &str) -> Folder {
+        let path = std::env::temp_dir().join(format!("card-test-{}-{name}", std::process::id()));
+        let _ = fs::remove_dir_all(&path);
+        fs::create_dir_all(&path).unwrap();
+        Folder(path)
+    }
+
+    /// A folder with a formatted card `a.mst`, `a.xrf` of 8 blocks and 1.
+    pub fn with_card(name: &str) -> Folder {
+        let folder = Folder::new(name);
+        folder.done("format a.mst a.xrf 8 1");
+        folder
+    }
+
+    /// `card`, to be run; the words are separated by spaces, `_` stands for one in a word.
+    pub fn command(&self, words: &str) -> Command {
+        let mut command = Command::new(env!("CARGO_BIN_EXE_card"));
+        let words = words.split(' ').map(|word| word.replace('_', " "));
+        command.current_dir(&self.0).args(words);
+        command
+    }
+
+    /// Runs `card`.
+    pub fn card(&self, words: &str) -> Run {
+        let output = self.command(words).output().unwrap();
+        Run {
+            status: output.status.code().unwrap(),
+            out: String::from_utf8(output.stdout).unwrap(),
+            err: String::from_utf8(output.stderr).unwrap(),
+        }
+    }
+
+    /// Runs `card`, which must do its work without a word on standard error.
+    pub fn done(&self, words: &str) -> String {
+        let run = self.card(words);
+        assert_eq!((run.status, run.err.as_str()), (0, ""), "{words}");
+        run.out
+    }
+
+    /// Runs `card`, which must refuse with a status, one sentence that has `part` in
+    /// it, and every file of the folder as it was.
+    pub fn refused(&self, words: &str, status: i32, part: &str) {
+        let before = self.files();
+        let run = self.card(words);
+        assert_eq!(run.status, status, "{words}: {run:?}");
+        assert!(run.err.starts_with("card: "), "{words}: {run:?}");
+        assert!(run.err.contains(part), "{words}: {run:?}");
+        assert!(before == self.files(), "{words} changed a file");
+    }
+
+    /// Every file of the folder with its bytes.
+    pub fn files(&self) -> Vec<(PathBuf, Vec<u8>)> {
+        let mut files: Vec<_> = fs::read_dir(&self.0)
+            .unwrap()
+            .map(|entry| entry.unwrap().path())
+            .filter(|path| path.is_file())
+            .map(|path| (path.clone(), fs::read(path).unwrap()))
+            .collect();
+        files.sort();
+        files
+    }
+
+    pub fn read(&self, name: &str) -> Vec<u8> {
+        fs::read(self.0.join(name)).unwrap()
+    }
+
+    pub fn write(&self, name: &str, bytes: &[u8]) {
+        fs::write(self.0.join(name), bytes).unwrap();
+    }
+
+    /// Changes some bytes of a file.
+    pub fn damage(&self, name: &str, at: usize, bytes: &[u8]) {
+        let mut file = self.read(name);
+        file[at..at + bytes.len()].copy_from_slice(bytes);
+        self.write(name, &file);
+    }
+}
+
+impl Drop for Folder {
+    fn drop(&mut self) {
+        let _ = fs::remove_dir_all(&self.0);
+    }
+}
