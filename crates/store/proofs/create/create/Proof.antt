@@ -2,11 +2,6 @@ use Rattle.store.proofs.Results.{create-refused, create-asks, create-do
 use borrow.Author.Needs.{needs}
 use Rattle.store.proofs.create.create.Statement.{statement}
 use Rattle.store.proofs.create.create.Tie as tie
-use Rattle.store.proofs.create.create.Reads as reads
-use Rattle.store.proofs.create.create.Lts as lts
-use Rattle.store.proofs.create.create_at_end.Reads as create-at-end-reads
-use Rattle.store.proofs.create.creating_answer.Reads as creating-answer-reads
-use Rattle.store.proofs.create.plan_create.Reads as plan-create-reads
 
 plan-create-requires : tie.Need-plan-create-requires
 plan-create-requires c κs = search needs

@@ -2,13 +2,6 @@ use Rattle.store.proofs.Writes.{end-asked, at-end-created, size-created
 use borrow.Author.Needs.{needs}
 use Rattle.store.proofs.create.create_at_end.Statement.{statement}
 use Rattle.store.proofs.create.create_at_end.Tie as tie
-use Rattle.store.proofs.create.create_at_end.Reads as reads
-use Rattle.store.proofs.create.create_at_end.Lts as lts
-use Rattle.layout.proofs.control.put_next.Reads as put-next-reads
-use Rattle.layout.proofs.cross_reference.put_entry.Reads as put-entry-reads
-use Rattle.record.proofs.writer.leader_for.Reads as leader-for-reads
-use Rattle.store.proofs.create.append_draft.Reads as append-draft-reads
-use Rattle.store.proofs.create.end_place.Reads as end-place-reads
 
 cast-leader-for : tie.Need-cast-leader-for
 cast-leader-for c = search needs

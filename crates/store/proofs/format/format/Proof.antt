@@ -2,11 +2,6 @@ use Rattle.store.proofs.Results.{format-refused, format-asks-mst, forma
 use borrow.Author.Needs.{needs}
 use Rattle.store.proofs.format.format.Statement.{statement}
 use Rattle.store.proofs.format.format.Tie as tie
-use Rattle.store.proofs.format.format.Reads as reads
-use Rattle.store.proofs.format.format.Lts as lts
-use Rattle.layout.proofs.control.format_mst.Reads as format-mst-reads
-use Rattle.layout.proofs.cross_reference.format_xrf.Reads as format-xrf-reads
-use Rattle.store.proofs.gate.lengths_permitted.Reads as lengths-permitted-reads
 
 lengths-permitted-requires : tie.Need-lengths-permitted-requires
 lengths-permitted-requires c κs = search needs

@@ -2,11 +2,6 @@ use Rattle.store.proofs.Results.{revert-refused, revert-asks, revert-do
 use borrow.Author.Needs.{needs}
 use Rattle.store.proofs.settling.revert.Statement.{statement}
 use Rattle.store.proofs.settling.revert.Tie as tie
-use Rattle.store.proofs.settling.revert.Reads as reads
-use Rattle.store.proofs.settling.revert.Lts as lts
-use Rattle.layout.proofs.cross_reference.put_entry.Reads as put-entry-reads
-use Rattle.store.proofs.settling.plan_revert.Reads as plan-revert-reads
-use Rattle.store.proofs.views.known_answer.Reads as known-answer-reads
 
 plan-revert-requires : tie.Need-plan-revert-requires
 plan-revert-requires c κs = search needs

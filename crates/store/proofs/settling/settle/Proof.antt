@@ -2,11 +2,6 @@ use Rattle.store.proofs.Results.{settle-refused, settle-asks, settle-do
 use borrow.Author.Needs.{needs}
 use Rattle.store.proofs.settling.settle.Statement.{statement}
 use Rattle.store.proofs.settling.settle.Tie as tie
-use Rattle.store.proofs.settling.settle.Reads as reads
-use Rattle.store.proofs.settling.settle.Lts as lts
-use Rattle.store.proofs.settling.plan_settle.Reads as plan-settle-reads
-use Rattle.store.proofs.settling.settle_place.Reads as settle-place-reads
-use Rattle.store.proofs.views.known_answer.Reads as known-answer-reads
 
 plan-settle-requires : tie.Need-plan-settle-requires
 plan-settle-requires c κs = search needs

@@ -2,11 +2,6 @@ use Rattle.store.proofs.Writes.{back-cleared, mark-removed}
 use borrow.Author.Needs.{needs}
 use Rattle.store.proofs.settling.settle_place.Statement.{statement}
 use Rattle.store.proofs.settling.settle_place.Tie as tie
-use Rattle.store.proofs.settling.settle_place.Reads as reads
-use Rattle.store.proofs.settling.settle_place.Lts as lts
-use Rattle.layout.proofs.cross_reference.put_entry.Reads as put-entry-reads
-use Rattle.layout.proofs.entry.place_address.Reads as place-address-reads
-use Rattle.record.proofs.writer.clear_back.Reads as clear-back-reads
 
 place-address-requires : tie.Need-place-address-requires
 place-address-requires c κs = search needs

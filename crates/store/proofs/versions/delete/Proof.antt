@@ -2,11 +2,6 @@ use Rattle.store.proofs.Results.{delete-refused, delete-append-asks, de
 use borrow.Author.Needs.{needs}
 use Rattle.store.proofs.versions.delete.Statement.{statement}
 use Rattle.store.proofs.versions.delete.Tie as tie
-use Rattle.store.proofs.versions.delete.Reads as reads
-use Rattle.store.proofs.versions.delete.Lts as lts
-use Rattle.store.proofs.versions.delete_at_end.Reads as delete-at-end-reads
-use Rattle.store.proofs.versions.delete_in_place.Reads as delete-in-place-reads
-use Rattle.store.proofs.versions.plan_delete.Reads as plan-delete-reads
 
 plan-delete-requires : tie.Need-plan-delete-requires
 plan-delete-requires c κs = search needs

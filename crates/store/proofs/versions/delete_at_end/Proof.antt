@@ -4,13 +4,6 @@ use Rattle.store.proofs.Writes.{at-end-version, size-version, copy-vers
 use borrow.Author.Needs.{needs}
 use Rattle.store.proofs.versions.delete_at_end.Statement.{statement}
 use Rattle.store.proofs.versions.delete_at_end.Tie as tie
-use Rattle.store.proofs.versions.delete_at_end.Reads as reads
-use Rattle.store.proofs.versions.delete_at_end.Lts as lts
-use Rattle.layout.proofs.cross_reference.put_entry.Reads as put-entry-reads
-use Rattle.store.proofs.create.end_place.Reads as end-place-reads
-use Rattle.store.proofs.versions.append_copy.Reads as append-copy-reads
-use Rattle.store.proofs.versions.own_need.Reads as own-need-reads
-use Rattle.store.proofs.versions.version_leader.Reads as version-leader-reads
 
 own-need-requires : tie.Need-own-need-requires
 own-need-requires c κs = search needs

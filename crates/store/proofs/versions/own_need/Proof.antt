@@ -2,11 +2,6 @@ use Rattle.store.proofs.Writes.{own-lent-readable, own-counted, own-nee
 use borrow.Author.Needs.{needs}
 use Rattle.store.proofs.versions.own_need.Statement.{statement}
 use Rattle.store.proofs.versions.own_need.Tie as tie
-use Rattle.store.proofs.versions.own_need.Reads as reads
-use Rattle.store.proofs.versions.own_need.Lts as lts
-use Rattle.layout.proofs.entry.place_address.Reads as place-address-reads
-use Rattle.record.proofs.draft.need.Reads as need-reads
-use Rattle.record.proofs.fields.data_length.Reads as data-length-reads
 
 place-address-requires : tie.Need-place-address-requires
 place-address-requires c κs = search needs

@@ -3,16 +3,6 @@ use Rattle.store.proofs.Plans.{draft-room-asked, update-plans}
 use borrow.Author.Needs.{needs}
 use Rattle.store.proofs.versions.plan_update.Statement.{statement}
 use Rattle.store.proofs.versions.plan_update.Tie as tie
-use Rattle.store.proofs.versions.plan_update.Reads as reads
-use Rattle.store.proofs.versions.plan_update.Lts as lts
-use Rattle.record.proofs.draft.draft_right.Reads as draft-right-reads
-use Rattle.record.proofs.draft.need.Reads as need-reads
-use Rattle.store.proofs.gate.find_record.Reads as find-record-reads
-use Rattle.store.proofs.gate.open_gate.Reads as open-gate-reads
-use Rattle.store.proofs.versions.plan_room.Reads as plan-room-reads
-use Rattle.store.proofs.versions.update_appends.Reads as update-appends-reads
-use Rattle.store.proofs.views.gate_answer.Reads as gate-answer-reads
-use Rattle.store.proofs.views.known_answer.Reads as known-answer-reads
 
 open-gate-requires : tie.Need-open-gate-requires
 open-gate-requires c κs = search needs

@@ -2,11 +2,6 @@ use Rattle.store.proofs.Results.{update-refused, update-append-asks, up
 use borrow.Author.Needs.{needs}
 use Rattle.store.proofs.versions.update.Statement.{statement}
 use Rattle.store.proofs.versions.update.Tie as tie
-use Rattle.store.proofs.versions.update.Reads as reads
-use Rattle.store.proofs.versions.update.Lts as lts
-use Rattle.store.proofs.versions.plan_update.Reads as plan-update-reads
-use Rattle.store.proofs.versions.update_at_end.Reads as update-at-end-reads
-use Rattle.store.proofs.versions.update_in_place.Reads as update-in-place-reads
 
 plan-update-requires : tie.Need-plan-update-requires
 plan-update-requires c κs = search needs

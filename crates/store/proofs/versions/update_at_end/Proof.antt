@@ -2,14 +2,6 @@ use Rattle.store.proofs.Writes.{at-end-version, size-version, draft-ver
 use borrow.Author.Needs.{needs}
 use Rattle.store.proofs.versions.update_at_end.Statement.{statement}
 use Rattle.store.proofs.versions.update_at_end.Tie as tie
-use Rattle.store.proofs.versions.update_at_end.Reads as reads
-use Rattle.store.proofs.versions.update_at_end.Lts as lts
-use Rattle.layout.proofs.cross_reference.put_entry.Reads as put-entry-reads
-use Rattle.record.proofs.draft.need.Reads as need-reads
-use Rattle.store.proofs.create.append_draft.Reads as append-draft-reads
-use Rattle.store.proofs.create.end_place.Reads as end-place-reads
-use Rattle.store.proofs.versions.pending_mark.Reads as pending-mark-reads
-use Rattle.store.proofs.versions.version_leader.Reads as version-leader-reads
 
 need-requires : tie.Need-need-requires
 need-requires c κs = search needs

@@ -2,11 +2,6 @@ use Rattle.store.proofs.Writes.{in-place-asked, draft-in-place}
 use borrow.Author.Needs.{needs}
 use Rattle.store.proofs.versions.update_in_place.Statement.{statement}
 use Rattle.store.proofs.versions.update_in_place.Tie as tie
-use Rattle.store.proofs.versions.update_in_place.Reads as reads
-use Rattle.store.proofs.versions.update_in_place.Lts as lts
-use Rattle.layout.proofs.entry.place_address.Reads as place-address-reads
-use Rattle.record.proofs.writer.write_record.Reads as write-record-reads
-use Rattle.store.proofs.versions.version_leader.Reads as version-leader-reads
 
 cast-version-leader : tie.Need-cast-version-leader
 cast-version-leader c = search needs
