@@ -4,16 +4,16 @@ use Prim.Native.Nat.{ℕ, _+_, _*_, _-_, _/_, _%_, _^_, _≤_, _<_}
 use native.Mathlib.Omega.{arith}
 use mathlib.Core.Path.{_≡_, refl, sym, ap, _∙_}
 use mathlib.Core.Bool.{Bool, true, false, not}
-use mathlib.Core.List.{List, append-nil}
+use mathlib.Core.List.{List}
 use mathlib.Core.Logic.{⊎-elim}
 use lib.Dec.{leb, eqb}
 use lib.IntN.{ℤ}
 use lib.Signed.{mag}
 use mir.Syntax.{w32}
 use mir.Val.{toZ, ofZ}
-use lib.ListN.{length, replicate, length-replicate, drop-of-length-le}
+use lib.ListN.{length, replicate, length-replicate}
 use borrow.Author.Tests.{le-leb, lt-leb, eq-eqb, ne-eqb, not-true, not-false}
-use Rattle.word.proofs.Place.{lt-or-ge, place-is, place-next}
+use Rattle.word.proofs.Place.{lt-or-ge, place-whole, place-next}
 use Rattle.word.specs.Integer.{u16At, u32At, le}
 use Rattle.word.specs.Place.{place}
 use Rattle.word.specs.Signed.{signedOf, bitsOf}
@@ -278,11 +278,6 @@ module _ (xrf : List ℕ) where
 pub ruleset xrf-answers = (head-last, head-plain, head-tested, slot-tested, entry-no-head, entry-told, entry-put, head-put)
 
 -- ---- writes
-
--- a place over the whole list
-place-whole : (d xs : List ℕ) → length xs ≡ length d → place d 0 xs ≡ xs
-place-whole d xs e =
-    place-is d 0 xs ∙ rw (drop-of-length-le d {i = 0 + length xs} (omega arith), append-nil xs)
 
 module _ (mst zero : List ℕ) (h : mstPermitted (length mst) ≡ true) (e : zero ≡ place mst 0 (replicate (length mst) 0)) where
   pub long-zero : 64 ≤ length zero

@@ -24,10 +24,6 @@ module _ (most n : ℕ) where
   unfolding blocksWithin
   blocks-facts e = let q = simp tests at e in record { whole = q .0 .0; low = q .0 .1; high = q .1 }
 
-  pub blocks-from : n % 512 ≡ 0 → 512 ≤ n → n ≤ 512 * most → blocksWithin most n ≡ true
-  unfolding blocksWithin
-  blocks-from a b c = simp tests ((a, b), c)
-
 -- ---- records and tags
 
 pub record RecordLengthFacts (n : ℕ) : Type 0 where
@@ -53,21 +49,10 @@ module _ (t : ℕ) where
   unfolding tagPermitted
   tag-facts e = let q = simp tests at e in record { low = q .0; high = q .1 }
 
-  pub tag-from : 1 ≤ t → t ≤ 32767 → tagPermitted t ≡ true
-  unfolding tagPermitted
-  tag-from a b = simp tests (a, b)
-
 -- ---- addresses
 
 pub address-of-at : (a : ℕ) → addressOf (blockAt a) (offsetAt a) ≡ a
 address-of-at a = omega arith
-
-module _ (b p : ℕ) (low : 1 ≤ b) (small : p < 512) where
-  pub block-of-address : blockAt (addressOf b p) ≡ b
-  block-of-address = omega arith
-
-  pub offset-of-address : offsetAt (addressOf b p) ≡ p
-  offset-of-address = omega arith
 
 -- ---- places
 
@@ -94,9 +79,6 @@ module _ (end b p : ℕ) (e : wellPlaced end b p ≡ true) where
   well-placed-later later h =
       let f = well-placed-facts end b p e in
       well-placed-from later b p (f .block) (f .even) (f .offset) (f .above) (omega arith)
-
-  pub address-even : addressOf b p % 2 ≡ 0
-  address-even = let f = well-placed-facts end b p e in omega arith
 
   -- what an entry can hold, where the end lies in an MST
   pub encodable : end ≤ 536870400 → (1 ≤ b) × (b ≤ 1048575) × (p ≤ 498)
@@ -138,7 +120,3 @@ module _ (a : ℕ) where
   -- in a file of whole blocks
   pub end-moved-in : (n : ℕ) → n % 512 ≡ 0 → a ≤ n → endMoved a ≤ n
   end-moved-in n w h = ⊎-elim (λ s. rw (end-stays a s) h) (λ m. rw (end-moves a m) (omega arith)) (lt-or-ge (a % 512) 500)
-
-  -- an end that is stored stays
-  pub end-moved-same : a % 512 ≤ 498 → endMoved a ≡ a
-  end-moved-same h = end-stays a (omega arith)

@@ -3,19 +3,19 @@
 use Prim.Native.Nat.{ℕ, zero, suc, _+_, _≤_, _<_}
 use native.Mathlib.Nat.{add-zero}
 use native.Mathlib.Omega.{arith}
-use mathlib.Core.Path.{_≡_, refl, sym, ap, _∙_}
+use mathlib.Core.Path.{_≡_, refl}
 use mathlib.Core.Logic.{⊎-elim}
-use mathlib.Core.Bool.{Bool, true, false, _&&_, cond}
+use mathlib.Core.Bool.{Bool, true, false}
 use mathlib.Core.Option.{Option, some, none}
 use mathlib.Core.List.{List}
 use lib.Dec.{eqb, leb}
 use lib.ListN.{length, getD, drop}
 use lib.Seq.{getD-drop}
-use borrow.Author.Tests.{leb-true, le-leb, lt-leb, ne-eqb}
+use borrow.Author.Tests.{le-leb, lt-leb, ne-eqb}
 use Rattle.word.proofs.Place.{lt-or-ge}
 use Rattle.layout.proofs.Tests.{tests}
 use Rattle.ledger.specs.Call.{Call}
-use Rattle.ledger.specs.Replay.{Script, draftFits, viewFits, takesDraft, draftCount, firstCall}
+use Rattle.ledger.specs.Replay.{Script, draftFits, viewFits, firstCall}
 use Rattle.ledger.specs.Turns.{mfnOf, tagOf, counts, draftsOf, leftOf, noDraft, countsFit, opOf, opIn, readingCall, writingCall, draftOf}
 use Rattle.ledger.specs.declared.replay.Counts.{Counts}
 use Rattle.ledger.specs.declared.replay.Reading.{Reading}

@@ -2,14 +2,13 @@
 -- list gives, and what is left of the list at the cursor gives the rest. A turn moves one call from the rest to the first part, or shows that
 -- nothing more is reported.
 use Prim.Native.Nat.{ℕ, zero, suc, _+_, _*_, _-_, _≤_, _<_}
-use native.Mathlib.Nat.{add-zero, zero-add, le-refl}
+use native.Mathlib.Nat.{le-refl}
 use native.Mathlib.Omega.{arith}
 use native.Mathlib.Numerals.{add-one, unary-clauses}
 use mathlib.Core.Path.{_≡_, refl, sym, ap, _∙_}
 use mathlib.Core.Bool.{Bool, true, false, cond}
 use mathlib.Core.Option.{Option, some, none}
 use mathlib.Core.List.{List, [], _∷_, _++_, append-assoc, append-nil}
-use lib.Dec.{leb, ltb}
 use lib.ListN.{length, take, drop, length-append, length-drop}
 use lib.Seq.{take-at, drop-drop}
 use borrow.Author.Tests.{lt-ltb, le-ltb}
@@ -19,14 +18,13 @@ use Rattle.layout.proofs.Tests.{tests}
 use Rattle.ledger.specs.Call.{Call, Outcome}
 use Rattle.ledger.specs.StoreRun.{Store, answerS, nextS, answersS, afterS}
 use Rattle.ledger.specs.Replay.{Script, script, firstCall, restOf, restAfter, onCall, callsIn, callsOf, hasRoom, fitting, threeNumbers, outcomeNumbers, outcomeBytes, stopAt}
-use Rattle.ledger.specs.Turns.{draftsOf, scriptAt, moved, DraftWithin, RoomWithin, Within, noDraft, roomAt, Ran, Halted, Turned, told, toldStop, Finished}
+use Rattle.ledger.specs.Turns.{draftsOf, scriptAt, moved, Within, roomAt, Ran, Halted, Turned, told, toldStop, Finished}
 use Rattle.ledger.specs.declared.replay.Stop.{Stop}
 use Rattle.ledger.specs.declared.replay.Stop.the-variants.{NoRoom}
-use Rattle.ledger.specs.declared.replay.Replayed.{Replayed}
 use Rattle.ledger.specs.declared.replay.Cursor.{Cursor}
 use Rattle.ledger.specs.declared.replay.Turn.{Turn}
 use Rattle.ledger.specs.declared.replay.Turn.the-variants.{Next, Stopped}
-use Rattle.ledger.proofs.Decoding.{Fits, HasCall, has-call}
+use Rattle.ledger.proofs.Decoding.{HasCall, has-call}
 
 -- ---- one more, at the end of a list
 

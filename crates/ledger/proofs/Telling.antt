@@ -2,7 +2,7 @@
 use Prim.Native.Nat.{ℕ, _≤_}
 use native.Mathlib.Omega.{arith}
 use mathlib.Core.Path.{_≡_, refl, sym, ap, _∙_}
-use mathlib.Core.Bool.{Bool, true, false, not, _&&_, cond}
+use mathlib.Core.Bool.{Bool, true, false}
 use mathlib.Core.List.{List, [], _∷_}
 use lib.ListN.{length}
 use denote.Enum.Declared.{tagOf}
@@ -18,15 +18,15 @@ use Rattle.store.proofs.answer.Answer as answer
 use Rattle.store.proofs.Plans.{not-done}
 use Rattle.store.proofs.Gates.{Refusing, refusing-not-done, lengths-facts}
 use Rattle.ledger.specs.Call.{Call, format, Outcome}
-use Rattle.ledger.specs.Ledger.{Ledger, empty, answersL, afterL}
-use Rattle.ledger.specs.StoreRun.{Store, store, nextS, answersS, afterS}
+use Rattle.ledger.specs.Ledger.{Ledger, empty, afterL}
+use Rattle.ledger.specs.StoreRun.{Store, store, nextS, afterS}
 use Rattle.ledger.specs.LedgerOf.{ledgerOf}
 use Rattle.ledger.specs.Replay.{Script, callsOf, fitting, outcomeNumbers, outcomeBytes, bothPermitted, reported, stopFor, callsRun, ledgerAfter, storeAfter, Kept, Replays}
 use Rattle.ledger.specs.Turns.{told, toldStop, Finished}
 use Rattle.ledger.specs.declared.replay.Replayed.{Replayed}
 use Rattle.ledger.specs.declared.replay.Stop.the-variants.{BadLength}
 use Rattle.ledger.proofs.Formatting.{formatted, formatted-sound, formatted-ledger, format-leaves}
-use Rattle.ledger.proofs.Theorem.{Demand3, demand-3, answers-are-the-ledgers}
+use Rattle.ledger.proofs.Theorem.{demand-3, answers-are-the-ledgers}
 
 module _ (mst xrf : List ℕ) where
   permitted-is : bothPermitted (length mst) (length xrf) ≡ lengthsPermitted mst xrf

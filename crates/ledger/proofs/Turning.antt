@@ -5,11 +5,10 @@ use native.Mathlib.Nat.{add-sub-cancel-left}
 use native.Mathlib.Omega.{arith}
 use native.Mathlib.Numerals.{add-one}
 use mathlib.Core.Path.{_≡_, refl, sym, ap, _∙_}
-use mathlib.Core.Bool.{Bool, true, false, _&&_, cond}
-use mathlib.Core.Option.{Option, some, none}
+use mathlib.Core.Bool.{true, false}
+use mathlib.Core.Option.{none}
 use mathlib.Core.List.{List, [], _∷_}
-use lib.Dec.{eqb, leb}
-use lib.ListN.{length, take, drop, set, length-drop}
+use lib.ListN.{length, drop, set, length-drop}
 use borrow.Author.Tests.{le-leb, lt-leb, eq-eqb, ne-eqb}
 use Rattle.word.specs.Place.{place, part}
 use Rattle.word.proofs.Place.{part-length, place-none, place-stores}
@@ -24,8 +23,8 @@ use Rattle.layout.specs.declared.sizes.Tag.{Tag}
 use Rattle.soundness.specs.Sound.{checkAnswer}
 use Rattle.ledger.specs.Call.{Call, create, update, Outcome}
 use Rattle.ledger.specs.StoreRun.{Store, store, answerS, nextS}
-use Rattle.ledger.specs.Replay.{Script, firstCall, onCall, hasRoom, threeNumbers, stopAt}
-use Rattle.ledger.specs.Turns.{counts, draftsOf, leftOf, noDraft, opIn, readingCall, writingAt, draftOf, scriptAt, leftAt, moved, DraftWithin, Within, shownOutcome, createdOutcome, withoutMfn, Wrote, roomAt, Ran, Halted, Turned}
+use Rattle.ledger.specs.Replay.{Script, firstCall, stopAt}
+use Rattle.ledger.specs.Turns.{leftOf, noDraft, opIn, readingCall, writingAt, draftOf, scriptAt, leftAt, moved, DraftWithin, Within, shownOutcome, withoutMfn, Wrote, roomAt, Ran, Turned}
 use Rattle.ledger.specs.declared.replay.Stop.{Stop}
 use Rattle.ledger.specs.declared.replay.Stop.the-variants.{Ended, NoRoom}
 use Rattle.ledger.specs.declared.replay.Counts.{Counts}
@@ -38,7 +37,7 @@ use Rattle.ledger.specs.declared.replay.Op.the-variants.{Asks, Writes}
 use Rattle.ledger.specs.declared.replay.Cursor.{Cursor}
 use Rattle.ledger.specs.declared.replay.Turn.{Turn}
 use Rattle.ledger.specs.declared.replay.Turn.the-variants.{Next, Stopped}
-use Rattle.ledger.proofs.Decoding.{Fits, Decoded, decoded, asks-call, writes-call, malformed-call, too-short}
+use Rattle.ledger.proofs.Decoding.{Decoded, decoded, asks-call, writes-call, malformed-call, too-short}
 use Rattle.ledger.specs.declared.replay.Op.the-variants as op
 use Rattle.ledger.specs.declared.replay.Stop.the-variants as stop
 

@@ -4,7 +4,6 @@ use Prim.Native.Nat.{ℕ, _+_, _*_, _-_, _≤_}
 use mathlib.Core.Path.{_≡_}
 use mathlib.Core.Bool.{Bool, _&&_, cond}
 use mathlib.Core.List.{List, []}
-use mathlib.Core.Option.{Option, some, none}
 use lib.Dec.{eqb, leb, ltb}
 use lib.ListN.{length, getD, take, drop}
 use Rattle.word.specs.Place.{place, part}
@@ -91,11 +90,6 @@ writingCall tags lens bytes (Update m n) = update (m .0) (take (n .tags) tags) (
 writingCall tags lens bytes (Delete m) = delete (m .0)
 writingCall tags lens bytes (Settle m) = settle (m .0)
 writingCall tags lens bytes (Revert m) = revert (m .0)
-
-abbrev pub opCall : Script → Op → Option Call
-opCall s (Asks r) = some (readingCall r)
-opCall s (Writes w) = some (writingCall (s .tags) (s .lens) (s .bytes) w)
-opCall s Malformed = none
 
 -- with the draft at a cursor
 abbrev pub writingAt : List ℕ → List ℕ → List ℕ → Cursor → Writing → Call

@@ -111,13 +111,6 @@ module _ (rec : List ℕ) (m : ℕ) (deleted : Bool) where
       go true h = refl
       go false h = let z : _≡_ {A = ℕ} 0 1 = cc in absurd (omega arith)
 
-  pub test-from : recordRight rec m deleted ≡ true → testOf rec m deleted ≡ WellFormed (leaderOf rec)
-  unfolding testOf
-  test-from e = rw e
-
-  pub test-leader : (l : Leader) → testOf rec m deleted ≡ WellFormed l → leaderOf rec ≡ l
-  test-leader l e = let h = test-from (test-right l e) in cc
-
 pub record NoBackFacts (l : Leader) : Type 0 where
   pub block : l .mfbwb .0 ≡ 0
   pub offset : l .mfbwp ≡ 0

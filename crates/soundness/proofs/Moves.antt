@@ -212,10 +212,6 @@ module _ {mst xrf mst′ : List ℕ} {m at n : ℕ} (s : Sound mst xrf) (w : Mst
       place-kept o p f (step-other o (placeAddress p) ne (f .step) (place-reads f))
       (λ c. step-other o (backAddress (leaderAt mst p)) ne (f .settled c .step) (settled-reads f c))
 
-  -- m's own place, where nothing before the end is touched
-  pub old-kept : (p : Place) → endOf mst ≤ at → PlaceStands mst m p → Kept mst mst′ m p
-  old-kept p h f = place-kept m p f (step-before h (placeAddress p) (f .step)) (λ c. step-before h (backAddress (leaderAt mst p)) (f .settled c .step))
-
   -- m's own settled version, which is at another step
   pub settled-kept : (p : Place) → entryFor mst xrf m ≡ At p → PlaceStands mst m p → p .mark ≡ Changed
       → ReadsAs (recordFrom mst′ (backAddress (leaderAt mst p))) m false (leaderOf (settledRecord mst p)) (fieldsOf (settledRecord mst p))

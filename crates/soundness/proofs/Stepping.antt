@@ -213,12 +213,6 @@ pub elem-right : (a : ℕ) (l r : List ℕ) → elem a r ≡ true → elem a (l 
 elem-right a [] r h = h
 elem-right a (s ∷ l) r h = elem-there a s (l ++ r) (elem-right a l r h)
 
-pub elem-append : (a : ℕ) (l r : List ℕ) → elem a (l ++ r) ≡ true → (elem a l ≡ true) ⊎ (elem a r ≡ true)
-elem-append a [] r h = inr h
-elem-append a (s ∷ l) r h =
-    ⊎-elim (λ e. inl (rw e (elem-here s l)))
-    (λ i. ⊎-elim (λ j. inl (elem-there a s l j)) (λ j. inr j) (elem-append a l r i)) (elem-cases a s (l ++ r) h)
-
 -- ---- members of the steps
 
 module _ (mst : List ℕ) (end : ℕ) where
@@ -235,13 +229,6 @@ module _ (mst : List ℕ) (end : ℕ) where
   -- and goes on from the next step, which is not past the end
   pub way-on : (at : ℕ) → at + 18 ≤ end → arrives mst end at ≡ true → arrives mst end (nextStep mst end at) ≡ true
   way-on at room way = sym (arrives-more mst end at room) ∙ way
-
-  pub arrives-in : (at : ℕ) → arrives mst end at ≡ true → at ≤ end
-  arrives-in at way = pick (decLe (at + 18) end)
-    where
-      pick : Dec (at + 18 ≤ end) → at ≤ end
-      pick (yes room) = omega arith
-      pick (no full) = let q : at ≡ end = eqb-true at end (sym (arrives-end mst end at (omega arith)) ∙ way) in omega arith
 
   -- a member that the first step is, or that is one of the rest
   pub steps-cases : (at s : ℕ) → at + 18 ≤ end → elem s (steps mst end at) ≡ true → (s ≡ at) ⊎ (elem s (steps mst end (nextStep mst end at)) ≡ true)

@@ -532,10 +532,6 @@ module _ {mst xrf : List ℕ} (s : Sound mst xrf) (m : ℕ) (p : Place) (low : 1
         rw z (reads-mfrl over-it (placeAddress p) (endOf mst - placeAddress p) again-read ∙ sym old-mfrl) in
         (rw (z, again-length) at (mst-within s m high p e here 0 bs inside same), rw z at (within-end s m high p e here 0 bs inside same))
 
-    pub in-place-moved : MstMoved mst xrf (versionInPlace mst m p (leaderAt mst p) deleted fs) m (placeAddress p) (leaderAt mst p .mfrl)
-    unfolding versionInPlace versionLeader
-    in-place-moved = again-within .0
-
     -- whatever entry names the place, with the same mark
     in-place-leaves : {xrf′ : List ℕ} → XrfMoved xrf xrf′ m → (q : Place) → entryFor over-it xrf′ m ≡ At q → q .deleted ≡ deleted → q .mark ≡ p .mark
         → placeAddress q ≡ placeAddress p → Leaves mst xrf over-it xrf′ m (endOf mst) (nextOf mst) q (leaderAt mst p .mfrl) fs (fieldsOf (settledRecord mst p))

@@ -68,9 +68,6 @@ Refusing a = numberOf a ≡ 0 → ⊥
 pub refusing-not-done : (a : Answer) → Refusing a → a ≡ Done → ⊥
 refusing-not-done a h e = h (ap numberOf e ∙ done-number)
 
-pub not-done-refusing : (a : Answer) → (a ≡ Done → ⊥) → Refusing a
-not-done-refusing a h e = h (number-done a e)
-
 -- what holds after a call that is done, and after one that is refused
 pub after-done : {A : Type 0} (a : Answer) (new old : A) → a ≡ Done → after a new old ≡ new
 unfolding after numberOf
@@ -286,10 +283,6 @@ abbrev namedList : Bool → Entry → Bool → Answer → Answer
 namedList known e ok rest =
     cond (not known) NoSuchMfn (cond (isMalformed e) BadEntry (cond (isGone e) PhysicallyDeleted (cond (not ok) BadRecord rest)))
 
-pub named-passes : (mst xrf : List ℕ) (m : ℕ) (p : Place) (ok : Bool) (rest : List Refusal) → mfnKnown mst m ≡ true → entryFor mst xrf m ≡ At p → ok ≡ true
-    → lowest (named mst xrf m ok rest) ≡ lowest rest
-named-passes mst xrf m p ok rest a b c = rw (a, b, c)
-
 entry-placed : (e : Entry) → isMalformed e ≡ false → isGone e ≡ false → e ≡ At (placeIn e)
 entry-placed Gone h k = absurd (false-true (sym k))
 entry-placed Malformed h k = absurd (false-true (sym h))
@@ -475,20 +468,6 @@ module _ (mst xrf : List ℕ) (m : ℕ) (p : Place) (l : Leader) where
         settled-fine = λ c. changed-fine v c;
         settled = λ c. rw (k .leader-is) (settled-facts mst m p (k .record-fine) c (changed-fine v c));
       }
-
--- the whole list of a call that names an MFN, behind an open gate
-pub planned : (mst xrf : List ℕ) (m : ℕ) (next : Mfn) (end : ℕ) (p : Place) (l : Leader) → OpenFacts mst xrf next end → KnownFacts mst xrf m p l
-    → Planned mst xrf m end p l
-planned mst xrf m next end p l o k =
-    record {
-      lengths = o .lengths;
-      control = o .control;
-      known = k .known;
-      entry = k .entry;
-      fine = k .record-fine;
-      leader = k .leader-is;
-      end-is = o .end-is;
-    }
 
 -- and back, from what a plan knows
 pub planned-open : (mst xrf : List ℕ) (m end : ℕ) (p : Place) (l : Leader) → Planned mst xrf m end p l → OpenFacts mst xrf (record { 0 = nextOf mst }) end

@@ -1,29 +1,28 @@
 -- Which plan each call makes, by what its steps found. Each law's premises are what is known at one `return`, so that `search` finds them
 -- there wherever they stand; a step's result is a variable with what the step ensures of it.
-use Prim.Native.Nat.{ℕ, _+_, _*_, _-_, _/_, _%_, _≤_, _<_}
+use Prim.Native.Nat.{ℕ, _+_, _-_, _/_, _≤_, _<_}
 use native.Mathlib.Omega.{arith}
 use mathlib.Core.Path.{_≡_, refl, sym, ap, _∙_}
-use mathlib.Core.Bool.{Bool, true, false, not, _&&_, _||_, cond}
+use mathlib.Core.Bool.{Bool, true, false, not, _&&_, cond}
 use mathlib.Core.List.{List, [], _∷_}
-use lib.Dec.{ltb, eqb}
+use lib.Dec.{ltb}
 use lib.ListN.{length}
 use borrow.Author.Tests.{lt-ltb, le-ltb, eq-eqb, ne-eqb, not-true, not-false}
 use denote.Enum.Declared.{tagOf}
 use types.Run.{OneOf, miss}
 use Rattle.layout.specs.Sizes.{capacityOf}
 use Rattle.layout.specs.Control.{nextOf, endOf}
-use Rattle.layout.specs.CrossReference.{xrfBlock, headRight, slotFree}
+use Rattle.layout.specs.CrossReference.{headRight, slotFree}
 use Rattle.layout.specs.declared.sizes.Mfn.{Mfn}
 use Rattle.layout.specs.declared.entry.Mark.{Mark}
 use Rattle.layout.specs.declared.entry.Mark.the-variants.{Settled, Changed, New}
 use Rattle.layout.specs.declared.entry.Place.{Place}
 use Rattle.layout.specs.declared.leader.Leader.{Leader}
-use Rattle.layout.proofs.Tests.{and-false}
 use Rattle.layout.proofs.entry.Mark as mark
 use Rattle.record.specs.Draft.{needOf, draftRight, draftFields}
 use Rattle.record.specs.Bytes.{needFor}
 use Rattle.record.proofs.Draftable.{draft-need}
-use Rattle.store.specs.Answer.{numberOf, refuse, lowest, after}
+use Rattle.store.specs.Answer.{numberOf, refuse, after}
 use Rattle.store.specs.Reading.{lengthsPermitted, controlFine, mfnKnown, entryFor, placeFor, isMalformed, isGone, isSettled, isNew, leaderAt, currentFields}
 use Rattle.store.specs.Refusals.{fine, bothFine, exceeds, createAnswer, updateAppends, updateAnswer, deleteAnswer, settleAnswer, revertAnswer}
 use Rattle.store.specs.Steps.{gateOf, knownIf, knownOf, knownBoth, settlePlan, revertPlan, slotAnswer, SlotAsked, createPlan, planIf, updatePlan, deletePlan, roomPlan}
@@ -31,7 +30,6 @@ use Rattle.store.specs.Views.{gateAnswer, knownAnswer}
 use Rattle.store.specs.Writing.{RecordRead}
 use Rattle.store.specs.declared.answer.Answer.{Answer}
 use Rattle.store.specs.declared.answer.Answer.the-variants.{Done, BadLength, BadControl, BadDraft, NoSuchMfn, Full, BadEntry, PhysicallyDeleted, BadRecord, Deleted, NotPending, NeverSettled, NoField, NoRoom, Unsound}
-use Rattle.store.specs.declared.create.Creating.{Creating}
 use Rattle.store.specs.declared.create.Creating.the-variants.{Write, Unwritten}
 use Rattle.store.specs.declared.gate.Gate.{Gate}
 use Rattle.store.specs.declared.gate.Gate.the-variants.{Open, Shut}
@@ -41,7 +39,7 @@ use Rattle.store.specs.declared.versions.Plan.{Plan}
 use Rattle.store.specs.declared.versions.Plan.the-variants.{Append, InPlace, Refuse}
 use Rattle.store.proofs.answer.Answer as answer
 use Rattle.store.proofs.Told.{draft-fits, read-known}
-use Rattle.store.proofs.Gates.{Refusing, refused-is, done-is, gate-shut, OpenFacts, gate-open, known-refused, both-refused, KnownFacts, known-facts, BothFacts, both-facts}
+use Rattle.store.proofs.Gates.{Refusing, refused-is, done-is, gate-shut, OpenFacts, gate-open, known-refused, both-refused, KnownFacts, known-facts, both-facts}
 
 -- ---- variants that are left in an `else`
 

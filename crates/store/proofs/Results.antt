@@ -1,14 +1,14 @@
 -- What a plan tells the writing half, and what the call then returns. A plan that is not a refusal is made where the call's answer is done, so
 -- none of the call's refusals applies; with what the writing half left, that gives the call's answer and both buffers.
-use Prim.Native.Nat.{ℕ, _+_, _*_, _≤_, _<_}
+use Prim.Native.Nat.{ℕ, _+_, _≤_}
 use native.Mathlib.Omega.{arith}
 use mathlib.Core.Path.{_≡_, refl, sym, ap, _∙_}
-use mathlib.Core.Logic.{_⊎_, ⊎-elim}
+use mathlib.Core.Logic.{⊎-elim}
 use mathlib.Core.Bool.{Bool, true, false, not, _&&_, _||_, cond}
 use mathlib.Core.List.{List}
 use lib.Dec.{eqb}
 use lib.ListN.{length}
-use borrow.Author.Tests.{eqb-false, ltb-false, not-true, not-false}
+use borrow.Author.Tests.{eqb-false, ltb-false, not-false}
 use Rattle.layout.specs.Sizes.{mstPermitted, xrfPermitted, capacityOf}
 use Rattle.layout.specs.Entry.{placed, placeAddress}
 use Rattle.layout.specs.Control.{nextOf, endOf, formattedMst}
@@ -25,7 +25,7 @@ use Rattle.record.specs.Fields.{Field}
 use Rattle.record.specs.Bytes.{needFor}
 use Rattle.record.proofs.Draftable.{draft-need}
 use Rattle.store.specs.Answer.{numberOf, after}
-use Rattle.store.specs.Reading.{lengthsPermitted, controlFine, mfnKnown, entryFor, placeFor, isSettled, isNew, leaderAt, recordFine, versionFine, currentFields}
+use Rattle.store.specs.Reading.{lengthsPermitted, controlFine, mfnKnown, entryFor, placeFor, isSettled, isNew, leaderAt, currentFields}
 use Rattle.store.specs.Refusals.{fine, bothFine, exceeds, formatAnswer, createAnswer, updateAppends, updateAnswer, deleteAnswer, settleAnswer, revertAnswer}
 use Rattle.store.specs.Calls.{placeAtEnd, pendingMark, versionAppended, versionInPlace, formatMst, formatXrf, createdMst, createdXrf, createOf, createMst, createXrf, updatedMst, updatedXrf, updateMst, updateXrf, deletedMst, deletedXrf, deleteMst, deleteXrf, settledMst, settledXrf, settleMst, settleXrf, revertedXrf, revertXrf}
 use Rattle.store.specs.Steps.{knownIf, settlePlan, revertPlan, createPlan, creatingAnswer, planIf, updatePlan, deletePlan, Planned}
@@ -40,7 +40,7 @@ use Rattle.store.specs.declared.gate.Known.{Known}
 use Rattle.store.specs.declared.gate.Known.the-variants.{Record, Refused}
 use Rattle.store.specs.declared.versions.Plan.{Plan}
 use Rattle.store.specs.declared.versions.Plan.the-variants.{Append, InPlace, Refuse}
-use Rattle.store.proofs.Gates.{Refusing, after-refused, after-cases, passed, gate-done, named-done, lengths-both, OpenFacts, open-from, KnownFacts, BackFacts, back-changed, planned-open, planned-known}
+use Rattle.store.proofs.Gates.{Refusing, after-refused, after-cases, passed, gate-done, named-done, lengths-both, OpenFacts, open-from, back-changed, planned-open, planned-known}
 use Rattle.store.proofs.Told.{need-low, draft-fits, at-end, slot-known, read-known, read-own}
 
 -- ---- plans of answers that are done

@@ -7,11 +7,15 @@ use Prim.Native.Nat.{ℕ, zero, suc, _+_, _*_, _/_, _%_, _^_, _<_, _≤_}
 use native.Mathlib.Nat.{add-zero, suc-add, add-assoc, pow-zero, pow-succ', mod-eq-of-lt, add-mul-mod-self-left, add-mul-div-left, div-eq-of-lt}
 use native.Mathlib.Numerals.{add-one}
 use native.Mathlib.Omega.{arith}
-use lib.ListN.{length, getD, take, drop, set, List·getD-append}
+use lib.ListN.{length, getD, take, drop, set}
 use lib.Seq.{drop-cons, getD-take, getD-drop, getD-append-add}
 use Rattle.word.specs.Integer.{u16At, u32At, le}
 use Rattle.word.specs.Place.{place, part}
 use Rattle.word.proofs.Place.{place-inside, place-before, place-after, place-stores}
+
+-- every element is below 256, in the form in which the borrow checker tells it of a slice of u8: at any index, which past the end reads as 0
+abbrev pub Bytes : List ℕ → Type 0
+Bytes d = (i : ℕ) → getD d i 0 < 256
 
 -- the integer of k bytes at an offset
 unfoldable pub numberAt : ℕ → List ℕ → ℕ → ℕ
@@ -54,17 +58,7 @@ pub le-length : (k n : ℕ) → length (le k n) ≡ k
 le-length zero n = refl
 le-length (suc k) n = ap suc (le-length k (n / 256))
 
-pub le-byte : (k n i : ℕ) → getD (le k n) i 0 < 256
-le-byte zero n i = omega arith
-le-byte (suc k) n zero = omega arith
-le-byte (suc k) n (suc i) = le-byte k (n / 256) i
-
-module _ (s : List ℕ) (small : (i : ℕ) → getD s i 0 < 256) where
-  pub number-bound : (k at : ℕ) → numberAt k s at < 256 ^ k
-  unfolding numberAt
-  number-bound zero at = omega (arith, pow-zero 256)
-  number-bound (suc k) at = omega (arith, pow-succ' 256 k, small at, number-bound k (at + 1))
-
+module _ (s : List ℕ) (small : Bytes s) where
   -- the bytes of the integer at an offset are those that stand there
   pub number-back : (k at : ℕ) → at + k ≤ length s → le k (numberAt k s at) ≡ part s at k
   unfolding numberAt
@@ -87,9 +81,6 @@ module _ (k : ℕ) where
 
   pub number-part : (d : List ℕ) (a n i : ℕ) → i + k ≤ n → numberAt k (part d a n) i ≡ numberAt k d (a + i)
   number-part d a n i h = number-take n (drop a d) i h ∙ number-drop a d i
-
-  pub number-left : (p q : List ℕ) (i : ℕ) → i + k ≤ length p → numberAt k (p ++ q) i ≡ numberAt k p i
-  number-left p q i h = number-same (p ++ q) p k i i (λ m l. List·getD-append p q 0 (i + m) (omega arith))
 
   pub number-right : (p q : List ℕ) (n i : ℕ) → length p ≡ n → numberAt k (p ++ q) (n + i) ≡ numberAt k q i
   number-right p q n i e = number-same (p ++ q) q k (n + i) i (λ m l. rw (← e, add-assoc) (getD-append-add p q (i + m) 0))
@@ -125,15 +116,6 @@ u32-same x y i j h = simp u32-is (number-same x y 4 i j h)
 pub u16-drop : (d : List ℕ) (a i : ℕ) → u16At (drop a d) i ≡ u16At d (a + i)
 u16-drop d a i = simp u16-is (number-drop 2 a d i)
 
-pub u32-drop : (d : List ℕ) (a i : ℕ) → u32At (drop a d) i ≡ u32At d (a + i)
-u32-drop d a i = simp u32-is (number-drop 4 a d i)
-
-pub u16-take : (d : List ℕ) (n i : ℕ) → i + 2 ≤ n → u16At (take n d) i ≡ u16At d i
-u16-take d n i h = simp u16-is (number-take 2 n d i h)
-
-pub u32-take : (d : List ℕ) (n i : ℕ) → i + 4 ≤ n → u32At (take n d) i ≡ u32At d i
-u32-take d n i h = simp u32-is (number-take 4 n d i h)
-
 pub u16-part : (d : List ℕ) (a n i : ℕ) → i + 2 ≤ n → u16At (part d a n) i ≡ u16At d (a + i)
 u16-part d a n i h = simp u16-is (number-part 2 d a n i h)
 
@@ -141,12 +123,6 @@ pub u32-part : (d : List ℕ) (a n i : ℕ) → i + 4 ≤ n → u32At (part d a 
 u32-part d a n i h = simp u32-is (number-part 4 d a n i h)
 
 -- in one of two lists
-
-pub u16-left : (p q : List ℕ) (i : ℕ) → i + 2 ≤ length p → u16At (p ++ q) i ≡ u16At p i
-u16-left p q i h = simp u16-is (number-left 2 p q i h)
-
-pub u32-left : (p q : List ℕ) (i : ℕ) → i + 4 ≤ length p → u32At (p ++ q) i ≡ u32At p i
-u32-left p q i h = simp u32-is (number-left 4 p q i h)
 
 pub u16-right : (p q : List ℕ) (n i : ℕ) → length p ≡ n → u16At (p ++ q) (n + i) ≡ u16At q i
 u16-right p q n i e = simp u16-is (number-right 2 p q n i e)
@@ -170,9 +146,6 @@ u32-le-at p n rest at e h = ap (u32At (p ++ (le 4 n ++ rest))) (sym (add-zero at
 
 -- after a place
 
-pub u16-placed : (d : List ℕ) (at n : ℕ) → at + 2 ≤ length d → n < 65536 → u16At (place d at (le 2 n)) at ≡ n
-u16-placed d at n h b = u16-is (place d at (le 2 n)) at ∙ number-placed 2 d at n (omega arith) b
-
 pub u32-placed : (d : List ℕ) (at n : ℕ) → at + 4 ≤ length d → n < 4294967296 → u32At (place d at (le 4 n)) at ≡ n
 u32-placed d at n h b = u32-is (place d at (le 4 n)) at ∙ number-placed 4 d at n (omega arith) b
 
@@ -190,16 +163,10 @@ u32-other d at xs j h side = simp u32-is (number-other 4 d at xs j h side)
 
 -- where every byte is below 256
 
-pub u16-bound : (d : List ℕ) (at : ℕ) → ((i : ℕ) → getD d i 0 < 256) → u16At d at < 65536
-u16-bound d at small = rw (u16-is d at) (number-bound d small 2 at)
-
-pub u32-bound : (d : List ℕ) (at : ℕ) → ((i : ℕ) → getD d i 0 < 256) → u32At d at < 4294967296
-u32-bound d at small = rw (u32-is d at) (number-bound d small 4 at)
-
-pub u16-back : (d : List ℕ) (at : ℕ) → ((i : ℕ) → getD d i 0 < 256) → at + 2 ≤ length d → le 2 (u16At d at) ≡ part d at 2
+pub u16-back : (d : List ℕ) (at : ℕ) → Bytes d → at + 2 ≤ length d → le 2 (u16At d at) ≡ part d at 2
 u16-back d at small h = ap (le 2) (u16-is d at) ∙ number-back d small 2 at h
 
-pub u32-back : (d : List ℕ) (at : ℕ) → ((i : ℕ) → getD d i 0 < 256) → at + 4 ≤ length d → le 4 (u32At d at) ≡ part d at 4
+pub u32-back : (d : List ℕ) (at : ℕ) → Bytes d → at + 4 ≤ length d → le 4 (u32At d at) ≡ part d at 4
 u32-back d at small h = ap (le 4) (u32-is d at) ∙ number-back d small 4 at h
 
 -- stores of the bytes of n, one after the other: j, k, l are where the stores go, a, b, c, e what they store

@@ -1,7 +1,7 @@
 -- Laws of `place` and `part`. Where the offset is within the list, place d at xs is three runs, take at d, xs and drop (at + length xs) d,
 -- and the first is `at` long. So each law cuts a list at the two seams, and what follows from a cut is stated for a byte (getD), a front
 -- (take), a rest (drop) and a part. The laws of two places say how they join, and those at the end what the borrow checker hands back of a
--- lent part of a slice.
+-- lent tail of a slice.
 use mathlib.Core.Path.{_≡_, refl, sym, ap, _∙_}
 use mathlib.Core.Logic.{_⊎_, inl, inr, ⊎-elim}
 use mathlib.Core.Bool.{Bool, true, false}
@@ -12,7 +12,7 @@ use native.Mathlib.Numerals.{add-one}
 use native.Mathlib.Omega.{arith}
 use lib.Dec.{ltb}
 use lib.ListN.{length, getD, take, drop, set, length-append, length-take, length-drop, take-append-drop, drop-of-length-le, List·getD-append}
-use lib.Seq.{length-take-le, take-all, take-nil, take-at, drop-at, take-take, take-add, drop-drop, take-append-le, drop-append-le, take-append-add, drop-append-add, getD-take, getD-drop, set-split, sets, sets-eq}
+use lib.Seq.{length-take-le, take-all, take-nil, take-at, drop-at, take-take, take-add, drop-drop, take-append-le, drop-append-le, take-append-add, getD-take, getD-drop, set-split, sets, sets-eq}
 use borrow.Author.Tests.{ltb-true, ltb-false}
 use borrow.Rule.Slice.PartMut.{midOf, putMid}
 use Rattle.word.specs.Place.{place, part}
@@ -56,15 +56,6 @@ part-take d n a m h = part-part d 0 n a m h ∙ ap (λ (k : ℕ). part d k m) (z
 -- two parts, one after the other
 pub part-add : (d : List ℕ) (a n m : ℕ) → part d a (n + m) ≡ part d a n ++ part d (a + n) m
 part-add d a n m = take-add n m (drop a d) ∙ ap (λ (r : List ℕ). part d a n ++ take m r) (drop-drop n a d)
-
--- parts of two lists
-pub part-left : (xs ys : List ℕ) (a n : ℕ) → a + n ≤ length xs → part (xs ++ ys) a n ≡ part xs a n
-part-left xs ys a n h =
-    let k : length (drop a xs) ≡ length xs - a = length-drop a xs in
-    ap (take n) (drop-append-le a xs ys (omega arith)) ∙ take-append-le n (drop a xs) ys (omega arith)
-
-pub part-right : (xs ys : List ℕ) (a n : ℕ) → part (xs ++ ys) (length xs + a) n ≡ part ys a n
-part-right xs ys a n = ap (take n) (drop-append-add xs ys a)
 
 -- ---- one place
 
@@ -140,19 +131,16 @@ module _ (d : List ℕ) (at : ℕ) (xs : List ℕ) where
 
   -- ---- a part
 
-  pub place-part-same : at ≤ length d → part (place d at xs) at (length xs) ≡ xs
-  place-part-same h = ap (take (length xs)) (place-drop-at h) ∙ take-at xs (drop (at + length xs) d) (length xs) refl
-
-  pub place-part-before : (a n : ℕ) → at ≤ length d → a + n ≤ at → part (place d at xs) a n ≡ part d a n
-  place-part-before a n h k = sym (drop-take a n (place d at xs)) ∙ ap (drop a) (place-take (a + n) h k) ∙ drop-take a n d
-
   pub place-part-after : (a n : ℕ) → at + length xs ≤ a → part (place d at xs) a n ≡ part d a n
   place-part-after a n h = ap (take n) (place-drop-after a h)
 
-  pub place-part-other : (a n : ℕ) → at ≤ length d → (a + n ≤ at) ⊎ (at + length xs ≤ a) → part (place d at xs) a n ≡ part d a n
-  place-part-other a n h side = ⊎-elim (place-part-before a n h) (place-part-after a n) side
+  -- where it was placed: that, then what stood behind it
+  pub part-placed : (n : ℕ) → at ≤ length d → length xs ≤ n → part (place d at xs) at n ≡ xs ++ part d (at + length xs) (n - length xs)
+  part-placed n h k =
+      let s : length xs + (n - length xs) ≡ n = omega arith in
+      ap (take n) (place-drop-at h) ∙ rw s at (take-append-add xs (drop (at + length xs) d) (n - length xs))
 
--- ---- what changes nothing
+-- ---- what changes nothing, and what changes all
 
 pub place-none : (d : List ℕ) (at : ℕ) → place d at [] ≡ d
 place-none d at = place-is d at [] ∙ rw (add-zero, append-nil, take-append-drop)
@@ -162,60 +150,35 @@ place-same d at n h =
     place-is d at (part d at n)
     ∙ rw (part-length d at n h, ← drop-drop n at d, append-assoc, take-append-drop, take-append-drop)
 
--- ---- a place in one of two lists
+pub place-whole : (d xs : List ℕ) → length xs ≡ length d → place d 0 xs ≡ xs
+place-whole d xs e = place-is d 0 xs ∙ rw (drop-of-length-le d {i = 0 + length xs} (omega arith), append-nil xs)
 
-pub place-left : (xs ys : List ℕ) (i : ℕ) (zs : List ℕ) → i + length zs ≤ length xs → place (xs ++ ys) i zs ≡ place xs i zs ++ ys
-place-left xs ys i zs h =
-    let k : i ≤ length xs = omega arith in
-    rw (place-is (xs ++ ys) i zs, place-is xs i zs, take-append-le i xs ys k, drop-append-le (i + length zs) xs ys h) (simp append-assoc)
+-- ---- a place in what follows the first bytes
 
-pub place-right : (xs ys : List ℕ) (i : ℕ) (zs : List ℕ) → place (xs ++ ys) (length xs + i) zs ≡ xs ++ place ys i zs
-place-right xs ys i zs =
-    rw (place-is (xs ++ ys) (length xs + i) zs, place-is ys i zs, take-append-add, add-assoc, drop-append-add) (simp append-assoc)
-
--- a place in what follows the first a bytes is a place in the whole
+-- is a place in the whole
 pub place-in-part : (d : List ℕ) (a i : ℕ) (xs : List ℕ) → take a d ++ place (drop a d) i xs ≡ place d (a + i) xs
 place-in-part d a i xs =
     rw (place-is (drop a d) i xs, place-is d (a + i) xs, take-add a i d, drop-drop (i + length xs) a d, ← add-assoc a i (length xs)) (simp append-assoc)
 
+-- and is found there
+pub drop-placed : (d : List ℕ) (at i : ℕ) (xs : List ℕ) → at ≤ length d → drop at (place d (at + i) xs) ≡ place (drop at d) i xs
+drop-placed d at i xs h =
+    ap (drop at) (sym (place-in-part d at i xs)) ∙ drop-at (take at d) (place (drop at d) i xs) at (length-take-le at d h)
+
 -- ---- two places
 
-module _ (d : List ℕ) (at : ℕ) (xs ys : List ℕ) (h : at ≤ length d) where
-  pub place-over : length xs ≤ length ys → place (place d at xs) at ys ≡ place d at ys
-  place-over l =
-      rw (
-        place-is (place d at xs) at ys,
-        place-is d at ys,
-        place-take d at xs at h (le-refl at),
-        place-drop-after d at xs (at + length ys) (omega arith),
-      )
-
-  pub place-again : length xs ≡ length ys → place (place d at xs) at ys ≡ place d at ys
-  place-again e = place-over (omega arith)
-
-  pub place-next : place (place d at xs) (at + length xs) ys ≡ place d at (xs ++ ys)
-  place-next =
-      rw (
-        place-is (place d at xs) (at + length xs) ys,
-        place-is d at (xs ++ ys),
-        place-front d at xs h,
-        place-drop-after d at xs (at + length xs + length ys) (omega arith),
-        length-append xs ys,
-        ← add-assoc at (length xs) (length ys),
-        append-assoc (take at d) xs ys,
-      )
-
-  pub place-inner : (k : ℕ) → k + length ys ≤ length xs → place (place d at xs) (at + k) ys ≡ place d at (place xs k ys)
-  place-inner k l =
-      let rest : List ℕ = drop (at + length xs) d in
-      rw (
-        ← place-in-part (place d at xs) at k ys,
-        place-take d at xs at h (le-refl at),
-        place-drop-at d at xs h,
-        place-left xs rest k ys l,
-        place-runs d at (place xs k ys),
-        place-length xs k ys l,
-      )
+-- one right behind the other
+pub place-next : (d : List ℕ) (at : ℕ) (xs ys : List ℕ) → at ≤ length d → place (place d at xs) (at + length xs) ys ≡ place d at (xs ++ ys)
+place-next d at xs ys h =
+    rw (
+      place-is (place d at xs) (at + length xs) ys,
+      place-is d at (xs ++ ys),
+      place-front d at xs h,
+      place-drop-after d at xs (at + length xs + length ys) (omega arith),
+      length-append xs ys,
+      ← add-assoc at (length xs) (length ys),
+      append-assoc (take at d) xs ys,
+    )
 
 -- the one that lies before may be done first or last
 pub place-commute : (d : List ℕ) (a : ℕ) (xs : List ℕ) (b : ℕ) (ys : List ℕ) → a + length xs ≤ b → b ≤ length d
@@ -261,30 +224,15 @@ place-more d at xs v h =
 
 -- ---- a lent part of a slice, as the borrow checker has it: midOf a k d is lent, and when it is back with ys the slice is putMid a k d ys
 
--- `&s[a..e]` and `&mut s[a..e]`, with k = e - a
-pub lent-part : (d : List ℕ) (a k : ℕ) → midOf a k d ≡ part d a k
-lent-part d a k = refl
-
 -- `&s[a..]` and `&mut s[a..]`
 pub lent-tail : (d : List ℕ) (a : ℕ) → midOf a (length d - a) d ≡ drop a d
 lent-tail d a = take-all (length d - a) (drop a d) (simp length-drop (le-refl _))
-
--- the part comes back as ys whole
-pub returned-whole : (d : List ℕ) (a k : ℕ) (ys : List ℕ) → length ys ≡ k → putMid a k d ys ≡ place d a ys
-returned-whole d a k ys e = rw (place-runs d a ys, drop-drop k a d, e)
 
 -- the tail comes back
 pub tail-back : (d : List ℕ) (a : ℕ) (ys : List ℕ) → putMid a (length d - a) d ys ≡ take a d ++ ys
 tail-back d a ys =
     let e : drop (length d - a) (drop a d) ≡ [] = drop-of-length-le (drop a d) {i = length d - a} (simp length-drop (le-refl _)) in
     rw (e, append-nil ys)
-
--- the part comes back with xs placed in it
-pub returned-part : {last : List ℕ} (d : List ℕ) (a k i : ℕ) (xs : List ℕ) → a + k ≤ length d → i + length xs ≤ k
-    → last ≡ place (midOf a k d) i xs → putMid a k d last ≡ place d (a + i) xs
-returned-part d a k i xs h l e =
-    let f : i + length xs ≤ length (part d a k) = rw (part-length d a k h) l in
-    rw (e, ← place-left (part d a k) (drop k (drop a d)) i xs f, take-append-drop) (place-in-part d a i xs)
 
 -- the tail comes back with xs placed in it
 pub returned-tail : {last : List ℕ} (d : List ℕ) (a i : ℕ) (xs : List ℕ) → last ≡ place (midOf a (length d - a) d) i xs
