@@ -80,9 +80,6 @@ ends m (settle k) = eqb k m
 ends m (revert k) = eqb k m
 ends m check = false
 
-true-false : true ≡ false → ⊥
-true-false e = false-true (sym e)
-
 -- a call that is done knows its MFN
 no-length : Refusing BadLength
 unfolding numberOf
@@ -223,7 +220,7 @@ module _ (L : Ledger) (m : ℕ) (old : List Field) (p : Pending L m old) where
   -- one call that does not end it
   pub pending-kept : (c : Call) → ends m c ≡ false → Pending (nextL L c) m old
   unfolding nextL ends created
-  pending-kept format e = absurd (true-false e)
+  pending-kept format e = absurd (false-true (sym e))
   pending-kept (view k tag occ) e = p
   pending-kept (viewSettled k tag occ) e = p
   pending-kept (create tags lens bytes) e =

@@ -13,7 +13,7 @@ use Rattle.layout.specs.declared.entry.Mark.{Mark}
 use Rattle.layout.specs.declared.entry.Mark.the-variants.{Settled, Changed, New}
 use Rattle.layout.specs.declared.entry.Place.{Place}
 use Rattle.layout.specs.declared.entry.Entry.the-variants.{Gone}
-use Rattle.layout.proofs.Tests.{tests}
+use Rattle.layout.proofs.Tests.{tests, cond-holds}
 use Rattle.record.specs.Fields.{fieldsOf, fieldNamed, findOf}
 use Rattle.record.specs.declared.fields.Found.{Found}
 use Rattle.record.proofs.Local.{ReadsAs, right-reads}
@@ -51,10 +51,6 @@ settled-reads : (mst : List ℕ) (m : ℕ) (p : Place) → settledFine mst m p �
     → ReadsAs (settledRecord mst p) m false (leaderOf (settledRecord mst p)) (fieldsOf (settledRecord mst p))
 unfolding settledFine
 settled-reads mst m p e = right-reads (settledRecord mst p) m false ((simp tests at e) .0)
-
--- what is asked where a test holds
-asked : (b f : Bool) → b ≡ true → cond b f true ≡ true → f ≡ true
-asked b f e h = rw e at h
 
 -- a refused view shows nothing, whatever the ledger's field
 shown-none : (d : List ℕ) (a : Answer) (at : ℕ) (f : Found) (b : List ℕ) → Refusing a → shownBytes d (shownAt a at f) ≡ after a b []
@@ -109,7 +105,7 @@ module _ (s : Store) (o : Opened s) where
   unfolding versionFine
   version-shown m tag occ p f v Settled q = shown-done (s .mst) (placeAddress p) (endOf (s .mst) - placeAddress p) (current-reads (s .mst) m p f) tag occ
   version-shown m tag occ p f v Changed q =
-      shown-done (s .mst) (backAddress (leaderAt (s .mst) p)) (endOf (s .mst) - backAddress (leaderAt (s .mst) p)) (settled-reads (s .mst) m p (asked (isChanged (p .mark)) (settledFine (s .mst) m p) (ap isChanged q) v)) tag occ
+      shown-done (s .mst) (backAddress (leaderAt (s .mst) p)) (endOf (s .mst) - backAddress (leaderAt (s .mst) p)) (settled-reads (s .mst) m p (cond-holds (isChanged (p .mark)) (settledFine (s .mst) m p) v (ap isChanged q))) tag occ
   version-shown m tag occ p f v New q = shown-done (s .mst) (placeAddress p) (endOf (s .mst) - placeAddress p) (current-reads (s .mst) m p f) tag occ
 
   settled-absent : (m tag occ : ℕ) → mfnKnown (s .mst) m ≡ false → settledViewAnswer (s .mst) (s .xrf) m tag occ ≡ NoSuchMfn

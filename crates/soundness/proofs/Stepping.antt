@@ -237,28 +237,14 @@ module _ (mst : List ℕ) (end : ℕ) where
   pub steps-none : (at s : ℕ) → end < at + 18 → elem s (steps mst end at) ≡ true → ⊥
   steps-none at s full i = elem-none s (rw (steps-end mst end at full) at i)
 
+-- one of the steps from an address on
 pub record MemberFacts (mst : List ℕ) (end at s : ℕ) : Type 0 where
   pub from : at ≤ s
   pub room : s + 18 ≤ end
-  pub right : stepRight mst end s ≡ true
-  pub mfrl : recordLength (mfrlAt mst s) ≡ true
-  pub even : mfrlAt mst s % 2 ≡ 0
-  pub low : 18 ≤ mfrlAt mst s
-  pub high : mfrlAt mst s ≤ 32766
-  pub stops : s + mfrlAt mst s ≤ end
+  pub step : StepFacts mst end s
 
 member-from : {mst : List ℕ} {end at next s : ℕ} → at ≤ next → MemberFacts mst end next s → MemberFacts mst end at s
-member-from h f =
-    record {
-      from = omega (arith, f .from);
-      room = f .room;
-      right = f .right;
-      mfrl = f .mfrl;
-      even = f .even;
-      low = f .low;
-      high = f .high;
-      stops = f .stops;
-    }
+member-from h f = record { from = omega (arith, f .from); room = f .room; step = f .step }
 
 pub member-facts : (mst : List ℕ) (end s at : ℕ) → arrives mst end at ≡ true → elem s (steps mst end at) ≡ true → MemberFacts mst end at s
 member-facts mst end s =
@@ -267,19 +253,7 @@ member-facts mst end s =
     (λ at room ih way i. ⊎-elim (here at room way) (there at room way ih) (steps-cases mst end at s room i))
   where
     here : (at : ℕ) → at + 18 ≤ end → arrives mst end at ≡ true → s ≡ at → MemberFacts mst end at s
-    here at room way e =
-        let f = step-facts mst end at (len-right mst end at room way) in
-        rw e
-        (record {
-          from = omega arith;
-          room = room;
-          right = f .right;
-          mfrl = f .mfrl;
-          even = f .even;
-          low = f .low;
-          high = f .high;
-          stops = f .stops;
-        })
+    here at room way e = rw e (record { from = omega arith; room = room; step = step-facts mst end at (len-right mst end at room way) })
 
     there : (at : ℕ) → at + 18 ≤ end → arrives mst end at ≡ true
         → (arrives mst end (nextStep mst end at) ≡ true → elem s (steps mst end (nextStep mst end at)) ≡ true → MemberFacts mst end (nextStep mst end at) s)

@@ -7,32 +7,34 @@ use mathlib.Core.Logic.{_⊎_, inl, inr}
 use mathlib.Core.Bool.{Bool, true, false, not, _&&_, cond}
 use mathlib.Core.List.{List}
 use lib.Dec.{eqb}
-use borrow.Author.Tests.{eqb-true, eqb-false, eq-eqb, ne-eqb, not-false}
-use lib.ListN.{length, length-take}
+use borrow.Author.Tests.{lt-ltb, le-leb, eqb-true, eqb-false, eq-eqb, ne-eqb, not-false}
+use lib.ListN.{length}
 use Rattle.word.specs.Place.{part}
+use Rattle.word.proofs.Place.{part-short}
 use Rattle.layout.specs.Sizes.{mstPermitted, xrfPermitted, capacityOf}
 use Rattle.layout.specs.Entry.{wellPlaced, placeAddress}
 use Rattle.layout.specs.Control.{nextOf, endOf}
+use Rattle.layout.specs.CrossReference.{entryAt}
 use Rattle.layout.specs.Leader.{leaderOf}
 use Rattle.layout.specs.declared.sizes.Mfn.{Mfn}
-use Rattle.layout.specs.declared.entry.Mark.{Mark}
 use Rattle.layout.specs.declared.entry.Mark.the-variants.{Settled, Changed, New}
 use Rattle.layout.specs.declared.entry.Place.{Place}
 use Rattle.layout.specs.declared.entry.Entry.{Entry}
 use Rattle.layout.specs.declared.entry.Entry.the-variants.{Gone, Malformed, At}
 use Rattle.layout.specs.declared.leader.Leader.{Leader}
-use Rattle.layout.proofs.Tests.{tests, false-true}
+use Rattle.layout.proofs.Tests.{tests, false-true, not-both, cond-holds}
 use Rattle.layout.proofs.Facts.{blocks-facts, WellPlacedFacts, well-placed-facts}
 use Rattle.layout.proofs.ControlRecord.{control-facts}
 use Rattle.layout.proofs.CrossReference.{entry-well-placed}
 use Rattle.record.specs.Record.{recordRight, noBack, backRight, Readable}
-use Rattle.record.proofs.Facts.{LeaderFacts, right-facts, right-readable}
+use Rattle.record.proofs.Facts.{LeaderFacts, right-facts, right-readable, NoBackFacts, no-back-facts}
 use Rattle.store.specs.Answer.{numberOf, Refusal, lowest, after}
 use Rattle.store.specs.Reading.{lengthsPermitted, controlFine, mfnKnown, entryFor, placeIn, placeFor, isMalformed, isGone, isChanged, recordAt, leaderAt, backAddress, backFine, recordFine, settledRecord, settledFine, versionFine}
 use Rattle.store.specs.Refusals.{gated, named, fine, bothFine}
-use Rattle.store.specs.Steps.{gateOf, knownIf, knownOf, knownBoth, Planned}
+use Rattle.store.specs.Steps.{gateOf, knownIf, knownOf, knownBoth}
 use Rattle.store.specs.declared.answer.Answer.{Answer}
 use Rattle.store.specs.declared.answer.Answer.the-variants.{Done, BadLength, BadControl, BadDraft, NoSuchMfn, Full, BadEntry, PhysicallyDeleted, BadRecord, Deleted, NotPending, NeverSettled, NoField, NoRoom, Unsound}
+use Rattle.store.specs.declared.gate.Gate.{Gate}
 use Rattle.store.specs.declared.gate.Gate.the-variants.{Open, Shut}
 use Rattle.store.specs.declared.gate.Known.{Known}
 use Rattle.store.specs.declared.gate.Known.the-variants.{Record, Refused}
@@ -213,6 +215,38 @@ gate-open mst xrf next end e =
     let q = open-cases next end Done (record { 0 = nextOf mst }) (endOf mst) (lengthsPermitted mst xrf) (controlFine mst xrf) e in
     open-from mst xrf next end (q .0) (q .1) (ap (λ (n : Mfn). n .0) (sym (q .2))) (sym (q .3))
 
+-- the facts that a search asks for, one by one
+module _ (mst xrf : List ℕ) (next : Mfn) (end : ℕ) (g : gateOf mst xrf ≡ Open next end) where
+  pub open-end : end ≡ endOf mst
+  open-end = gate-open mst xrf next end g .end-is
+
+  pub open-end-in : end ≤ length mst
+  open-end-in = let f = gate-open mst xrf next end g in omega arith
+
+  pub open-xrf : length xrf ≤ 2097152
+  open-xrf = gate-open mst xrf next end g .sizes .xrf-high
+
+  pub open-capacity : (m : ℕ) → m < next .0 → m ≤ capacityOf (length xrf)
+  open-capacity m h = let f = gate-open mst xrf next end g in omega arith
+
+  pub open-known : (m : ℕ) → 1 ≤ m → m < next .0 → mfnKnown mst m ≡ true
+  unfolding mfnKnown
+  open-known m low high =
+      let f = gate-open mst xrf next end g in
+      let k : m < nextOf mst = omega arith in
+      rw (le-leb 1 m low, lt-ltb m (nextOf mst) k)
+
+  pub open-entry : (m : ℕ) (e : Entry) → e ≡ entryAt xrf end m → entryFor mst xrf m ≡ e
+  open-entry m e u = ap (λ (x : ℕ). entryAt xrf x m) (sym open-end) ∙ sym u
+
+-- the gate that was tested came out open
+module _ (mst xrf : List ℕ) (g : Gate) (p : g ≡ gateOf mst xrf) (next : Mfn) (end : ℕ) (q : g ≡ Open next end) where
+  pub gate-is : gateOf mst xrf ≡ Open next end
+  gate-is = sym p ∙ q
+
+  pub opened : OpenFacts mst xrf next end
+  opened = gate-open mst xrf next end gate-is
+
 -- ---- the record of an MFN
 
 -- what a record that is well formed for m says
@@ -222,9 +256,6 @@ pub record FineFacts (mst : List ℕ) (m : ℕ) (p : Place) (l : Leader) : Type 
   pub readable : Readable (recordAt mst p)
   pub leader : LeaderFacts m (p .deleted) (length (recordAt mst p)) l
   pub short : length (recordAt mst p) ≤ endOf mst - placeAddress p
-
-pub part-short : (d : List ℕ) (a n : ℕ) → length (part d a n) ≤ n
-part-short d a n = simp length-take (omega arith)
 
 pub fine-facts : (mst : List ℕ) (m : ℕ) (p : Place) → recordFine mst m p ≡ true → FineFacts mst m p (leaderAt mst p)
 unfolding recordFine
@@ -244,31 +275,16 @@ pub record BackFacts (end : ℕ) (p : Place) (l : Leader) : Type 0 where
   pub facts : WellPlacedFacts end (l .mfbwb .0) (l .mfbwp)
   pub other : backAddress l ≡ placeAddress p → ⊥
 
-not-both : (b : Bool) → not (true && b) ≡ true → b ≡ false
-not-both true e = absurd (false-true e)
-not-both false e = refl
-
-true-false : true ≡ false → ⊥
-true-false e = false-true (sym e)
-
 pub back-changed : (end : ℕ) (p : Place) (l : Leader) → backFine end p l ≡ true → p .mark ≡ Changed → BackFacts end p l
 unfolding backFine backRight
 back-changed end p l e h =
     let q = simp (h, tests) at e in
-    let differ : eqb (backAddress l) (placeAddress p) ≡ false = not-both (eqb (backAddress l) (placeAddress p)) (q .1) in
+    let differ : eqb (backAddress l) (placeAddress p) ≡ false = not-both true (eqb (backAddress l) (placeAddress p)) (q .1) refl in
     record {
       placed = q .0;
       facts = well-placed-facts end (l .mfbwb .0) (l .mfbwp) (q .0);
-      other = λ same. true-false (sym (eq-eqb (backAddress l) (placeAddress p) same) ∙ differ);
+      other = λ same. false-true (sym differ ∙ eq-eqb (backAddress l) (placeAddress p) same);
     }
-
-pub record NoBackFacts (l : Leader) : Type 0 where
-  pub block : l .mfbwb .0 ≡ 0
-  pub offset : l .mfbwp ≡ 0
-
-pub no-back-facts : (l : Leader) → noBack l ≡ true → NoBackFacts l
-unfolding noBack
-no-back-facts l e = let q = simp tests at e in record { block = q .0; offset = q .1 }
 
 pub back-settled : (end : ℕ) (p : Place) (l : Leader) → backFine end p l ≡ true → p .mark ≡ Settled → NoBackFacts l
 unfolding backFine backRight
@@ -447,13 +463,10 @@ pub record BothFacts (mst xrf : List ℕ) (m : ℕ) (p : Place) (l : Leader) : T
   pub settled-fine : p .mark ≡ Changed → settledFine mst m p ≡ true
   pub settled : p .mark ≡ Changed → SettledFacts mst m p l
 
-if-changed : (k : Mark) (b : Bool) → cond (isChanged k) b true ≡ true → k ≡ Changed → b ≡ true
-if-changed k b e h = rw h at e
-
 module _ (mst xrf : List ℕ) (m : ℕ) (p : Place) (l : Leader) where
   changed-fine : versionFine mst m p ≡ true → p .mark ≡ Changed → settledFine mst m p ≡ true
   unfolding versionFine
-  changed-fine e h = if-changed (p .mark) (settledFine mst m p) e h
+  changed-fine e h = cond-holds (isChanged (p .mark)) (settledFine mst m p) e (ap isChanged h)
 
   pub both-facts : knownBoth mst xrf m ≡ Record p l → BothFacts mst xrf m p l
   unfolding knownBoth knownIf leaderIn
@@ -469,12 +482,18 @@ module _ (mst xrf : List ℕ) (m : ℕ) (p : Place) (l : Leader) where
         settled = λ c. rw (k .leader-is) (settled-facts mst m p (k .record-fine) c (changed-fine v c));
       }
 
--- and back, from what a plan knows
-pub planned-open : (mst xrf : List ℕ) (m end : ℕ) (p : Place) (l : Leader) → Planned mst xrf m end p l → OpenFacts mst xrf (record { 0 = nextOf mst }) end
-planned-open mst xrf m end p l k = open-from mst xrf (record { 0 = nextOf mst }) end (k .lengths) (k .control) refl (k .end-is)
+-- ---- and back: a call that is done found its record, behind an open gate
 
-pub planned-known : (mst xrf : List ℕ) (m end : ℕ) (p : Place) (l : Leader) → Planned mst xrf m end p l → KnownFacts mst xrf m p l
+pub record Planned (mst xrf : List ℕ) (m : ℕ) (p : Place) (l : Leader) : Type 0 where
+  pub gate : OpenFacts mst xrf (record { 0 = nextOf mst }) (endOf mst)
+  pub found : KnownFacts mst xrf m p l
+
+pub planned-at : (mst xrf : List ℕ) (m : ℕ) (p : Place) (l : Leader) → lengthsPermitted mst xrf ≡ true → controlFine mst xrf ≡ true → mfnKnown mst m ≡ true
+    → entryFor mst xrf m ≡ At (placeFor mst xrf m) → fine mst xrf m ≡ true → placeFor mst xrf m ≡ p → leaderAt mst (placeFor mst xrf m) ≡ l
+    → Planned mst xrf m p l
 unfolding leaderIn
-planned-known mst xrf m end p l k =
-    let at : placeFor mst xrf m ≡ p = rw (k .entry) in
-    known-from mst xrf m p l (k .known) (k .entry) (rw at (k .fine)) (rw at (k .leader))
+planned-at mst xrf m p l a b c d e f g =
+    record {
+      gate = open-from mst xrf (record { 0 = nextOf mst }) (endOf mst) a b refl refl;
+      found = known-from mst xrf m p l c (d ∙ ap At f) e (sym g);
+    }
