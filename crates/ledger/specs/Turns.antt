@@ -40,16 +40,14 @@ tagOf t = record { 0 = t }
 abbrev pub counts : ℕ → ℕ → ℕ → Counts
 counts tags lens bytes = record { tags = tags; lens = lens; bytes = bytes }
 
--- of the draft that the first call of a list takes; of what is left; and none
+-- of the draft that the first call of a list takes, and of none
 abbrev pub draftsOf : Script → Counts
 draftsOf s = counts (draftCount s 2) (draftCount s 3) (draftCount s 4)
-
-abbrev pub leftOf : Script → Counts
-leftOf s = counts (length (s .tags)) (length (s .lens)) (length (s .bytes))
 
 abbrev pub noDraft : Counts
 noDraft = counts 0 0 0
 
+-- a draft of n is no longer than what is left
 abbrev pub countsFit : Counts → Counts → Bool
 countsFit n left = leb (n .tags) (left .tags) && leb (n .lens) (left .lens) && leb (n .bytes) (left .bytes)
 

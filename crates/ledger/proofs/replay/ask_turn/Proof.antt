@@ -46,7 +46,15 @@ no-draft-requires : tie.Need-no-draft-requires
 no-draft-requires c κs = search needs
 
 move-cursor-requires : tie.Need-move-cursor-requires
-move-cursor-requires c κs = record { calls-fit = search needs; tags-fit = rw (c .no-draft .ensures) (search needs); lens-fit = rw (c .no-draft .ensures) (search needs); bytes-fit = rw (c .no-draft .ensures) (search needs); shown-fit = search needs }
+move-cursor-requires c κs =
+    let draft = c .no-draft .ensures in
+    record {
+      calls-fit = search needs;
+      tags-fit = rw draft (search needs);
+      lens-fit = rw draft (search needs);
+      bytes-fit = rw draft (search needs);
+      shown-fit = search needs;
+    }
 
 same-length : tie.Need-same-length
 same-length c = search needs

@@ -1,5 +1,4 @@
-use Rattle.ledger.proofs.Turning.{draft-within}
-use Rattle.ledger.proofs.Turning.{turns}
+use Rattle.ledger.proofs.Turning.{draft-within, turns}
 use borrow.Author.Needs.{needs}
 use Rattle.ledger.proofs.replay.one_turn.Statement.{statement}
 use Rattle.ledger.proofs.replay.one_turn.Tie as tie
@@ -32,7 +31,11 @@ enum-known-op-2 : tie.Need-enum-known-op-2
 enum-known-op-2 c = search needs
 
 write-turn-requires : tie.Need-write-turn-requires
-write-turn-requires c κs = (draft-within _ _ _ _ _ _ _ _ _ _ (c .before .before .before .before .before .before .before .before .if2 .left) (c .before .before .before .before .before .before .before .left-at .ensures) (c .before .before .before .before .before .before .read-op .ensures) (c .before .before .before .before .op2 .given .1) (c .before .before .before .before .before .before .before .before .before .before .before .before .before .before .before .before .before .before .before .pre .0), search needs)
+write-turn-requires c κs =
+    let known = c .before .before .before .before in
+    let read = known .before .before in
+    let within = read .before .before .before .before .before .before .before .before .before .before .before .before .before .pre .0 in
+    (draft-within _ _ _ _ _ _ _ _ _ _ (read .before .before .if2 .left) (read .before .left-at .ensures) (read .read-op .ensures) (known .op2 .given .1) within, search needs)
 
 enum-told : tie.Need-enum-told
 enum-told c = search needs

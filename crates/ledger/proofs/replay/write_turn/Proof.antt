@@ -16,7 +16,15 @@ draft-of-requires : tie.Need-draft-of-requires
 draft-of-requires c κs = search needs
 
 move-cursor-requires : tie.Need-move-cursor-requires
-move-cursor-requires c κs = record { calls-fit = search needs; tags-fit = rw (c .draft-of .ensures) (search needs); lens-fit = rw (c .draft-of .ensures) (search needs); bytes-fit = rw (c .draft-of .ensures) (search needs); shown-fit = search needs }
+move-cursor-requires c κs =
+    let draft = c .draft-of .ensures in
+    record {
+      calls-fit = search needs;
+      tags-fit = rw draft (search needs);
+      lens-fit = rw draft (search needs);
+      bytes-fit = rw draft (search needs);
+      shown-fit = search needs;
+    }
 
 write-requires : tie.Need-write-requires
 write-requires c κs = search needs
