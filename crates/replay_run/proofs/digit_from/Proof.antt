@@ -1,3 +1,4 @@
+-- `digit_from`: the place looked at is not before the start and within the text.
 use Prim.Native.Nat.{_≤_, _-_}
 use native.Mathlib.Omega.{arith}
 use lib.ListN.{length}

@@ -1,3 +1,4 @@
+-- `number_from`: the place looked at is within the text.
 use Prim.Native.Nat.{_≤_, _-_}
 use native.Mathlib.Omega.{arith}
 use lib.ListN.{length}

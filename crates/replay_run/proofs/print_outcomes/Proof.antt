@@ -1,3 +1,4 @@
+-- `print_outcomes`: the bytes shown are within their room; each turn prints one call.
 use Prim.Native.Nat.{_≤_, _-_}
 use native.Mathlib.Omega.{arith}
 use lib.ListN.{length}

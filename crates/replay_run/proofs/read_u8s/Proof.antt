@@ -1,3 +1,4 @@
+-- `read_u8s`: the place read from is within the text, and the length of `out` stays.
 use Prim.Native.Nat.{_≤_, _-_}
 use native.Mathlib.Omega.{arith}
 use mathlib.Core.Path.{_≡_, refl}

@@ -1,3 +1,4 @@
+-- `replay_lists`: the next list starts within the text.
 use Prim.Native.Nat.{_≤_, _-_}
 use native.Mathlib.Omega.{arith}
 use lib.ListN.{length}

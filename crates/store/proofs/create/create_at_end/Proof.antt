@@ -34,7 +34,14 @@ same-length-2 : tie.Need-same-length-2
 same-length-2 c = search needs
 
 returns : tie.Need-returns
-returns c = (record-created _ _ _ _ _ _ _ _ _ (c .before .before .before .before .before .before .before .before .before .before .before .before .before .before .before .before .before .before .before .before .pre .1 .1) (c .before .before .before .before .before .before .before .before .before .before .before .before .before .before .before .before .before .before .before .before .pre .0 .1) (c .before .before .before .before .before .before .before .before .before .before .before .before .before .before .before .before .before .before .before .before .pre .1 .0 .1) (c .before .before .before .before .before .before .before .before .before .before .before .before .before .before .leader-for .ensures) (c .before .before .before .before .before .before .before .before .before .before .before .before .append-draft .ensures) (c .before .before .before .before .before .before .before .put-next .ensures), entry-created _ _ _ _ _ _ _ (c .before .before .before .before .before .before .before .before .before .before .before .before .before .before .before .before .before .before .before .before .pre .1 .0 .0) (c .before .before .before .before .before .before .before .before .before .before .before .before .before .before .before .before .before .before .before .before .pre .0 .1) (c .before .before .before .end-place .ensures .0) (c .before .before .put-entry .ensures))
+returns c =
+    let pre = c .before .before .before .before .before .before .before .before .before .before .before .before .before .before .before .before .before .before .before .before .pre in
+    let leader-for = c .before .before .before .before .before .before .before .before .before .before .before .before .before .before .leader-for in
+    let append-draft = c .before .before .before .before .before .before .before .before .before .before .before .before .append-draft in
+    let put-next = c .before .before .before .before .before .before .before .put-next in
+    let end-place = c .before .before .before .end-place in
+    let put-entry = c .before .before .put-entry in
+    (record-created _ _ _ _ _ _ _ _ _ (pre .1 .1) (pre .0 .1) (pre .1 .0 .1) (leader-for .ensures) (append-draft .ensures) (put-next .ensures), entry-created _ _ _ _ _ _ _ (pre .1 .0 .0) (pre .0 .1) (end-place .ensures .0) (put-entry .ensures))
 
 pub create-at-end-spec : {M : Type 1} → statement M
 create-at-end-spec =

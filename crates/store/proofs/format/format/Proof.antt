@@ -28,7 +28,12 @@ same-length-4 : tie.Need-same-length-4
 same-length-4 c = search needs
 
 returns-2 : tie.Need-returns-2
-returns-2 c = format-done _ _ _ (c .before .before .before .before .before .before .before .before .before .lengths-permitted .ensures) (c .before .before .before .before .before .before .before .before .if1 .left) _ _ (c .before .before .before .before .before .before .format-mst .ensures) (c .before .before .format-xrf .ensures)
+returns-2 c =
+    let lengths-permitted = c .before .before .before .before .before .before .before .before .before .lengths-permitted in
+    let if1 = c .before .before .before .before .before .before .before .before .if1 in
+    let format-mst = c .before .before .before .before .before .before .format-mst in
+    let format-xrf = c .before .before .format-xrf in
+    format-done _ _ _ (lengths-permitted .ensures) (if1 .left) _ _ (format-mst .ensures) (format-xrf .ensures)
 
 pub format-spec : {M : Type 1} → statement M
 format-spec =

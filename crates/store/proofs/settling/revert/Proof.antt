@@ -28,7 +28,11 @@ same-length-2 : tie.Need-same-length-2
 same-length-2 c = search needs
 
 returns-2 : tie.Need-returns-2
-returns-2 c = revert-done _ _ _ _ (c .before .before .before .before .before .before .before .before .plan-revert .ensures) _ _ (c .before .before .before .before .before .before .k .given .1) _ (c .before .before .put-entry .ensures)
+returns-2 c =
+    let plan-revert = c .before .before .before .before .before .before .before .before .plan-revert in
+    let the-k = c .before .before .before .before .before .before .k in
+    let put-entry = c .before .before .put-entry in
+    revert-done _ _ _ _ (plan-revert .ensures) _ _ (the-k .given .1) _ (put-entry .ensures)
 
 pub revert-spec : {M : Type 1} → statement M
 revert-spec =

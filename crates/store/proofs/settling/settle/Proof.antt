@@ -34,7 +34,11 @@ same-length-4 : tie.Need-same-length-4
 same-length-4 c = search needs
 
 returns-2 : tie.Need-returns-2
-returns-2 c = settle-done _ _ _ _ (c .before .before .before .before .before .before .before .before .before .before .plan-settle .ensures) _ _ (c .before .before .before .before .before .before .before .before .k .given .1) _ _ (c .before .before .before .before .settle-place .ensures .0) (c .before .before .before .before .settle-place .ensures .1)
+returns-2 c =
+    let plan-settle = c .before .before .before .before .before .before .before .before .before .before .plan-settle in
+    let the-k = c .before .before .before .before .before .before .before .before .k in
+    let settle-place = c .before .before .before .before .settle-place in
+    settle-done _ _ _ _ (plan-settle .ensures) _ _ (the-k .given .1) _ _ (settle-place .ensures .0) (settle-place .ensures .1)
 
 pub settle-spec : {M : Type 1} → statement M
 settle-spec =

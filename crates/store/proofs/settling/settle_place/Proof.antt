@@ -28,7 +28,12 @@ same-length-2 : tie.Need-same-length-2
 same-length-2 c = search needs
 
 returns : tie.Need-returns
-returns c = (back-cleared _ _ _ _ (c .before .before .before .before .before .before .before .before .before .before .before .before .pre .1) _ (c .before .before .before .before .before .before .before .before .before .place-address .ensures) _ (c .before .before .before .before .before .before .before .clear-back .ensures), mark-removed _ _ _ _ (c .before .before .put-entry .ensures))
+returns c =
+    let pre = c .before .before .before .before .before .before .before .before .before .before .before .before .pre in
+    let place-address = c .before .before .before .before .before .before .before .before .before .place-address in
+    let clear-back = c .before .before .before .before .before .before .before .clear-back in
+    let put-entry = c .before .before .put-entry in
+    (back-cleared _ _ _ _ (pre .1) _ (place-address .ensures) _ (clear-back .ensures), mark-removed _ _ _ _ (put-entry .ensures))
 
 pub settle-place-spec : {M : Type 1} → statement M
 settle-place-spec =

@@ -22,10 +22,16 @@ data-length-requires : tie.Need-data-length-requires
 data-length-requires c κs = search own-lent-readable
 
 need-requires : tie.Need-need-requires
-need-requires c κs = own-counted _ _ _ _ (c .before .before .before .before .before .pre) _ (c .before .before .before .place-address .ensures) _ (c .data-length .ensures)
+need-requires c κs =
+    let pre = c .before .before .before .before .before .pre in
+    let place-address = c .before .before .before .place-address in
+    own-counted _ _ _ _ (pre) _ (place-address .ensures) _ (c .data-length .ensures)
 
 returns : tie.Need-returns
-returns c = own-need _ _ _ _ (c .before .before .before .before .before .before .pre) _ (c .before .before .before .before .place-address .ensures) _ (c .before .data-length .ensures) _ (c .need .ensures)
+returns c =
+    let pre = c .before .before .before .before .before .before .pre in
+    let place-address = c .before .before .before .before .place-address in
+    own-need _ _ _ _ (pre) _ (place-address .ensures) _ (c .before .data-length .ensures) _ (c .need .ensures)
 
 pub own-need-spec : {M : Type 1} → statement M
 own-need-spec =

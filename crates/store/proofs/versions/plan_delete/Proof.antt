@@ -46,7 +46,10 @@ own-need-requires : tie.Need-own-need-requires
 own-need-requires c κs = search delete-plans
 
 plan-room-requires : tie.Need-plan-room-requires
-plan-room-requires c κs = room-asked _ _ _ (c .before .before .before .before .before .before .before .before .before .before .before .open-gate .ensures) _ _ (c .before .before .before .before .before .before .before .before .before .g .given .1) _ (c .own-need .ensures .2)
+plan-room-requires c κs =
+    let open-gate = c .before .before .before .before .before .before .before .before .before .before .before .open-gate in
+    let the-g = c .before .before .before .before .before .before .before .before .before .g in
+    room-asked _ _ _ (open-gate .ensures) _ _ (the-g .given .1) _ (c .own-need .ensures .2)
 
 returns-5 : tie.Need-returns-5
 returns-5 c = search delete-plans

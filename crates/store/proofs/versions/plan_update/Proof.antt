@@ -44,13 +44,21 @@ returns-4 : tie.Need-returns-4
 returns-4 c = search update-plans
 
 need-requires : tie.Need-need-requires
-need-requires c κs = draft-counted _ _ _ _ (c .before .before .before .before .before .before .draft-right .ensures) (c .before .before .before .before .before .if1 .left)
+need-requires c κs =
+    let draft-right = c .before .before .before .before .before .before .draft-right in
+    let if1 = c .before .before .before .before .before .if1 in
+    draft-counted _ _ _ _ (draft-right .ensures) (if1 .left)
 
 update-appends-requires : tie.Need-update-appends-requires
 update-appends-requires c κs = search needs
 
 plan-room-requires : tie.Need-plan-room-requires
-plan-room-requires c κs = draft-room-asked _ _ _ (c .before .before .before .before .before .before .before .before .before .before .before .before .open-gate .ensures) _ _ (c .before .before .before .before .before .before .before .before .before .before .g .given .1) _ _ _ _ _ (c .before .before .before .before .before .before .before .before .draft-right .ensures) (c .before .before .before .before .before .before .before .if1 .left) (c .before .need .ensures)
+plan-room-requires c κs =
+    let open-gate = c .before .before .before .before .before .before .before .before .before .before .before .before .open-gate in
+    let the-g = c .before .before .before .before .before .before .before .before .before .before .g in
+    let draft-right = c .before .before .before .before .before .before .before .before .draft-right in
+    let if1 = c .before .before .before .before .before .before .before .if1 in
+    draft-room-asked _ _ _ (open-gate .ensures) _ _ (the-g .given .1) _ _ _ _ _ (draft-right .ensures) (if1 .left) (c .before .need .ensures)
 
 returns-5 : tie.Need-returns-5
 returns-5 c = search update-plans
