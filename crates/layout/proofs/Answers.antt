@@ -275,7 +275,7 @@ module _ (xrf : List ℕ) where
       → out ≡ withHeads n (k + 1) xrf
   head-put n k h cur out e i j = rw (j, e, i, heads-more n xrf k)
 
-pub ruleset xrf-answers = (head-last, head-plain, head-tested, slot-tested, entry-no-head, entry-told, entry-put, head-put)
+pub ruleset xrf-answers = (head-last, head-plain, head-tested, slot-tested, entry-no-head, entry-told, entry-put)
 
 -- ---- writes
 
@@ -314,7 +314,7 @@ module _ (xrf zero : List ℕ) (h : xrfPermitted (length xrf) ≡ true) (e : zer
   unfolding formattedXrf
   xrf-put out i = rw (i, zero-is, length-replicate)
 
-pub ruleset write-answers = (zero-permitted, xrf-put, long-zero, long-next, next-put, end-put, mst-put, arith)
+pub ruleset write-answers = (zero-permitted, xrf-put, long-zero, next-put, end-put, mst-put, arith)
 
 -- ---- leaders
 

@@ -260,7 +260,7 @@ module _ (mst xrf : List ℕ) where
       rw (sym f) (ap Named (rw h at (w .named-is)))
 
 pub ruleset tally-answers =
-    (refused-gone, refused-other, tally-refused, tally-found, tally-none, tally-few, tally-more, tally-wrong, tally-done, open-low, arith)
+    (refused-gone, refused-other, tally-refused, tally-found, tally-none, tally-more, tally-wrong, tally-done, open-low, arith)
 
 -- ---- the second pass
 
