@@ -22,6 +22,7 @@ use Rattle.layout.proofs.Facts.{address-of-at, blocks-facts}
 
 -- ---- what a right control record says
 
+-- CTLMFN and the type are 0, NXTMFN is at most one past the capacity, and the end is a place within the MST, as stored and as an address
 pub record ControlFacts (mst : List ℕ) (capacity : ℕ) : Type 0 where
   pub number : u32At mst 0 ≡ 0
   pub type : u16At mst 14 ≡ 0
@@ -66,6 +67,7 @@ right-cases : (t : Bool) (n : Mfn) (e : ℕ) (m : Mfn) (end : ℕ) → cond t (R
 right-cases true n e m end p = (refl, (cc), (cc))
 right-cases false n e m end p = let z : _≡_ {A = ℕ} 0 1 = cc in absurd (omega arith)
 
+-- the control record was read, and NXTMFN and the end with it
 pub record ControlRead (mst : List ℕ) (capacity : ℕ) (next : Mfn) (end : ℕ) : Type 0 where
   pub right : controlRight mst capacity ≡ true
   pub next-is : next .0 ≡ nextOf mst

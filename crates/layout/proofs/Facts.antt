@@ -26,6 +26,7 @@ module _ (most n : ℕ) where
 
 -- ---- records and tags
 
+-- an MFRL that is permitted
 pub record RecordLengthFacts (n : ℕ) : Type 0 where
   pub even : n % 2 ≡ 0
   pub low : 18 ≤ n
@@ -40,6 +41,7 @@ module _ (n : ℕ) where
   unfolding recordLength
   record-length-from a b c = simp tests ((a, b), c)
 
+-- a tag that is permitted
 pub record TagFacts (t : ℕ) : Type 0 where
   pub low : 1 ≤ t
   pub high : t ≤ 32767
@@ -56,6 +58,7 @@ address-of-at a = omega arith
 
 -- ---- places
 
+-- block b and offset p are a place with room for a leader before the end
 pub record WellPlacedFacts (end b p : ℕ) : Type 0 where
   pub block : 1 ≤ b
   pub even : p % 2 ≡ 0
@@ -99,6 +102,7 @@ module _ (a : ℕ) where
   unfolding endMoved
   end-moves h = rw (le-leb 500 (a % 512) h)
 
+-- the end after a record that stops at a: there, or up to twelve bytes further, at the next block
 pub record EndMovedFacts (a end : ℕ) : Type 0 where
   pub low : a ≤ end
   pub near : end ≤ a + 12

@@ -1,7 +1,7 @@
 -- What a call that is done was asked: none of the rows of its table applied.
 use Prim.Native.Nat.{ℕ, _+_, _≤_}
 use native.Mathlib.Omega.{arith}
-use mathlib.Core.Path.{_≡_, refl, sym, ap, _∙_}
+use mathlib.Core.Path.{_≡_, sym, _∙_}
 use mathlib.Core.Bool.{Bool, true, false, not, _&&_, cond}
 use mathlib.Core.List.{List, [], _∷_}
 use lib.ListN.{length}
@@ -14,16 +14,12 @@ use Rattle.record.specs.Bytes.{needFor}
 use Rattle.store.specs.Answer.{Refusal, refuse, lowest, numberOf}
 use Rattle.store.specs.Reading.{mfnKnown, entryFor, placeFor, isGone, isSettled, isNew, leaderAt, currentFields}
 use Rattle.store.specs.Refusals.{named, fine, bothFine, exceeds, updateAppends, updateAnswer, deleteAnswer, settleAnswer, revertAnswer}
-use Rattle.store.specs.declared.answer.Answer.{Answer}
 use Rattle.store.specs.declared.answer.Answer.the-variants.{Done, BadDraft, NoSuchMfn, PhysicallyDeleted, Deleted, NotPending, NeverSettled, NoRoom}
-use Rattle.store.proofs.Gates.{Refusing, done-number, passed}
+use Rattle.store.proofs.Gates.{Refusing, passed, holds}
 use Rattle.store.proofs.Results.{only-changed}
 use Rattle.soundness.proofs.Standing.{Sound, gated-sound, named-fine, named-both, entry-for-place}
 
--- a row of a test that has to hold (`passed` is for one that must not)
-pub holds : (a : Answer) (b : Bool) (rest : Answer) → Refusing a → cond (not b) a rest ≡ Done → (b ≡ true) × (rest ≡ Done)
-holds a true rest h e = (refl, e)
-holds a false rest h e = absurd (h (ap numberOf e ∙ done-number))
+-- ---- the answers of the rows are refusals
 
 pub no-draft : Refusing BadDraft
 unfolding numberOf
@@ -53,6 +49,8 @@ no-room : Refusing NoRoom
 unfolding numberOf
 no-room z = omega arith
 
+-- ---- what was asked
+
 -- the MFN is there, at the place of its entry
 pub record There (mst xrf : List ℕ) (m : ℕ) : Type 0 where
   pub known : mfnKnown mst m ≡ true
@@ -62,13 +60,13 @@ module _ {mst xrf : List ℕ} (s : Sound mst xrf) (m : ℕ) where
   -- the rows of an MFN passed
   there : (rest : List Refusal) → lowest (named mst xrf m (fine mst xrf m) rest) ≡ Done → There mst xrf m × (lowest rest ≡ Done)
   there rest e =
-      let k = holds NoSuchMfn (mfnKnown mst m) (cond (isGone (entryFor mst xrf m)) PhysicallyDeleted (lowest rest)) no-mfn (sym (named-fine s m rest) ∙ e) in
+      let k = holds (mfnKnown mst m) NoSuchMfn (cond (isGone (entryFor mst xrf m)) PhysicallyDeleted (lowest rest)) no-mfn (sym (named-fine s m rest) ∙ e) in
       let g = passed (isGone (entryFor mst xrf m)) PhysicallyDeleted (lowest rest) no-entry (k .1) in
       (record { known = k .0; entry = entry-for-place s m (k .0) (g .0) }, g .1)
 
   there-both : (rest : List Refusal) → lowest (named mst xrf m (bothFine mst xrf m) rest) ≡ Done → There mst xrf m × (lowest rest ≡ Done)
   there-both rest e =
-      let k = holds NoSuchMfn (mfnKnown mst m) (cond (isGone (entryFor mst xrf m)) PhysicallyDeleted (lowest rest)) no-mfn (sym (named-both s m rest) ∙ e) in
+      let k = holds (mfnKnown mst m) NoSuchMfn (cond (isGone (entryFor mst xrf m)) PhysicallyDeleted (lowest rest)) no-mfn (sym (named-both s m rest) ∙ e) in
       let g = passed (isGone (entryFor mst xrf m)) PhysicallyDeleted (lowest rest) no-entry (k .1) in
       (record { known = k .0; entry = entry-for-place s m (k .0) (g .0) }, g .1)
 
@@ -77,6 +75,7 @@ module _ {mst xrf : List ℕ} (s : Sound mst xrf) (m : ℕ) where
   unfolding exceeds
   room-for appends need e a = ltb-false (length mst) (endOf mst + need) (rw a at e)
 
+  -- an update that is done
   pub record UpdateAsked (tags lens bytes : List ℕ) : Type 0 where
     pub draft : draftRight tags lens bytes ≡ true
     pub here : There mst xrf m
@@ -92,13 +91,14 @@ module _ {mst xrf : List ℕ} (s : Sound mst xrf) (m : ℕ) where
       let last : List Refusal = refuse NoRoom (updateAppends p (leaderAt mst p) need && exceeds mst need) ∷ [] in
       let rest : List Refusal = refuse Deleted (p .deleted) ∷ last in
       let d =
-      holds BadDraft (draftRight tags lens bytes) (lowest (named mst xrf m (fine mst xrf m) rest)) no-draft
+      holds (draftRight tags lens bytes) BadDraft (lowest (named mst xrf m (fine mst xrf m) rest)) no-draft
       (sym (gated-sound s (refuse BadDraft (not (draftRight tags lens bytes)) ∷ named mst xrf m (fine mst xrf m) rest)) ∙ e) in
       let h = there rest (d .1) in
       let l = passed (p .deleted) Deleted (lowest last) no-live (h .1) in
       let r = passed (updateAppends p (leaderAt mst p) need && exceeds mst need) NoRoom Done no-room (l .1) in
       record { draft = d .0; here = h .0; live = l .0; room = λ a. room-for (updateAppends p (leaderAt mst p) need) need (r .0) a }
 
+  -- a delete that is done
   pub record DeleteAsked : Type 0 where
     pub here : There mst xrf m
     pub live : placeFor mst xrf m .deleted ≡ false
@@ -116,6 +116,7 @@ module _ {mst xrf : List ℕ} (s : Sound mst xrf) (m : ℕ) where
       let r = passed (isSettled (p .mark) && exceeds mst need) NoRoom Done no-room (l .1) in
       record { here = h .0; live = l .0; room = λ a. room-for (isSettled (p .mark)) need (r .0) a }
 
+  -- a settle that is done
   pub record SettleAsked : Type 0 where
     pub here : There mst xrf m
     pub pending : isSettled (placeFor mst xrf m .mark) ≡ false
@@ -128,6 +129,7 @@ module _ {mst xrf : List ℕ} (s : Sound mst xrf) (m : ℕ) where
       let p = passed (isSettled (placeFor mst xrf m .mark)) NotPending Done no-pending (h .1) in
       record { here = h .0; pending = p .0 }
 
+  -- a revert that is done
   pub record RevertAsked : Type 0 where
     pub here : There mst xrf m
     pub changed : placeFor mst xrf m .mark ≡ Changed

@@ -47,6 +47,7 @@ module _ (s : List ℕ) (i t p n : ℕ) (tail : List ℕ) (e : drop (18 + 6 * i)
 
 -- ---- the directory and the data
 
+-- the tags of a list are permitted: the first, and the rest
 record FirstTag (f : Field) (fs : List Field) : Type 0 where
   high : f .tag ≤ 32767
   here : tagPermitted (f .tag) ≡ true

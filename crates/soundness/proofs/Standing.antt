@@ -50,6 +50,7 @@ pub data EntryStands (mst xrf : List ℕ) (m : ℕ) : Type 0 where
   is-gone : entryFor mst xrf m ≡ Gone → EntryStands mst xrf m
   is-at : (p : Place) → entryFor mst xrf m ≡ At p → PlaceStands mst m p → EntryStands mst xrf m
 
+-- a sound store, fact by fact: what `soundOf` tests
 pub record Sound (mst xrf : List ℕ) : Type 0 where
   pub lengths : lengthsPermitted mst xrf ≡ true
   pub control : controlFine mst xrf ≡ true

@@ -45,6 +45,8 @@ use Rattle.soundness.proofs.Moves.{XrfMoved, MstMoved, next-stays, stay
 
 -- ---- what is left
 
+-- the call leaves a sound store with this end and NXTMFN; m is at p, with a record of this MFRL, these fields and, where it is changed, these
+-- settled ones; every other MFN is as it was
 pub record Leaves (mst xrf mst′ xrf′ : List ℕ) (m end next : ℕ) (p : Place) (mfrl : ℕ) (fs old : List Field) : Type 0 where
   pub sound : Sound mst′ xrf′
   pub mst-long : length mst′ ≡ length mst

@@ -27,9 +27,11 @@ use Rattle.layout.proofs.Facts.{blocks-facts, WellPlacedFacts, well-placed-fact
 use Rattle.layout.proofs.ControlRecord.{control-facts}
 use Rattle.layout.proofs.CrossReference.{entry-well-placed}
 use Rattle.record.specs.Record.{recordRight, noBack, backRight, Readable}
+use Rattle.record.specs.Fields.{fieldsOf}
+use Rattle.record.proofs.Local.{ReadsAs, right-reads}
 use Rattle.record.proofs.Facts.{LeaderFacts, right-facts, right-readable, NoBackFacts, no-back-facts}
 use Rattle.store.specs.Answer.{numberOf, Refusal, lowest, after}
-use Rattle.store.specs.Reading.{lengthsPermitted, controlFine, mfnKnown, entryFor, placeIn, placeFor, isMalformed, isGone, isChanged, recordAt, leaderAt, backAddress, backFine, recordFine, settledRecord, settledFine, versionFine}
+use Rattle.store.specs.Reading.{lengthsPermitted, controlFine, mfnKnown, entryFor, placeIn, placeFor, isMalformed, isGone, isChanged, recordAt, leaderAt, backAddress, backFine, recordFine, settledRecord, settledFine, versionFine, currentFields}
 use Rattle.store.specs.Refusals.{gated, named, fine, bothFine}
 use Rattle.store.specs.Steps.{gateOf, knownIf, knownOf, knownBoth}
 use Rattle.store.specs.declared.answer.Answer.{Answer}
@@ -107,6 +109,10 @@ pub passed : (b : Bool) (a rest : Answer) → Refusing a → cond b a rest ≡ D
 passed true a rest h e = absurd (refusing-not-done a h e)
 passed false a rest h e = (refl, e)
 
+-- and one whose test has to hold
+pub holds : (b : Bool) (a rest : Answer) → Refusing a → cond (not b) a rest ≡ Done → (b ≡ true) × (rest ≡ Done)
+holds b a rest h e = let q = passed (not b) a rest h e in (not-false b (q .0), q .1)
+
 -- ---- the gate
 
 -- 1 and 2 by whether lengths and control record are right
@@ -122,10 +128,11 @@ module _ (mst xrf : List ℕ) where
       → (lengthsPermitted mst xrf ≡ true) × (controlFine mst xrf ≡ true) × (rest ≡ Done)
   unfolding numberOf
   gate-done rest e =
-      let a = passed (not (lengthsPermitted mst xrf)) BadLength _ (λ z. omega arith) e in
-      let b = passed (not (controlFine mst xrf)) BadControl rest (λ z. omega arith) (a .1) in
-      (not-false _ (a .0), not-false _ (b .0), b .1)
+      let a = holds (lengthsPermitted mst xrf) BadLength _ (λ z. omega arith) e in
+      let b = holds (controlFine mst xrf) BadControl rest (λ z. omega arith) (a .1) in
+      (a .0, b .0, b .1)
 
+-- the gate is shut with a: that is the answer, whatever the refusals after it
 pub record ShutFacts (mst xrf : List ℕ) (a : Answer) : Type 0 where
   pub refusing : Refusing a
   pub answers : (rest : List Refusal) → lowest (gated mst xrf rest) ≡ a
@@ -151,6 +158,7 @@ gate-shut mst xrf a e =
     let q = shut-cases (record { 0 = nextOf mst }) (endOf mst) a (lengthsPermitted mst xrf) (controlFine mst xrf) e in
     record { refusing = q .0; answers = λ rest. q .1 (lowest rest) }
 
+-- both lengths are permitted
 pub record LengthsFacts (mst xrf : List ℕ) : Type 0 where
   pub mst-whole : length mst % 512 ≡ 0
   pub mst-low : 512 ≤ length mst
@@ -269,6 +277,16 @@ fine-facts mst m p e =
       short = part-short mst (placeAddress p) (endOf mst - placeAddress p);
     }
 
+-- what is read of it, and of a settled version that is well formed for m
+pub fine-reads : (mst : List ℕ) (m : ℕ) (p : Place) → recordFine mst m p ≡ true
+    → ReadsAs (recordAt mst p) m (p .deleted) (leaderAt mst p) (currentFields mst p)
+fine-reads mst m p e = right-reads (recordAt mst p) m (p .deleted) (fine-facts mst m p e .right)
+
+pub settled-fine-reads : (mst : List ℕ) (m : ℕ) (p : Place) → settledFine mst m p ≡ true
+    → ReadsAs (settledRecord mst p) m false (leaderOf (settledRecord mst p)) (fieldsOf (settledRecord mst p))
+unfolding settledFine
+settled-fine-reads mst m p e = right-reads (settledRecord mst p) m false ((simp tests at e) .0)
+
 -- the back pointer under the changed mark, and under the two others
 pub record BackFacts (end : ℕ) (p : Place) (l : Leader) : Type 0 where
   pub placed : wellPlaced end (l .mfbwb .0) (l .mfbwp) ≡ true
@@ -311,12 +329,13 @@ module _ (mst xrf : List ℕ) where
       → (mfnKnown mst m ≡ true) × (entryFor mst xrf m ≡ At (placeFor mst xrf m)) × (ok ≡ true) × (rest ≡ Done)
   unfolding numberOf
   named-done m ok rest e =
-      let a = passed (not (mfnKnown mst m)) NoSuchMfn _ (λ z. omega arith) e in
+      let a = holds (mfnKnown mst m) NoSuchMfn _ (λ z. omega arith) e in
       let b = passed (isMalformed (entryFor mst xrf m)) BadEntry _ (λ z. omega arith) (a .1) in
       let c = passed (isGone (entryFor mst xrf m)) PhysicallyDeleted _ (λ z. omega arith) (b .1) in
-      let d = passed (not ok) BadRecord rest (λ z. omega arith) (c .1) in
-      (not-false _ (a .0), entry-placed (entryFor mst xrf m) (b .0) (c .0), not-false _ (d .0), d .1)
+      let d = holds ok BadRecord rest (λ z. omega arith) (c .1) in
+      (a .0, entry-placed (entryFor mst xrf m) (b .0) (c .0), d .0, d .1)
 
+-- the record was not found, for a: that is the answer, whatever the refusals after it
 pub record RefusedFacts (mst xrf : List ℕ) (m : ℕ) (ok : Bool) (a : Answer) : Type 0 where
   pub refusing : Refusing a
   pub answers : (rest : List Refusal) → lowest (named mst xrf m ok rest) ≡ a
@@ -378,6 +397,7 @@ module _ (mst xrf : List ℕ) (m : ℕ) (a : Answer) where
   refused-both h =
       refused-more (leaderIn mst) a (mfnKnown mst m) (entryFor mst xrf m) (fine mst xrf m) (versionFine mst m (placeFor mst xrf m)) h
 
+-- an MFN that was given out
 pub record MfnFacts (mst : List ℕ) (m : ℕ) : Type 0 where
   pub low : 1 ≤ m
   pub high : m < nextOf mst
