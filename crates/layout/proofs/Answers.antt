@@ -4,16 +4,16 @@ use Prim.Native.Nat.{ℕ, _+_, _*_, _-_, _/_, _%_, _^_, _≤_, _<_}
 use native.Mathlib.Omega.{arith}
 use mathlib.Core.Path.{_≡_, refl, sym, ap, _∙_}
 use mathlib.Core.Bool.{Bool, true, false, not}
-use mathlib.Core.List.{List, append-nil}
+use mathlib.Core.List.{List}
 use mathlib.Core.Logic.{⊎-elim}
 use lib.Dec.{leb, eqb}
 use lib.IntN.{ℤ}
 use lib.Signed.{mag}
 use mir.Syntax.{w32}
 use mir.Val.{toZ, ofZ}
-use lib.ListN.{length, replicate, length-replicate, drop-of-length-le}
+use lib.ListN.{length, replicate, length-replicate}
 use borrow.Author.Tests.{le-leb, lt-leb, eq-eqb, ne-eqb, not-true, not-false}
-use Rattle.word.proofs.Place.{lt-or-ge, place-is, place-next}
+use Rattle.word.proofs.Place.{lt-or-ge, place-whole, place-next}
 use Rattle.word.specs.Integer.{u16At, u32At, le}
 use Rattle.word.specs.Place.{place}
 use Rattle.word.specs.Signed.{signedOf, bitsOf}
@@ -275,14 +275,9 @@ module _ (xrf : List ℕ) where
       → out ≡ withHeads n (k + 1) xrf
   head-put n k h cur out e i j = rw (j, e, i, heads-more n xrf k)
 
-pub ruleset xrf-answers = (head-last, head-plain, head-tested, slot-tested, entry-no-head, entry-told, entry-put, head-put)
+pub ruleset xrf-answers = (head-last, head-plain, head-tested, slot-tested, entry-no-head, entry-told, entry-put)
 
 -- ---- writes
-
--- a place over the whole list
-place-whole : (d xs : List ℕ) → length xs ≡ length d → place d 0 xs ≡ xs
-place-whole d xs e =
-    place-is d 0 xs ∙ rw (drop-of-length-le d {i = 0 + length xs} (omega arith), append-nil xs)
 
 module _ (mst zero : List ℕ) (h : mstPermitted (length mst) ≡ true) (e : zero ≡ place mst 0 (replicate (length mst) 0)) where
   pub long-zero : 64 ≤ length zero
@@ -319,7 +314,7 @@ module _ (xrf zero : List ℕ) (h : xrfPermitted (length xrf) ≡ true) (e : zer
   unfolding formattedXrf
   xrf-put out i = rw (i, zero-is, length-replicate)
 
-pub ruleset write-answers = (zero-permitted, xrf-put, long-zero, long-next, next-put, end-put, mst-put, arith)
+pub ruleset write-answers = (zero-permitted, xrf-put, long-zero, next-put, end-put, mst-put, arith)
 
 -- ---- leaders
 

@@ -87,11 +87,6 @@ fits : (b low : ℕ) (d : Bool) → 1 ≤ b → b ≤ 1048575 → low < 2048 →
 fits b low false hb h hl = record { sfits = omega arith }
 fits b low true hb h hl = rw (deleted-entry b low (omega arith)) (record { sfits = omega arith })
 
-nonzero : (b low : ℕ) (d : Bool) → 1 ≤ b → b ≤ 1048575 → low < 2048 → bitsOf (signedBlock d b *ℤ pos 2048 +ℤ pos low) ≡ 0 → ⊥
-unfolding bitsOf
-nonzero b low false hb h hl e = omega arith
-nonzero b low true hb h hl e = let q = rw (deleted-entry b low (omega arith)) at e in omega arith
-
 module _ (end b p : ℕ) (m : Mark) (w : wellPlaced end b p ≡ true) where
   place-back : (d : Bool) → placeOf end b d (p + markBits m) ≡ At (placed b p d m)
   unfolding placeOf
@@ -208,13 +203,6 @@ module _ (end : ℕ) (pl : Place) (w : wellPlaced end (pl .block .0) (pl .offset
 
     pub encoded-bound : bitsOf (encodeOf pl) < 4294967296
     encoded-bound = bits-bound (encodeOf pl) encoded-fits
-
-    -- a place's entry is not 0
-    pub encoded-nonzero : bitsOf (encodeOf pl) ≡ 0 → ⊥
-    unfolding encodeOf
-    encoded-nonzero =
-        let f = well-placed-facts end (pl .block .0) (pl .offset) w in
-        nonzero (pl .block .0) (pl .offset + markBits (pl .mark)) (pl .deleted) (f .block) (encodable end (pl .block .0) (pl .offset) w m .1) low-small
 
     -- over 32 bits
     pub bits-decode-encode : entryOf end (signedOf (bitsOf (encodeOf pl))) ≡ At pl

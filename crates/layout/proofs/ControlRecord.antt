@@ -7,22 +7,22 @@ use mathlib.Core.Path.{_≡_, refl, sym, ap, _∙_}
 use mathlib.Core.Logic.{inl, inr}
 use mathlib.Core.Bool.{Bool, true, false, cond}
 use mathlib.Core.List.{List, [], _++_}
-use lib.ListN.{length, getD, drop, length-replicate}
+use lib.ListN.{length, getD, length-replicate}
 use Rattle.word.specs.Integer.{u16At, u32At, le}
-use Rattle.word.specs.Place.{place, part}
-use Rattle.word.proofs.Place.{place-length, place-drop-after, place-before, place-after, place-part-after, place-commute}
-use Rattle.word.proofs.Integers.{u16-same, u32-same, u16-inside, u32-inside, u16-other, u32-other, u32-placed, u16-le-at, u32-le, le-byte}
-use Rattle.word.proofs.ByteRange.{Bytes, bytes-append, bytes-place, bytes-replicate}
+use Rattle.word.specs.Place.{place}
+use Rattle.word.proofs.Place.{place-length, place-before, place-after}
+use Rattle.word.proofs.Integers.{u16-same, u32-same, u16-inside, u32-inside, u16-other, u32-other, u32-placed, u16-le-at, u32-le}
 use Rattle.layout.specs.Sizes.{mstPermitted, blockAt, offsetAt}
 use Rattle.layout.specs.Control.{nextOf, endOf, numbersRight, endRight, controlRight, controlOf, withNext, withEnd, formattedMst}
 use Rattle.layout.specs.declared.sizes.Mfn.{Mfn}
 use Rattle.layout.specs.declared.control.Control.the-variants.{Right, Wrong}
 use Rattle.layout.proofs.Tests.{tests}
-use Rattle.layout.proofs.Zero.{zeros, zero-byte, zero-u16, zero-u32}
+use Rattle.layout.proofs.Zero.{zeros, zero-u16, zero-u32}
 use Rattle.layout.proofs.Facts.{address-of-at, blocks-facts}
 
 -- ---- what a right control record says
 
+-- CTLMFN and the type are 0, NXTMFN is at most one past the capacity, and the end is a place within the MST, as stored and as an address
 pub record ControlFacts (mst : List ℕ) (capacity : ℕ) : Type 0 where
   pub number : u32At mst 0 ≡ 0
   pub type : u16At mst 14 ≡ 0
@@ -67,6 +67,7 @@ right-cases : (t : Bool) (n : Mfn) (e : ℕ) (m : Mfn) (end : ℕ) → cond t (R
 right-cases true n e m end p = (refl, (cc), (cc))
 right-cases false n e m end p = let z : _≡_ {A = ℕ} 0 1 = cc in absurd (omega arith)
 
+-- the control record was read, and NXTMFN and the end with it
 pub record ControlRead (mst : List ℕ) (capacity : ℕ) (next : Mfn) (end : ℕ) : Type 0 where
   pub right : controlRight mst capacity ≡ true
   pub next-is : next .0 ≡ nextOf mst
@@ -77,14 +78,6 @@ unfolding controlOf
 control-read mst capacity next end e =
     let q = right-cases (controlRight mst capacity) (record { 0 = nextOf mst }) (endOf mst) next end e in
     record { right = q .0; next-is = ap (λ (m : Mfn). m .0) (sym (q .1)); end-is = sym (q .2) }
-
-pub control-right : (mst : List ℕ) (capacity : ℕ) → controlRight mst capacity ≡ true → controlOf mst capacity ≡ Right (record { 0 = nextOf mst }) (endOf mst)
-unfolding controlOf
-control-right mst capacity e = rw e
-
-pub control-wrong : (mst : List ℕ) (capacity : ℕ) → controlRight mst capacity ≡ false → controlOf mst capacity ≡ Wrong
-unfolding controlOf
-control-wrong mst capacity e = rw e
 
 -- ---- what keeps the first 16 bytes
 
@@ -112,10 +105,6 @@ module _ (x y : List ℕ) (same : (i : ℕ) → i < 16 → getD x i 0 ≡ getD y
           long,
         )
 
-    pub control-same : controlOf x capacity ≡ controlOf y capacity
-    unfolding controlOf
-    control-same = rw (control-right-same, next-same, end-same)
-
 -- a place from byte 16 on
 module _ (mst : List ℕ) (at : ℕ) (xs : List ℕ) (low : 16 ≤ at) (fits : at + length xs ≤ length mst) where
   kept : (i : ℕ) → i < 16 → getD (place mst at xs) i 0 ≡ getD mst i 0
@@ -130,27 +119,12 @@ module _ (mst : List ℕ) (at : ℕ) (xs : List ℕ) (low : 16 ≤ at) (fits : a
   pub control-right-placed : (capacity : ℕ) → controlRight (place mst at xs) capacity ≡ controlRight mst capacity
   control-right-placed capacity = control-right-same (place mst at xs) mst kept (place-length mst at xs fits) capacity
 
-  pub control-placed : (capacity : ℕ) → controlOf (place mst at xs) capacity ≡ controlOf mst capacity
-  control-placed capacity = control-same (place mst at xs) mst kept (place-length mst at xs fits) capacity
-
 -- ---- NXTMFN is written
 
 module _ (mst : List ℕ) (n : ℕ) where
-  pub next-drop : (a : ℕ) → 8 ≤ a → drop a (withNext mst n) ≡ drop a mst
-  unfolding withNext
-  next-drop a h = place-drop-after mst 4 (le 4 n) a h
-
   pub next-byte : (i : ℕ) → 8 ≤ i → getD (withNext mst n) i 0 ≡ getD mst i 0
   unfolding withNext
   next-byte i h = place-after mst 4 (le 4 n) i h
-
-  pub next-part : (a k : ℕ) → 8 ≤ a → part (withNext mst n) a k ≡ part mst a k
-  unfolding withNext
-  next-part a k h = place-part-after mst 4 (le 4 n) a k h
-
-  pub next-bytes : Bytes mst → Bytes (withNext mst n)
-  unfolding withNext
-  next-bytes b = bytes-place mst 4 (le 4 n) b (le-byte 4 n)
 
   module _ (long : 64 ≤ length mst) where
     pub next-length : length (withNext mst n) ≡ length mst
@@ -165,10 +139,6 @@ module _ (mst : List ℕ) (n : ℕ) where
     unfolding withNext endOf
     end-of-next =
         rw (u32-other mst 4 (le 4 n) 8 (omega arith) (inr (omega arith)), u16-other mst 4 (le 4 n) 12 (omega arith) (inr (omega arith)))
-
-    pub next-commutes : (at : ℕ) (xs : List ℕ) → 8 ≤ at → at ≤ length mst → place (withNext mst n) at xs ≡ withNext (place mst at xs) n
-    unfolding withNext
-    next-commutes at xs h k = place-commute mst 4 (le 4 n) at xs h k
 
     next-before : u32At (withNext mst n) 0 ≡ u32At mst 0
     unfolding withNext
@@ -201,21 +171,9 @@ abbrev endBytes : ℕ → List ℕ
 endBytes e = le 4 (blockAt e) ++ le 2 (offsetAt e)
 
 module _ (mst : List ℕ) (e : ℕ) where
-  pub end-drop : (a : ℕ) → 14 ≤ a → drop a (withEnd mst e) ≡ drop a mst
-  unfolding withEnd
-  end-drop a h = place-drop-after mst 8 (endBytes e) a h
-
   pub end-byte : (i : ℕ) → 14 ≤ i → getD (withEnd mst e) i 0 ≡ getD mst i 0
   unfolding withEnd
   end-byte i h = place-after mst 8 (endBytes e) i h
-
-  pub end-part : (a k : ℕ) → 14 ≤ a → part (withEnd mst e) a k ≡ part mst a k
-  unfolding withEnd
-  end-part a k h = place-part-after mst 8 (endBytes e) a k h
-
-  pub end-bytes : Bytes mst → Bytes (withEnd mst e)
-  unfolding withEnd
-  end-bytes b = bytes-place mst 8 (endBytes e) b (bytes-append (le 4 (blockAt e)) (le 2 (offsetAt e)) (le-byte 4 (blockAt e)) (le-byte 2 (offsetAt e)))
 
   module _ (long : 64 ≤ length mst) where
     pub end-length : length (withEnd mst e) ≡ length mst
@@ -239,10 +197,6 @@ module _ (mst : List ℕ) (e : ℕ) where
     end-offset =
         u16-inside mst 8 (endBytes e) 4 (omega arith) (omega arith) ∙ u16-le-at (le 4 (blockAt e)) (offsetAt e) [] 4 refl (omega arith)
 
-    pub end-commutes : (at : ℕ) (xs : List ℕ) → 14 ≤ at → at ≤ length mst → place (withEnd mst e) at xs ≡ withEnd (place mst at xs) e
-    unfolding withEnd
-    end-commutes at xs h k = place-commute mst 8 (endBytes e) at xs h k
-
     module _ (small : e < 2199023255040) where
       end-block : u32At (withEnd mst e) 8 ≡ blockAt e
       unfolding withEnd
@@ -263,15 +217,6 @@ module _ (mst : List ℕ) (e : ℕ) where
 -- ---- format
 
 module _ (n : ℕ) where
-  -- all but the two numbers is 0
-  pub formatted-byte : (i : ℕ) → 14 ≤ i → getD (formattedMst n) i 0 ≡ 0
-  unfolding formattedMst
-  formatted-byte i h = end-byte (withNext (zeros n) 1) 64 i h ∙ next-byte (zeros n) 1 i (omega arith) ∙ zero-byte n i
-
-  pub formatted-bytes : Bytes (formattedMst n)
-  unfolding formattedMst
-  formatted-bytes = end-bytes (withNext (zeros n) 1) 64 (next-bytes (zeros n) 1 (bytes-replicate n 0 (omega arith)))
-
   module _ (h : mstPermitted n ≡ true) where
     long : 64 ≤ length (zeros n)
     long = let f = blocks-facts 1048575 n h in rw length-replicate (omega arith)

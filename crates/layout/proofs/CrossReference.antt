@@ -4,21 +4,18 @@
 use Prim.Native.Nat.{ℕ, zero, suc, _+_, _*_, _-_, _/_, _≤_, _<_}
 use native.Mathlib.Numerals.{add-one}
 use native.Mathlib.Omega.{arith}
-use mathlib.Core.Path.{_≡_, refl, sym, ap, _∙_}
+use mathlib.Core.Path.{_≡_, refl, ap, _∙_}
 use mathlib.Core.Logic.{_⊎_, inl, inr, ⊎-elim}
 use mathlib.Core.Bool.{Bool, true, false, cond}
 use mathlib.Core.List.{List}
 use lib.Dec.{eqb}
-use lib.IntN.{pos}
 use lib.ListN.{length, getD, length-replicate}
-use borrow.Author.Tests.{eq-eqb, ne-eqb, eqb-true}
+use borrow.Author.Tests.{eq-eqb}
 use Rattle.word.specs.Integer.{u32At, le}
 use Rattle.word.specs.Place.{place}
 use Rattle.word.specs.Signed.{signedOf, bitsOf}
-use Rattle.word.proofs.Place.{lt-or-ge, place-length, place-other, place-again, place-same}
-use Rattle.word.proofs.Integers.{u32-placed, u32-other, u32-bound, u32-back, le-byte}
-use Rattle.word.proofs.ByteRange.{Bytes, bytes-place, bytes-replicate}
-use Rattle.word.proofs.TwosComplement.{signed-low}
+use Rattle.word.proofs.Place.{lt-or-ge, place-length, place-other}
+use Rattle.word.proofs.Integers.{u32-placed, u32-other}
 use Rattle.layout.specs.Sizes.{capacityOf, xrfPermitted}
 use Rattle.layout.specs.Entry.{wellPlaced, entryOf, encodeOf}
 use Rattle.layout.specs.CrossReference.{xrfBlock, slotAt, headBits, headRight, entryAt, slotFree, withEntry, withHeads, formattedXrf}
@@ -26,7 +23,7 @@ use Rattle.layout.specs.declared.entry.Place.{Place}
 use Rattle.layout.specs.declared.entry.Entry.{Entry}
 use Rattle.layout.specs.declared.entry.Entry.the-variants.{Gone, Malformed, At}
 use Rattle.layout.proofs.Facts.{blocks-facts}
-use Rattle.layout.proofs.Codec.{cond-place, decoded-well-placed, decode-later, decode-same, bits-decode-encode, bits-encode-decode, encoded-bound, encoded-nonzero, gone-same, zero-malformed}
+use Rattle.layout.proofs.Codec.{cond-place, decoded-well-placed, decode-later, bits-decode-encode, encoded-bound, gone-same}
 use Rattle.layout.proofs.Zero.{zeros, zero-u32}
 
 -- ---- where slots and first integers stand
@@ -63,17 +60,9 @@ gone-cases : (t : Bool) (x : Entry) → cond t x Malformed ≡ Gone → (t ≡ t
 gone-cases true x e = (refl, e)
 gone-cases false x e = let z : _≡_ {A = ℕ} 0 1 = cc in absurd (omega arith)
 
-cond-malformed : (t : Bool) → cond t Malformed Malformed ≡ Malformed
-cond-malformed true = refl
-cond-malformed false = refl
-
 pub entry-at-right : (xrf : List ℕ) (end m : ℕ) → headRight xrf (xrfBlock m) ≡ true → entryAt xrf end m ≡ entryOf end (signedOf (u32At xrf (slotAt m)))
 unfolding entryAt
 entry-at-right xrf end m e = rw e
-
-pub entry-at-wrong : (xrf : List ℕ) (end m : ℕ) → headRight xrf (xrfBlock m) ≡ false → entryAt xrf end m ≡ Malformed
-unfolding entryAt
-entry-at-wrong xrf end m e = rw e
 
 module _ (xrf : List ℕ) (end m : ℕ) (pl : Place) (e : entryAt xrf end m ≡ At pl) where
   entry-read : (headRight xrf (xrfBlock m) ≡ true) × (entryOf end (signedOf (u32At xrf (slotAt m))) ≡ At pl)
@@ -90,34 +79,6 @@ module _ (xrf : List ℕ) (end m : ℕ) (pl : Place) (e : entryAt xrf end m ≡ 
   pub entry-later : (later : ℕ) → end ≤ later → entryAt xrf later m ≡ At pl
   entry-later later h = entry-at-right xrf later m entry-head ∙ decode-later end later (signedOf (u32At xrf (slotAt m))) pl (entry-read .1) h
 
-  pub entry-same-end : (other : ℕ) → wellPlaced other (pl .block .0) (pl .offset) ≡ true → entryAt xrf other m ≡ At pl
-  entry-same-end other w = entry-at-right xrf other m entry-head ∙ decode-same other pl w (signedOf (u32At xrf (slotAt m))) end (entry-read .1)
-
-  -- the slot's bits are the place's entry
-  pub entry-bits : Bytes xrf → u32At xrf (slotAt m) ≡ bitsOf (encodeOf pl)
-  entry-bits b = sym (bits-encode-decode end (u32At xrf (slotAt m)) pl (u32-bound xrf (slotAt m) b) (entry-read .1))
-
-  -- to write the place that stands there changes nothing
-  pub entry-again : Bytes xrf → slotAt m + 4 ≤ length xrf → withEntry xrf m pl ≡ xrf
-  unfolding withEntry
-  entry-again b h =
-      ap (λ (n : ℕ). place xrf (slotAt m) (le 4 n)) (sym (entry-bits b))
-      ∙ ap (place xrf (slotAt m)) (u32-back xrf (slotAt m) b h)
-      ∙ place-same xrf (slotAt m) 4 h
-
-  pub entry-not-free : slotFree xrf m ≡ false
-  unfolding slotFree
-  entry-not-free =
-      ne-eqb (u32At xrf (slotAt m)) 0
-      (λ z.
-      let q : entryOf end (pos 0) ≡ At pl = sym (ap (entryOf end) (ap signedOf z ∙ signed-low 0 (omega arith))) ∙ entry-read .1 in
-      let o : _≡_ {A = ℕ} 0 1 = cc (zero-malformed end) in
-      omega arith)
-
-pub gone-head : (xrf : List ℕ) (end m : ℕ) → entryAt xrf end m ≡ Gone → headRight xrf (xrfBlock m) ≡ true
-unfolding entryAt
-gone-head xrf end m e = gone-cases (headRight xrf (xrfBlock m)) (entryOf end (signedOf (u32At xrf (slotAt m)))) e .0
-
 -- whatever the end
 pub entry-gone : (xrf : List ℕ) (end other m : ℕ) → entryAt xrf end m ≡ Gone → entryAt xrf other m ≡ Gone
 unfolding entryAt
@@ -125,20 +86,9 @@ entry-gone xrf end other m e =
     let q = gone-cases (headRight xrf (xrfBlock m)) (entryOf end (signedOf (u32At xrf (slotAt m)))) e in
     rw (q .0) (gone-same end other (signedOf (u32At xrf (slotAt m))) (q .1))
 
--- a free slot names no place
-pub free-malformed : (xrf : List ℕ) (end m : ℕ) → slotFree xrf m ≡ true → entryAt xrf end m ≡ Malformed
-unfolding entryAt slotFree
-free-malformed xrf end m e =
-    let z : u32At xrf (slotAt m) ≡ 0 = eqb-true (u32At xrf (slotAt m)) 0 e in
-    rw (z, signed-low 0 (omega arith), zero-malformed end) (cond-malformed (headRight xrf (xrfBlock m)))
-
 -- ---- an entry is written
 
 module _ (xrf : List ℕ) (m : ℕ) (pl : Place) where
-  pub with-entry-bytes : Bytes xrf → Bytes (withEntry xrf m pl)
-  unfolding withEntry
-  with-entry-bytes b = bytes-place xrf (slotAt m) (le 4 (bitsOf (encodeOf pl))) b (le-byte 4 (bitsOf (encodeOf pl)))
-
   module _ (in-slot : slotAt m + 4 ≤ length xrf) where
     pub with-entry-length : length (withEntry xrf m pl) ≡ length xrf
     unfolding withEntry
@@ -166,12 +116,6 @@ module _ (xrf : List ℕ) (m : ℕ) (pl : Place) where
       unfolding entryAt
       with-entry-other end = rw (with-entry-head (xrfBlock o), with-entry-u32 (slotAt o) (slots-apart o m other-low low other))
 
-    -- a second entry of the same MFN
-    pub with-entry-twice : (second : Place) → withEntry (withEntry xrf m pl) m second ≡ withEntry xrf m second
-    unfolding withEntry
-    with-entry-twice second =
-        place-again xrf (slotAt m) (le 4 (bitsOf (encodeOf pl))) (le 4 (bitsOf (encodeOf second))) (omega arith) refl
-
     module _ (end : ℕ) (w : wellPlaced end (pl .block .0) (pl .offset) ≡ true) (most : end ≤ 536870400) where
       pub with-entry-bits : u32At (withEntry xrf m pl) (slotAt m) ≡ bitsOf (encodeOf pl)
       unfolding withEntry
@@ -180,10 +124,6 @@ module _ (xrf : List ℕ) (m : ℕ) (pl : Place) where
       pub with-entry-same : headRight xrf (xrfBlock m) ≡ true → entryAt (withEntry xrf m pl) end m ≡ At pl
       unfolding entryAt
       with-entry-same h = rw (with-entry-head (xrfBlock m), h, with-entry-bits) (bits-decode-encode end pl w most)
-
-      pub with-entry-not-free : slotFree (withEntry xrf m pl) m ≡ false
-      unfolding slotFree
-      with-entry-not-free = rw with-entry-bits (ne-eqb (bitsOf (encodeOf pl)) 0 (encoded-nonzero end pl w most))
 
 -- ---- the first integers are written, and format
 
@@ -200,11 +140,6 @@ module _ (n : ℕ) (xrf : List ℕ) where
   pub heads-more : (k : ℕ) → withHeads n (k + 1) xrf ≡ place (withHeads n k xrf) (k * 512) (le 4 (headBits n (k + 1)))
   unfolding withHeads
   heads-more k = rw (add-one k)
-
-  pub heads-bytes : (k : ℕ) → Bytes xrf → Bytes (withHeads n k xrf)
-  unfolding withHeads
-  heads-bytes zero b = b
-  heads-bytes (suc k) b = bytes-place (withHeads n k xrf) (k * 512) (le 4 (headBits n (suc k))) (heads-bytes k b) (le-byte 4 (headBits n (suc k)))
 
   pub heads-length : (k : ℕ) → k * 512 ≤ length xrf → length (withHeads n k xrf) ≡ length xrf
   unfolding withHeads
@@ -251,10 +186,6 @@ module _ (n : ℕ) (h : xrfPermitted n ≡ true) where
   pub formatted-xrf-length : length (formattedXrf n) ≡ n
   unfolding formattedXrf
   formatted-xrf-length = heads-length (n / 512) (zeros n) (n / 512) whole ∙ length-replicate n 0
-
-  pub formatted-xrf-bytes : Bytes (formattedXrf n)
-  unfolding formattedXrf
-  formatted-xrf-bytes = heads-bytes (n / 512) (zeros n) (n / 512) (bytes-replicate n 0 (omega arith))
 
   formatted-read : (j : ℕ) → j < n / 512 → u32At (formattedXrf n) (j * 512) ≡ headBits (n / 512) (suc j)
   unfolding formattedXrf

@@ -24,12 +24,9 @@ module _ (most n : ℕ) where
   unfolding blocksWithin
   blocks-facts e = let q = simp tests at e in record { whole = q .0 .0; low = q .0 .1; high = q .1 }
 
-  pub blocks-from : n % 512 ≡ 0 → 512 ≤ n → n ≤ 512 * most → blocksWithin most n ≡ true
-  unfolding blocksWithin
-  blocks-from a b c = simp tests ((a, b), c)
-
 -- ---- records and tags
 
+-- an MFRL that is permitted
 pub record RecordLengthFacts (n : ℕ) : Type 0 where
   pub even : n % 2 ≡ 0
   pub low : 18 ≤ n
@@ -44,6 +41,7 @@ module _ (n : ℕ) where
   unfolding recordLength
   record-length-from a b c = simp tests ((a, b), c)
 
+-- a tag that is permitted
 pub record TagFacts (t : ℕ) : Type 0 where
   pub low : 1 ≤ t
   pub high : t ≤ 32767
@@ -53,24 +51,14 @@ module _ (t : ℕ) where
   unfolding tagPermitted
   tag-facts e = let q = simp tests at e in record { low = q .0; high = q .1 }
 
-  pub tag-from : 1 ≤ t → t ≤ 32767 → tagPermitted t ≡ true
-  unfolding tagPermitted
-  tag-from a b = simp tests (a, b)
-
 -- ---- addresses
 
 pub address-of-at : (a : ℕ) → addressOf (blockAt a) (offsetAt a) ≡ a
 address-of-at a = omega arith
 
-module _ (b p : ℕ) (low : 1 ≤ b) (small : p < 512) where
-  pub block-of-address : blockAt (addressOf b p) ≡ b
-  block-of-address = omega arith
-
-  pub offset-of-address : offsetAt (addressOf b p) ≡ p
-  offset-of-address = omega arith
-
 -- ---- places
 
+-- block b and offset p are a place with room for a leader before the end
 pub record WellPlacedFacts (end b p : ℕ) : Type 0 where
   pub block : 1 ≤ b
   pub even : p % 2 ≡ 0
@@ -95,9 +83,6 @@ module _ (end b p : ℕ) (e : wellPlaced end b p ≡ true) where
       let f = well-placed-facts end b p e in
       well-placed-from later b p (f .block) (f .even) (f .offset) (f .above) (omega arith)
 
-  pub address-even : addressOf b p % 2 ≡ 0
-  address-even = let f = well-placed-facts end b p e in omega arith
-
   -- what an entry can hold, where the end lies in an MST
   pub encodable : end ≤ 536870400 → (1 ≤ b) × (b ≤ 1048575) × (p ≤ 498)
   encodable h = let f = well-placed-facts end b p e in (f .block, omega arith, f .offset)
@@ -117,6 +102,7 @@ module _ (a : ℕ) where
   unfolding endMoved
   end-moves h = rw (le-leb 500 (a % 512) h)
 
+-- the end after a record that stops at a: there, or up to twelve bytes further, at the next block
 pub record EndMovedFacts (a end : ℕ) : Type 0 where
   pub low : a ≤ end
   pub near : end ≤ a + 12
@@ -138,7 +124,3 @@ module _ (a : ℕ) where
   -- in a file of whole blocks
   pub end-moved-in : (n : ℕ) → n % 512 ≡ 0 → a ≤ n → endMoved a ≤ n
   end-moved-in n w h = ⊎-elim (λ s. rw (end-stays a s) h) (λ m. rw (end-moves a m) (omega arith)) (lt-or-ge (a % 512) 500)
-
-  -- an end that is stored stays
-  pub end-moved-same : a % 512 ≤ 498 → endMoved a ≡ a
-  end-moved-same h = end-stays a (omega arith)

@@ -2,15 +2,14 @@
 -- laws of those integers, field by field; what the first eighteen bytes hold depends on nothing else.
 use Prim.Native.Nat.{ℕ, _+_, _≤_, _<_}
 use native.Mathlib.Omega.{arith}
-use mathlib.Core.Path.{_≡_, refl, sym, ap, _∙_}
-use mathlib.Core.List.{List, [], _++_, append-assoc}
-use lib.ListN.{length, getD, take, drop, List·getD-append}
+use mathlib.Core.Path.{_≡_, refl, sym, _∙_}
+use mathlib.Core.List.{List, _++_}
+use lib.ListN.{length, getD, take, drop}
 use lib.Seq.{getD-take, getD-drop}
 use Rattle.word.specs.Integer.{u16At, u32At, le}
-use Rattle.word.specs.Place.{place, part}
-use Rattle.word.proofs.Place.{part-add, place-drop-at}
-use Rattle.word.proofs.Integers.{u16-same, u32-same, u32-le, u16-le-at, u32-le-at, u16-bound, u32-bound, u16-back, u32-back, le-byte}
-use Rattle.word.proofs.ByteRange.{Bytes, bytes-append}
+use Rattle.word.specs.Place.{part}
+use Rattle.word.proofs.Place.{part-add}
+use Rattle.word.proofs.Integers.{Bytes, u16-same, u32-same, u32-le, u16-le-at, u32-le-at, u16-back, u32-back}
 use Rattle.layout.specs.Leader.{leaderBytes, leaderOf, firstBytes}
 use Rattle.layout.specs.declared.leader.Leader.{Leader}
 
@@ -45,16 +44,6 @@ module _ (x y : List ℕ) (i j : ℕ) (same : (k : ℕ) → k < 18 → getD x (i
 pub leader-front : (s : List ℕ) (n : ℕ) → 18 ≤ n → leaderOf (take n s) ≡ leaderOf s
 leader-front s n h = leader-same (take n s) s 0 0 (λ k l. getD-take n s (0 + k) 0 (omega arith))
 
-pub leader-append : (s t : List ℕ) → 18 ≤ length s → leaderOf (s ++ t) ≡ leaderOf s
-leader-append s t h = leader-same (s ++ t) s 0 0 (λ k l. List·getD-append s t 0 (0 + k) (omega arith))
-
--- in a part of a file
-pub leader-part : (d : List ℕ) (a n : ℕ) → 18 ≤ n → leaderOf (part d a n) ≡ leaderOf (drop a d)
-leader-part d a n h = leader-front (drop a d) n h
-
-pub leader-window : (x y : List ℕ) (i j : ℕ) → part x i 18 ≡ part y j 18 → leaderOf (drop i x) ≡ leaderOf (drop j y)
-leader-window x y i j e = sym (leader-front (drop i x) 18 (omega arith)) ∙ ap leaderOf e ∙ leader-front (drop j y) 18 (omega arith)
-
 -- the array of the first eighteen bytes
 pub first-bytes-leader : (s : List ℕ) → leaderOf (firstBytes s) ≡ leaderOf s
 unfolding leaderOf u16At u32At
@@ -65,22 +54,6 @@ first-bytes-leader s = refl
 pub leader-length : (l : Leader) → length (leaderBytes l) ≡ 18
 unfolding leaderBytes
 leader-length l = refl
-
-pub leader-bytes-small : (l : Leader) → Bytes (leaderBytes l)
-unfolding leaderBytes
-leader-bytes-small l =
-    let a : List ℕ = le 4 (l .mfn .0) in
-    let b : List ℕ = a ++ le 2 (l .mfrl) in
-    let c : List ℕ = b ++ le 4 (l .mfbwb .0) in
-    let d : List ℕ = c ++ le 2 (l .mfbwp) in
-    let e : List ℕ = d ++ le 2 (l .base) in
-    let f : List ℕ = e ++ le 2 (l .nvf) in
-    let p : Bytes b = bytes-append a (le 2 (l .mfrl)) (le-byte 4 (l .mfn .0)) (le-byte 2 (l .mfrl)) in
-    let q : Bytes c = bytes-append b (le 4 (l .mfbwb .0)) p (le-byte 4 (l .mfbwb .0)) in
-    let r : Bytes d = bytes-append c (le 2 (l .mfbwp)) q (le-byte 2 (l .mfbwp)) in
-    let s : Bytes e = bytes-append d (le 2 (l .base)) r (le-byte 2 (l .base)) in
-    let t : Bytes f = bytes-append e (le 2 (l .nvf)) s (le-byte 2 (l .nvf)) in
-    bytes-append f (le 2 (l .status)) t (le-byte 2 (l .status))
 
 -- every field is within its width
 pub record Ranged (l : Leader) : Type 0 where
@@ -116,21 +89,6 @@ leader-of-bytes l rest r =
     (u16-le-at e (l .nvf) z 14 refl (r .nvf))
     (u16-le-at f (l .status) rest 16 refl (r .status))
 
-pub leader-of-own-bytes : (l : Leader) → Ranged l → leaderOf (leaderBytes l) ≡ l
-unfolding leaderBytes
-leader-of-own-bytes l r = leader-of-bytes l [] r
-
--- in a file
-pub leader-placed : (d : List ℕ) (at : ℕ) (l : Leader) (rest : List ℕ) → Ranged l → at ≤ length d → leaderOf (drop at (place d at (leaderBytes l ++ rest))) ≡ l
-leader-placed d at l rest r h =
-    let xs : List ℕ = leaderBytes l ++ rest in
-    ap leaderOf (place-drop-at d at xs h ∙ append-assoc (leaderBytes l) rest (drop (at + length xs) d))
-    ∙ leader-of-bytes l (rest ++ drop (at + length xs) d) r
-
-pub leader-patched : (d : List ℕ) (at : ℕ) (l : Leader) → Ranged l → at ≤ length d → leaderOf (drop at (place d at (leaderBytes l))) ≡ l
-leader-patched d at l r h =
-    ap leaderOf (place-drop-at d at (leaderBytes l) h) ∙ leader-of-bytes l (drop (at + length (leaderBytes l)) d) r
-
 -- the fields' parts, one after the other
 parts : (s : List ℕ) → part s 0 18 ≡ part s 0 4 ++ part s 4 2 ++ part s 6 4 ++ part s 10 2 ++ part s 12 2 ++ part s 14 2 ++ part s 16 2
 parts s =
@@ -140,29 +98,16 @@ joined : {a b c d e f g a′ b′ c′ d′ e′ f′ g′ : List ℕ} → a ≡
     → a ++ b ++ c ++ d ++ e ++ f ++ g ≡ a′ ++ b′ ++ c′ ++ d′ ++ e′ ++ f′ ++ g′
 joined p q r s t u v = cc
 
-module _ (s : List ℕ) (small : Bytes s) where
-  pub leader-ranged : Ranged (leaderOf s)
-  unfolding leaderOf
-  leader-ranged =
-      record {
-        mfn = u32-bound s 0 small;
-        mfrl = u16-bound s 4 small;
-        mfbwb = u32-bound s 6 small;
-        mfbwp = u16-bound s 10 small;
-        base = u16-bound s 12 small;
-        nvf = u16-bound s 14 small;
-        status = u16-bound s 16 small;
-      }
-
-  pub bytes-of-leader : 18 ≤ length s → leaderBytes (leaderOf s) ≡ take 18 s
-  unfolding leaderBytes leaderOf
-  bytes-of-leader h =
-      joined
-      (u32-back s 0 small (omega arith))
-      (u16-back s 4 small (omega arith))
-      (u32-back s 6 small (omega arith))
-      (u16-back s 10 small (omega arith))
-      (u16-back s 12 small (omega arith))
-      (u16-back s 14 small (omega arith))
-      (u16-back s 16 small (omega arith))
-      ∙ sym (parts s)
+-- the bytes of the leader that is read are those that were read
+pub bytes-of-leader : (s : List ℕ) → Bytes s → 18 ≤ length s → leaderBytes (leaderOf s) ≡ take 18 s
+unfolding leaderBytes leaderOf
+bytes-of-leader s small h =
+    joined
+    (u32-back s 0 small (omega arith))
+    (u16-back s 4 small (omega arith))
+    (u32-back s 6 small (omega arith))
+    (u16-back s 10 small (omega arith))
+    (u16-back s 12 small (omega arith))
+    (u16-back s 14 small (omega arith))
+    (u16-back s 16 small (omega arith))
+    ∙ sym (parts s)

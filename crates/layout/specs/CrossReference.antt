@@ -10,7 +10,7 @@ use Rattle.word.specs.Signed.{signedOf, bitsOf}
 use Rattle.layout.specs.Entry.{entryOf, encodeOf}
 use Rattle.layout.specs.declared.entry.Place.{Place}
 use Rattle.layout.specs.declared.entry.Entry.{Entry}
-use Rattle.layout.specs.declared.entry.Entry.the-variants.{Gone, Malformed, At}
+use Rattle.layout.specs.declared.entry.Entry.the-variants.{Malformed}
 
 -- MFN m stands in block (m - 1) / 127 + 1
 abbrev pub xrfBlock : ℕ → ℕ

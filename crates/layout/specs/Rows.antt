@@ -1,7 +1,7 @@
 -- Rows P1 to P12 of document 01, "Numbers to test on", as one table. A row holds what is given and what is to come of it; `calculated`
 -- puts in the place of the latter what the definitions give, so the table is right exactly if `calculated` leaves it as it is.
 use Prim.Native.Nat.{ℕ, _+_}
-use mathlib.Core.Bool.{Bool, true, false}
+use mathlib.Core.Bool.{true, false}
 use mathlib.Core.List.{List, [], _∷_}
 use lib.IntN.{ℤ, pos, negℤ}
 use Rattle.word.specs.Integer.{le}
@@ -9,7 +9,6 @@ use Rattle.word.specs.Signed.{bitsOf}
 use Rattle.layout.specs.Sizes.{endMoved, blockAt, offsetAt}
 use Rattle.layout.specs.Entry.{entryOf, placed}
 use Rattle.layout.specs.CrossReference.{slotAt}
-use Rattle.layout.specs.declared.entry.Mark.{Mark}
 use Rattle.layout.specs.declared.entry.Mark.the-variants.{Settled, Changed, New}
 use Rattle.layout.specs.declared.entry.Entry.{Entry}
 use Rattle.layout.specs.declared.entry.Entry.the-variants.{Gone, Malformed, At}

@@ -1,34 +1,25 @@
 -- What a call that is done was asked: none of the rows of its table applied.
 use Prim.Native.Nat.{ℕ, _+_, _≤_}
 use native.Mathlib.Omega.{arith}
-use mathlib.Core.Path.{_≡_, refl, sym, ap, _∙_}
+use mathlib.Core.Path.{_≡_, sym, _∙_}
 use mathlib.Core.Bool.{Bool, true, false, not, _&&_, cond}
 use mathlib.Core.List.{List, [], _∷_}
 use lib.ListN.{length}
 use borrow.Author.Tests.{ltb-false}
 use Rattle.layout.specs.Control.{endOf}
-use Rattle.layout.specs.declared.entry.Mark.{Mark}
-use Rattle.layout.specs.declared.entry.Mark.the-variants.{Settled, Changed, New}
+use Rattle.layout.specs.declared.entry.Mark.the-variants.{Changed}
 use Rattle.layout.specs.declared.entry.Entry.the-variants.{At}
 use Rattle.record.specs.Draft.{draftRight, draftFields}
 use Rattle.record.specs.Bytes.{needFor}
 use Rattle.store.specs.Answer.{Refusal, refuse, lowest, numberOf}
 use Rattle.store.specs.Reading.{mfnKnown, entryFor, placeFor, isGone, isSettled, isNew, leaderAt, currentFields}
 use Rattle.store.specs.Refusals.{named, fine, bothFine, exceeds, updateAppends, updateAnswer, deleteAnswer, settleAnswer, revertAnswer}
-use Rattle.store.specs.declared.answer.Answer.{Answer}
 use Rattle.store.specs.declared.answer.Answer.the-variants.{Done, BadDraft, NoSuchMfn, PhysicallyDeleted, Deleted, NotPending, NeverSettled, NoRoom}
-use Rattle.store.proofs.Gates.{Refusing, done-number}
+use Rattle.store.proofs.Gates.{Refusing, passed, holds}
+use Rattle.store.proofs.Results.{only-changed}
 use Rattle.soundness.proofs.Standing.{Sound, gated-sound, named-fine, named-both, entry-for-place}
 
--- a row that did not apply
-pub passes : (a : Answer) (b : Bool) (rest : Answer) → Refusing a → cond b a rest ≡ Done → (b ≡ false) × (rest ≡ Done)
-passes a true rest h e = absurd (h (ap numberOf e ∙ done-number))
-passes a false rest h e = (refl, e)
-
--- a row of a test that has to hold
-pub holds : (a : Answer) (b : Bool) (rest : Answer) → Refusing a → cond (not b) a rest ≡ Done → (b ≡ true) × (rest ≡ Done)
-holds a true rest h e = (refl, e)
-holds a false rest h e = absurd (h (ap numberOf e ∙ done-number))
+-- ---- the answers of the rows are refusals
 
 pub no-draft : Refusing BadDraft
 unfolding numberOf
@@ -58,6 +49,8 @@ no-room : Refusing NoRoom
 unfolding numberOf
 no-room z = omega arith
 
+-- ---- what was asked
+
 -- the MFN is there, at the place of its entry
 pub record There (mst xrf : List ℕ) (m : ℕ) : Type 0 where
   pub known : mfnKnown mst m ≡ true
@@ -67,14 +60,14 @@ module _ {mst xrf : List ℕ} (s : Sound mst xrf) (m : ℕ) where
   -- the rows of an MFN passed
   there : (rest : List Refusal) → lowest (named mst xrf m (fine mst xrf m) rest) ≡ Done → There mst xrf m × (lowest rest ≡ Done)
   there rest e =
-      let k = holds NoSuchMfn (mfnKnown mst m) (cond (isGone (entryFor mst xrf m)) PhysicallyDeleted (lowest rest)) no-mfn (sym (named-fine s m rest) ∙ e) in
-      let g = passes PhysicallyDeleted (isGone (entryFor mst xrf m)) (lowest rest) no-entry (k .1) in
+      let k = holds (mfnKnown mst m) NoSuchMfn (cond (isGone (entryFor mst xrf m)) PhysicallyDeleted (lowest rest)) no-mfn (sym (named-fine s m rest) ∙ e) in
+      let g = passed (isGone (entryFor mst xrf m)) PhysicallyDeleted (lowest rest) no-entry (k .1) in
       (record { known = k .0; entry = entry-for-place s m (k .0) (g .0) }, g .1)
 
   there-both : (rest : List Refusal) → lowest (named mst xrf m (bothFine mst xrf m) rest) ≡ Done → There mst xrf m × (lowest rest ≡ Done)
   there-both rest e =
-      let k = holds NoSuchMfn (mfnKnown mst m) (cond (isGone (entryFor mst xrf m)) PhysicallyDeleted (lowest rest)) no-mfn (sym (named-both s m rest) ∙ e) in
-      let g = passes PhysicallyDeleted (isGone (entryFor mst xrf m)) (lowest rest) no-entry (k .1) in
+      let k = holds (mfnKnown mst m) NoSuchMfn (cond (isGone (entryFor mst xrf m)) PhysicallyDeleted (lowest rest)) no-mfn (sym (named-both s m rest) ∙ e) in
+      let g = passed (isGone (entryFor mst xrf m)) PhysicallyDeleted (lowest rest) no-entry (k .1) in
       (record { known = k .0; entry = entry-for-place s m (k .0) (g .0) }, g .1)
 
   -- room, where the call writes at the end
@@ -82,6 +75,7 @@ module _ {mst xrf : List ℕ} (s : Sound mst xrf) (m : ℕ) where
   unfolding exceeds
   room-for appends need e a = ltb-false (length mst) (endOf mst + need) (rw a at e)
 
+  -- an update that is done
   pub record UpdateAsked (tags lens bytes : List ℕ) : Type 0 where
     pub draft : draftRight tags lens bytes ≡ true
     pub here : There mst xrf m
@@ -97,13 +91,14 @@ module _ {mst xrf : List ℕ} (s : Sound mst xrf) (m : ℕ) where
       let last : List Refusal = refuse NoRoom (updateAppends p (leaderAt mst p) need && exceeds mst need) ∷ [] in
       let rest : List Refusal = refuse Deleted (p .deleted) ∷ last in
       let d =
-      holds BadDraft (draftRight tags lens bytes) (lowest (named mst xrf m (fine mst xrf m) rest)) no-draft
+      holds (draftRight tags lens bytes) BadDraft (lowest (named mst xrf m (fine mst xrf m) rest)) no-draft
       (sym (gated-sound s (refuse BadDraft (not (draftRight tags lens bytes)) ∷ named mst xrf m (fine mst xrf m) rest)) ∙ e) in
       let h = there rest (d .1) in
-      let l = passes Deleted (p .deleted) (lowest last) no-live (h .1) in
-      let r = passes NoRoom (updateAppends p (leaderAt mst p) need && exceeds mst need) Done no-room (l .1) in
+      let l = passed (p .deleted) Deleted (lowest last) no-live (h .1) in
+      let r = passed (updateAppends p (leaderAt mst p) need && exceeds mst need) NoRoom Done no-room (l .1) in
       record { draft = d .0; here = h .0; live = l .0; room = λ a. room-for (updateAppends p (leaderAt mst p) need) need (r .0) a }
 
+  -- a delete that is done
   pub record DeleteAsked : Type 0 where
     pub here : There mst xrf m
     pub live : placeFor mst xrf m .deleted ≡ false
@@ -117,10 +112,11 @@ module _ {mst xrf : List ℕ} (s : Sound mst xrf) (m : ℕ) where
       let last : List Refusal = refuse NoRoom (isSettled (p .mark) && exceeds mst need) ∷ [] in
       let rest : List Refusal = refuse Deleted (p .deleted) ∷ last in
       let h = there rest (sym (gated-sound s (named mst xrf m (fine mst xrf m) rest)) ∙ e) in
-      let l = passes Deleted (p .deleted) (lowest last) no-live (h .1) in
-      let r = passes NoRoom (isSettled (p .mark) && exceeds mst need) Done no-room (l .1) in
+      let l = passed (p .deleted) Deleted (lowest last) no-live (h .1) in
+      let r = passed (isSettled (p .mark) && exceeds mst need) NoRoom Done no-room (l .1) in
       record { here = h .0; live = l .0; room = λ a. room-for (isSettled (p .mark)) need (r .0) a }
 
+  -- a settle that is done
   pub record SettleAsked : Type 0 where
     pub here : There mst xrf m
     pub pending : isSettled (placeFor mst xrf m .mark) ≡ false
@@ -130,17 +126,13 @@ module _ {mst xrf : List ℕ} (s : Sound mst xrf) (m : ℕ) where
   settle-asked e =
       let rest : List Refusal = refuse NotPending (isSettled (placeFor mst xrf m .mark)) ∷ [] in
       let h = there rest (sym (gated-sound s (named mst xrf m (fine mst xrf m) rest)) ∙ e) in
-      let p = passes NotPending (isSettled (placeFor mst xrf m .mark)) Done no-pending (h .1) in
+      let p = passed (isSettled (placeFor mst xrf m .mark)) NotPending Done no-pending (h .1) in
       record { here = h .0; pending = p .0 }
 
+  -- a revert that is done
   pub record RevertAsked : Type 0 where
     pub here : There mst xrf m
     pub changed : placeFor mst xrf m .mark ≡ Changed
-
-  only-changed : (k : Mark) → isSettled k ≡ false → isNew k ≡ false → k ≡ Changed
-  only-changed Settled a b = absurd (let z : _≡_ {A = ℕ} 1 0 = ap (λ (t : Bool). cond t 1 0) a in omega arith)
-  only-changed Changed a b = refl
-  only-changed New a b = absurd (let z : _≡_ {A = ℕ} 1 0 = ap (λ (t : Bool). cond t 1 0) b in omega arith)
 
   pub revert-asked : revertAnswer mst xrf m ≡ Done → RevertAsked
   unfolding revertAnswer
@@ -149,6 +141,6 @@ module _ {mst xrf : List ℕ} (s : Sound mst xrf) (m : ℕ) where
       let last : List Refusal = refuse NeverSettled (isNew (p .mark)) ∷ [] in
       let rest : List Refusal = refuse NotPending (isSettled (p .mark)) ∷ last in
       let h = there-both rest (sym (gated-sound s (named mst xrf m (bothFine mst xrf m) rest)) ∙ e) in
-      let n = passes NotPending (isSettled (p .mark)) (lowest last) no-pending (h .1) in
-      let w = passes NeverSettled (isNew (p .mark)) Done no-settled (n .1) in
+      let n = passed (isSettled (p .mark)) NotPending (lowest last) no-pending (h .1) in
+      let w = passed (isNew (p .mark)) NeverSettled Done no-settled (n .1) in
       record { here = h .0; changed = only-changed (p .mark) (n .0) (w .0) }

@@ -17,8 +17,8 @@ use Rattle.record.specs.Bytes.{needFor}
 use Rattle.store.specs.Answer.{after, numberOf}
 use Rattle.store.specs.declared.answer.Answer.{Answer}
 use Rattle.store.specs.declared.answer.Answer.the-variants.{Done, BadLength, BadDraft, NoSuchMfn, Deleted, NoField, NeverSettled, NoRoom}
-use Rattle.store.proofs.Gates.{Refusing, number-done, after-done, after-refused}
-use Rattle.ledger.proofs.Asked.{holds, no-draft, no-mfn}
+use Rattle.store.proofs.Gates.{Refusing, number-done, after-done, after-refused, holds}
+use Rattle.ledger.proofs.Asked.{no-draft, no-mfn}
 use Rattle.ledger.specs.Call.{Call, format, view, viewSettled, create, update, delete, settle, revert, check}
 use Rattle.ledger.specs.Ledger.{settled, new, changed, Item, gone, held, Ledger, nextMfn, itemOf, isSettledMark, isNone, overfull, lengthsFine, mfnIn, appends, changedMark, grown, withItem, withItemAt, created, updated, deleted, settledItem, revertedItem, settledViewNumber, createNumber, updateNumber, deleteNumber, settleNumber, revertNumber, nextL, afterL}
 
@@ -80,9 +80,6 @@ ends m (settle k) = eqb k m
 ends m (revert k) = eqb k m
 ends m check = false
 
-true-false : true ≡ false → ⊥
-true-false e = false-true (sym e)
-
 -- a call that is done knows its MFN
 no-length : Refusing BadLength
 unfolding numberOf
@@ -93,6 +90,7 @@ module _ (L : Ledger) (k : ℕ) where
   unfolding mfnIn
   in-range e = let q = simp tests at e in (q .0, q .1)
 
+  -- the lengths are right, and MFN k was given out
   pub record Known : Type 0 where
     pub lengths : lengthsFine L ≡ true
     pub low : 1 ≤ k
@@ -101,30 +99,30 @@ module _ (L : Ledger) (k : ℕ) where
   pub update-known : (tags lens bytes : List ℕ) → updateNumber L k tags lens bytes ≡ Done → Known
   unfolding updateNumber
   update-known tags lens bytes e =
-      let a = holds BadLength (lengthsFine L) _ no-length e in
-      let b = holds BadDraft (draftRight tags lens bytes) _ no-draft (a .1) in
-      let c = holds NoSuchMfn (mfnIn L k) _ no-mfn (b .1) in
+      let a = holds (lengthsFine L) BadLength _ no-length e in
+      let b = holds (draftRight tags lens bytes) BadDraft _ no-draft (a .1) in
+      let c = holds (mfnIn L k) NoSuchMfn _ no-mfn (b .1) in
       record { lengths = a .0; low = in-range (c .0) .0; high = in-range (c .0) .1 }
 
   pub delete-known : deleteNumber L k ≡ Done → Known
   unfolding deleteNumber
   delete-known e =
-      let a = holds BadLength (lengthsFine L) _ no-length e in
-      let c = holds NoSuchMfn (mfnIn L k) _ no-mfn (a .1) in
+      let a = holds (lengthsFine L) BadLength _ no-length e in
+      let c = holds (mfnIn L k) NoSuchMfn _ no-mfn (a .1) in
       record { lengths = a .0; low = in-range (c .0) .0; high = in-range (c .0) .1 }
 
   pub settle-known : settleNumber L k ≡ Done → Known
   unfolding settleNumber
   settle-known e =
-      let a = holds BadLength (lengthsFine L) _ no-length e in
-      let c = holds NoSuchMfn (mfnIn L k) _ no-mfn (a .1) in
+      let a = holds (lengthsFine L) BadLength _ no-length e in
+      let c = holds (mfnIn L k) NoSuchMfn _ no-mfn (a .1) in
       record { lengths = a .0; low = in-range (c .0) .0; high = in-range (c .0) .1 }
 
   pub revert-known : revertNumber L k ≡ Done → Known
   unfolding revertNumber
   revert-known e =
-      let a = holds BadLength (lengthsFine L) _ no-length e in
-      let c = holds NoSuchMfn (mfnIn L k) _ no-mfn (a .1) in
+      let a = holds (lengthsFine L) BadLength _ no-length e in
+      let c = holds (mfnIn L k) NoSuchMfn _ no-mfn (a .1) in
       record { lengths = a .0; low = in-range (c .0) .0; high = in-range (c .0) .1 }
 
   -- its item is set to a change over some settled fields
@@ -223,7 +221,7 @@ module _ (L : Ledger) (m : ℕ) (old : List Field) (p : Pending L m old) where
   -- one call that does not end it
   pub pending-kept : (c : Call) → ends m c ≡ false → Pending (nextL L c) m old
   unfolding nextL ends created
-  pending-kept format e = absurd (true-false e)
+  pending-kept format e = absurd (false-true (sym e))
   pending-kept (view k tag occ) e = p
   pending-kept (viewSettled k tag occ) e = p
   pending-kept (create tags lens bytes) e =

@@ -1,22 +1,25 @@
--- A call read from five numbers. `opIn` and `firstCall` go by the same tests of the first number; they are taken apart here once, by that
--- number, and what a replay has to know of what it read is one case for each kind of `Op`.
+-- A call read from five numbers. `opIn`, by which the code reads, and `firstCall`, by which the promise speaks, go by the same tests of the
+-- first number. They are taken apart here once, by that number, and what a replay has to know of what it read is one case of `Decoded` for each
+-- kind of `Op`.
 use Prim.Native.Nat.{ℕ, zero, suc, _+_, _≤_, _<_}
 use native.Mathlib.Nat.{add-zero}
 use native.Mathlib.Omega.{arith}
-use mathlib.Core.Path.{_≡_, refl, sym, ap, _∙_}
+use mathlib.Core.Path.{_≡_, refl}
 use mathlib.Core.Logic.{⊎-elim}
-use mathlib.Core.Bool.{Bool, true, false, _&&_, cond}
+use mathlib.Core.Bool.{Bool, true, false}
 use mathlib.Core.Option.{Option, some, none}
 use mathlib.Core.List.{List}
 use lib.Dec.{eqb, leb}
 use lib.ListN.{length, getD, drop}
 use lib.Seq.{getD-drop}
-use borrow.Author.Tests.{leb-true, le-leb, lt-leb, ne-eqb}
+use borrow.Author.Tests.{le-leb, lt-leb, ne-eqb}
 use Rattle.word.proofs.Place.{lt-or-ge}
 use Rattle.layout.proofs.Tests.{tests}
+use Rattle.layout.specs.declared.sizes.Mfn.{Mfn}
+use Rattle.layout.specs.declared.sizes.Tag.{Tag}
 use Rattle.ledger.specs.Call.{Call}
-use Rattle.ledger.specs.Replay.{Script, draftFits, viewFits, takesDraft, draftCount, firstCall}
-use Rattle.ledger.specs.Turns.{mfnOf, tagOf, counts, draftsOf, leftOf, noDraft, countsFit, opOf, opIn, readingCall, writingCall, draftOf}
+use Rattle.ledger.specs.Replay.{Script, draftFits, viewFits, firstCall}
+use Rattle.ledger.specs.Turns.{mfnOf, tagOf, counts, draftsOf, noDraft, countsFit, opOf, opIn, readingCall, writingCall, draftOf}
 use Rattle.ledger.specs.declared.replay.Counts.{Counts}
 use Rattle.ledger.specs.declared.replay.Reading.{Reading}
 use Rattle.ledger.specs.declared.replay.Writing.{Writing}
@@ -25,7 +28,11 @@ use Rattle.ledger.specs.declared.replay.Reading.the-variants.{View, Sett
 use Rattle.ledger.specs.declared.replay.Writing.the-variants.{Format, Create, Update, Delete, Settle, Revert}
 use Rattle.ledger.specs.declared.replay.Op.the-variants.{Asks, Writes, Malformed}
 
--- a draft is no longer than what is left
+-- what is left of the drafts
+abbrev pub leftOf : Script → Counts
+leftOf s = counts (length (s .tags)) (length (s .lens)) (length (s .bytes))
+
+-- a draft is no longer than that
 pub record Fits (n : Counts) (s : Script) : Type 0 where
   pub tags-fit : n .tags ≤ length (s .tags)
   pub lens-fit : n .lens ≤ length (s .lens)
@@ -46,7 +53,7 @@ pub data Decoded (s : Script) : Op → Type 0 where
       → Decoded s (Writes w)
   malformed : firstCall s ≡ none → Decoded s Malformed
 
--- the number of a call, or of none
+-- the number of a call, or of none, as cases
 data Number (n : ℕ) : Type 0 where
   is-format : n ≡ 0 → Number n
   is-view : n ≡ 1 → Number n
@@ -71,12 +78,23 @@ number (suc (suc (suc (suc (suc (suc (suc zero))))))) = is-revert refl
 number (suc (suc (suc (suc (suc (suc (suc (suc zero)))))))) = is-check refl
 number (suc (suc (suc (suc (suc (suc (suc (suc (suc n))))))))) = is-none (omega arith)
 
+-- past the last number no test holds
 other : (n : ℕ) → 8 < n → (k : ℕ) → k ≤ 8 → eqb n k ≡ false
 other n h k l = ne-eqb n k (λ e. omega arith)
 
 module _ (s : Script) (h : 5 ≤ length (s .ops)) where
+  -- its numbers
   five : leb 5 (length (s .ops)) ≡ true
   five = le-leb 5 (length (s .ops)) h
+
+  abbrev mfn : Mfn
+  mfn = mfnOf (getD (s .ops) 1 0)
+
+  abbrev tag : Tag
+  tag = tagOf (getD (s .ops) 2 0)
+
+  abbrev draft : Counts
+  draft = counts (getD (s .ops) 2 0) (getD (s .ops) 3 0) (getD (s .ops) 4 0)
 
   by-number : Number (getD (s .ops) 0 0) → Decoded s (opIn (s .ops) (leftOf s))
   unfolding opIn opOf firstCall
@@ -84,32 +102,26 @@ module _ (s : Script) (h : 5 ≤ length (s .ops)) where
   by-number (is-view e) = go (viewFits s) refl
     where
       go : (b : Bool) → viewFits s ≡ b → Decoded s (opIn (s .ops) (leftOf s))
-      go true t = rw (e, t) (asked (View (mfnOf (getD (s .ops) 1 0)) (tagOf (getD (s .ops) 2 0)) (getD (s .ops) 3 0)) (rw (five, e, t)) (rw e))
+      go true t = rw (e, t) (asked (View mfn tag (getD (s .ops) 3 0)) (rw (five, e, t)) (rw e))
       go false t = rw (e, t) (malformed (rw (five, e, t)))
   by-number (is-settled e) = go (viewFits s) refl
     where
       go : (b : Bool) → viewFits s ≡ b → Decoded s (opIn (s .ops) (leftOf s))
-      go true t = rw (e, t) (asked (Settled (mfnOf (getD (s .ops) 1 0)) (tagOf (getD (s .ops) 2 0)) (getD (s .ops) 3 0)) (rw (five, e, t)) (rw e))
+      go true t = rw (e, t) (asked (Settled mfn tag (getD (s .ops) 3 0)) (rw (five, e, t)) (rw e))
       go false t = rw (e, t) (malformed (rw (five, e, t)))
   by-number (is-create e) = go (draftFits s) refl
     where
-      n : Counts
-      n = counts (getD (s .ops) 2 0) (getD (s .ops) 3 0) (getD (s .ops) 4 0)
-
       go : (b : Bool) → draftFits s ≡ b → Decoded s (opIn (s .ops) (leftOf s))
-      go true t = rw (e, t) (written (Create n) (rw (five, e, t)) (rw e) (fits-test n s t))
+      go true t = rw (e, t) (written (Create draft) (rw (five, e, t)) (rw e) (fits-test draft s t))
       go false t = rw (e, t) (malformed (rw (five, e, t)))
   by-number (is-update e) = go (draftFits s) refl
     where
-      n : Counts
-      n = counts (getD (s .ops) 2 0) (getD (s .ops) 3 0) (getD (s .ops) 4 0)
-
       go : (b : Bool) → draftFits s ≡ b → Decoded s (opIn (s .ops) (leftOf s))
-      go true t = rw (e, t) (written (Update (mfnOf (getD (s .ops) 1 0)) n) (rw (five, e, t)) (rw e) (fits-test n s t))
+      go true t = rw (e, t) (written (Update mfn draft) (rw (five, e, t)) (rw e) (fits-test draft s t))
       go false t = rw (e, t) (malformed (rw (five, e, t)))
-  by-number (is-delete e) = rw e (written (Delete (mfnOf (getD (s .ops) 1 0))) (rw (five, e)) (rw e) (fits-none s))
-  by-number (is-settle e) = rw e (written (Settle (mfnOf (getD (s .ops) 1 0))) (rw (five, e)) (rw e) (fits-none s))
-  by-number (is-revert e) = rw e (written (Revert (mfnOf (getD (s .ops) 1 0))) (rw (five, e)) (rw e) (fits-none s))
+  by-number (is-delete e) = rw e (written (Delete mfn) (rw (five, e)) (rw e) (fits-none s))
+  by-number (is-settle e) = rw e (written (Settle mfn) (rw (five, e)) (rw e) (fits-none s))
+  by-number (is-revert e) = rw e (written (Revert mfn) (rw (five, e)) (rw e) (fits-none s))
   by-number (is-check e) = rw e (asked Check (rw (five, e)) (rw e))
   by-number (is-none k) = rw (o 0 (omega arith), o 1 (omega arith), o 2 (omega arith), o 3 (omega arith), o 4 (omega arith), o 5 (omega arith), o 6 (omega arith), o 7 (omega arith), o 8 (omega arith)) (malformed none-first)
     where
@@ -122,7 +134,7 @@ module _ (s : Script) (h : 5 ≤ length (s .ops)) where
   pub decoded : Decoded s (opIn (s .ops) (leftOf s))
   decoded = by-number (number (getD (s .ops) 0 0))
 
--- ---- by the op
+-- ---- by the op that was read
 
 module _ (s : Script) (o : Op) (d : Decoded s o) where
   pub asks-call : (r : Reading) → o ≡ Asks r → (firstCall s ≡ some (readingCall r)) × (draftsOf s ≡ noDraft)
@@ -151,13 +163,14 @@ module _ (s : Script) (o : Op) (d : Decoded s o) where
       go _ (written v f g h) e = absurd (let z : _≡_ {A = ℕ} 0 1 = cc in omega arith)
       go _ (malformed f) e = f
 
--- ---- by the call
+-- ---- by the first call
 
 -- a list with a first call has its five numbers, and the draft that it takes
 pub record HasCall (s : Script) : Type 0 where
   pub numbers : 5 ≤ length (s .ops)
   pub draft : Fits (draftsOf s) s
 
+-- there is no call in fewer numbers
 pub too-short : (s : Script) → length (s .ops) < 5 → firstCall s ≡ none
 unfolding firstCall
 too-short s h = rw (lt-leb 5 (length (s .ops)) h)

@@ -51,7 +51,7 @@ module _ (mst xrf : List ℕ) (h : lengthsPermitted mst xrf ≡ true) where
   unfolding ledgerOf empty tabulate
   formatted-ledger = rw (first-next, first-end, mst-long, xrf-long)
 
-  format-done : formatAnswer mst xrf ≡ Done
+  pub format-done : formatAnswer mst xrf ≡ Done
   unfolding formatAnswer
   format-done = rw h
 

@@ -1,6 +1,6 @@
 -- A call on a sound store leaves the views of every other MFN as they were: the ledger's items of the others stay, and by the theorem the views
 -- are the ledger's before and after.
-use Prim.Native.Nat.{ℕ, _+_, _-_, _≤_, _<_}
+use Prim.Native.Nat.{ℕ, _+_, _-_, _≤_}
 use native.Mathlib.Omega.{arith}
 use native.Mathlib.Decide.{ℕ-discrete}
 use mathlib.Core.Path.{_≡_, refl, sym, ap, _∙_}
@@ -11,7 +11,7 @@ use lib.ListN.{length, length-set, length-append, List·getD-append}
 use lib.Seq.{getD-set-other}
 use borrow.Author.Tests.{eqb-false, lt-ltb, le-ltb}
 use Rattle.word.proofs.Place.{lt-or-ge}
-use Rattle.layout.proofs.Tests.{tests, false-true}
+use Rattle.layout.proofs.Tests.{false-true}
 use mathlib.Core.Logic.{⊎-elim}
 use Rattle.record.specs.Fields.{Field}
 use Rattle.record.specs.Draft.{draftFields}
@@ -25,7 +25,7 @@ use Rattle.ledger.specs.Ledger.{Item, gone, held, new, changed, Ledger, 
 use Rattle.ledger.specs.StoreRun.{Store, answerS, nextS}
 use Rattle.ledger.specs.LedgerOf.{ledgerOf, SoundStore}
 use Rattle.ledger.proofs.Theorem.{step}
-use Rattle.ledger.proofs.Corollaries.{update-known, delete-known, settle-known, revert-known}
+use Rattle.ledger.proofs.Corollaries.{in-range, update-known, delete-known, settle-known, revert-known}
 
 -- the call names MFN o, makes it, or empties the store
 unfoldable pub concerns : Ledger → Call → ℕ → Bool
@@ -49,17 +49,13 @@ same-self : (L : Ledger) (o : ℕ) → Same L L o
 same-self L o = record { lengths = refl; known = refl; item = λ e. refl }
 
 module _ (L : Ledger) (o : ℕ) where
-  in-low : mfnIn L o ≡ true → (1 ≤ o) × (o < nextMfn L)
-  unfolding mfnIn
-  in-low e = let q = simp tests at e in (q .0, q .1)
-
   same-set : (k : ℕ) (i : Item) (e : ℕ) → 1 ≤ k → (k ≡ o → ⊥) → Same L (withItemAt L k i e) o
   unfolding mfnIn lengthsFine
   same-set k i e low ne =
       record {
         lengths = refl;
         known = rw (length-set (L .items) (k - 1) i);
-        item = λ h. let r = in-low h in getD-set-other (L .items) (k - 1) (o - 1) i gone (λ z. ne (omega arith));
+        item = λ h. let r = in-range L o h in getD-set-other (L .items) (k - 1) (o - 1) i gone (λ z. ne (omega arith));
       }
 
   next-other : (n : ℕ) → (n + 1 ≡ o → ⊥) → ltb o (n + 1 + 1) ≡ ltb o (n + 1)
@@ -78,7 +74,7 @@ module _ (L : Ledger) (o : ℕ) where
       record {
         lengths = refl;
         known = rw (length-append (L .items) (i ∷ []), next-other (length (L .items)) ne);
-        item = λ h. let r = in-low h in List·getD-append (L .items) (i ∷ []) gone (o - 1) (omega arith);
+        item = λ h. let r = in-range L o h in List·getD-append (L .items) (i ∷ []) gone (o - 1) (omega arith);
       }
 
   same-decided : (a : Answer) (L′ : Ledger) → (a ≡ Done → Same L L′ o) → Same L (after a L′ L) o

@@ -1,15 +1,14 @@
 -- What a sound store's bytes say of one MFN, beside what the ledger keeps of it: the MFN is not there, or it is gone, or it has a place with a
 -- right record, and then the ledger's item is that record's fields, flag and mark.
-use Prim.Native.Nat.{ℕ, suc, _-_, _≤_, _<_}
-use mathlib.Core.Path.{_≡_, refl, ap, _∙_}
-use mathlib.Core.Bool.{Bool, true, false, _&&_, cond}
+use Prim.Native.Nat.{ℕ, suc, _-_, _≤_}
+use mathlib.Core.Path.{_≡_, ap, _∙_}
+use mathlib.Core.Bool.{true, false}
 use native.Mathlib.Omega.{arith}
-use lib.Dec.{leb, ltb}
-use borrow.Author.Tests.{leb-true, ltb-true}
 use Rattle.layout.specs.Control.{nextOf}
 use Rattle.layout.specs.declared.entry.Place.{Place}
 use Rattle.layout.specs.declared.entry.Entry.the-variants.{Gone, At}
 use Rattle.store.specs.Reading.{lengthsPermitted, controlFine, mfnKnown, entryFor, recordFine, versionFine}
+use Rattle.store.proofs.Gates.{mfn-facts}
 use Rattle.ledger.specs.Ledger.{nextMfn, itemOf, lengthsFine, mfnIn}
 use Rattle.ledger.specs.StoreRun.{Store}
 use Rattle.ledger.specs.LedgerOf.{itemAt, ledgerOf}
@@ -28,6 +27,7 @@ pub data Seen (s : Store) (m : ℕ) : Type 0 where
   present : (p : Place) → mfnKnown (s .mst) m ≡ true → entryFor (s .mst) (s .xrf) m ≡ At p → recordFine (s .mst) m p ≡ true → versionFine (s .mst) m p ≡ true → Seen s m
 
 module _ (s : Store) (o : Opened s) where
+  -- what the ledger keeps is what the bytes say
   pub next-is : nextMfn (ledgerOf s) ≡ nextOf (s .mst)
   unfolding ledgerOf
   next-is = omega (arith, o .next-low, tabulate-length (nextOf (s .mst) - 1) (itemAt (s .mst) (s .xrf)))
@@ -40,24 +40,9 @@ module _ (s : Store) (o : Opened s) where
   unfolding mfnIn mfnKnown
   mfn-is m = rw next-is
 
-  pub known-range : (m : ℕ) → mfnKnown (s .mst) m ≡ true → (1 ≤ m) × (m < nextOf (s .mst))
-  unfolding mfnKnown
-  known-range m k = both (leb 1 m) (ltb m (nextOf (s .mst))) refl refl k
-    where
-      both : (a b : Bool) → leb 1 m ≡ a → ltb m (nextOf (s .mst)) ≡ b → (a && b) ≡ true → (1 ≤ m) × (m < nextOf (s .mst))
-      both true true p q e = (leb-true 1 m p, ltb-true m (nextOf (s .mst)) q)
-      both true false p q e = absurd (clash e)
-        where
-          clash : false ≡ true → ⊥
-          clash z = let y : _≡_ {A = ℕ} 0 1 = ap (λ (t : Bool). cond t 1 0) z in omega arith
-      both false b p q e = absurd (clash e)
-        where
-          clash : false ≡ true → ⊥
-          clash z = let y : _≡_ {A = ℕ} 0 1 = ap (λ (t : Bool). cond t 1 0) z in omega arith
-
   pub item-is : (m : ℕ) → mfnKnown (s .mst) m ≡ true → itemOf (ledgerOf s) m ≡ itemAt (s .mst) (s .xrf) m
   unfolding ledgerOf
   item-is m k =
-      let r = known-range m k in
+      let r = mfn-facts (s .mst) m k in
       let e : suc (m - 1) ≡ m = omega arith in
       tabulate-at (nextOf (s .mst) - 1) (itemAt (s .mst) (s .xrf)) (m - 1) (omega arith) ∙ ap (itemAt (s .mst) (s .xrf)) e

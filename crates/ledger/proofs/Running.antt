@@ -2,14 +2,13 @@
 -- list gives, and what is left of the list at the cursor gives the rest. A turn moves one call from the rest to the first part, or shows that
 -- nothing more is reported.
 use Prim.Native.Nat.{ℕ, zero, suc, _+_, _*_, _-_, _≤_, _<_}
-use native.Mathlib.Nat.{add-zero, zero-add, le-refl}
+use native.Mathlib.Nat.{le-refl}
 use native.Mathlib.Omega.{arith}
 use native.Mathlib.Numerals.{add-one, unary-clauses}
 use mathlib.Core.Path.{_≡_, refl, sym, ap, _∙_}
 use mathlib.Core.Bool.{Bool, true, false, cond}
 use mathlib.Core.Option.{Option, some, none}
 use mathlib.Core.List.{List, [], _∷_, _++_, append-assoc, append-nil}
-use lib.Dec.{leb, ltb}
 use lib.ListN.{length, take, drop, length-append, length-drop}
 use lib.Seq.{take-at, drop-drop}
 use borrow.Author.Tests.{lt-ltb, le-ltb}
@@ -18,15 +17,14 @@ use Rattle.word.proofs.Place.{place-none, place-next, place-length}
 use Rattle.layout.proofs.Tests.{tests}
 use Rattle.ledger.specs.Call.{Call, Outcome}
 use Rattle.ledger.specs.StoreRun.{Store, answerS, nextS, answersS, afterS}
-use Rattle.ledger.specs.Replay.{Script, script, firstCall, restOf, restAfter, onCall, callsIn, callsOf, hasRoom, fitting, threeNumbers, outcomeNumbers, outcomeBytes, stopAt}
-use Rattle.ledger.specs.Turns.{draftsOf, scriptAt, moved, DraftWithin, RoomWithin, Within, noDraft, roomAt, Ran, Halted, Turned, told, toldStop, Finished}
+use Rattle.ledger.specs.Replay.{Script, script, firstCall, restOf, restAfter, callsIn, callsOf, hasRoom, fitting, threeNumbers, outcomeNumbers, outcomeBytes, stopAt}
+use Rattle.ledger.specs.Turns.{draftsOf, scriptAt, moved, Within, roomAt, Ran, Halted, Turned, told, toldStop, Finished}
 use Rattle.ledger.specs.declared.replay.Stop.{Stop}
 use Rattle.ledger.specs.declared.replay.Stop.the-variants.{NoRoom}
-use Rattle.ledger.specs.declared.replay.Replayed.{Replayed}
 use Rattle.ledger.specs.declared.replay.Cursor.{Cursor}
 use Rattle.ledger.specs.declared.replay.Turn.{Turn}
 use Rattle.ledger.specs.declared.replay.Turn.the-variants.{Next, Stopped}
-use Rattle.ledger.proofs.Decoding.{Fits, HasCall, has-call}
+use Rattle.ledger.proofs.Decoding.{HasCall, has-call}
 
 -- ---- one more, at the end of a list
 
@@ -78,6 +76,7 @@ fitting-none numbers bytes s = refl
 
 -- ---- the invariant
 
+-- lists of calls are the same where their parts are
 script-same : {a b c d a′ b′ c′ d′ : List ℕ} → a ≡ a′ → b ≡ b′ → c ≡ c′ → d ≡ d′ → script a b c d ≡ script a′ b′ c′ d′
 script-same e f g h = rw (e, f, g, h)
 
@@ -89,10 +88,13 @@ module _ (ops tags lens bytes : List ℕ) where
   abbrev pub leftCalls : Cursor → List Call
   leftCalls at = callsIn (length ops - at .calls) (scriptAt ops tags lens bytes at)
 
+  -- from s₀ and two rooms, after the calls before the cursor
   pub record Going (s₀ : Store) (answers₀ shown₀ : List ℕ) (s : Store) (answers shown : List ℕ) (at : Cursor) : Type 0 where
+    -- what is reported, and the calls that were run
     pub done : List Outcome
     pub ran : List Call
     pub within : Within ops tags lens bytes answers shown at
+    -- the cursor counts them, and the rooms hold them
     pub answers-long : length answers ≡ length answers₀
     pub shown-long : length shown ≡ length shown₀
     pub done-count : length done ≡ at .calls
@@ -100,7 +102,9 @@ module _ (ops tags lens bytes : List ℕ) where
     pub byte-count : length (outcomeBytes done) ≡ at .shown
     pub numbers-are : answers ≡ place answers₀ 0 (outcomeNumbers done)
     pub bytes-are : shown ≡ place shown₀ 0 (outcomeBytes done)
+    -- the store is what they leave
     pub store-is : s ≡ afterS s₀ ran
+    -- and what is left of the list gives the rest of the calls and of what is told
     pub rest-is : scriptAt ops tags lens bytes at ≡ restAfter (at .calls) p
     pub calls-are : callsOf p ≡ ran ++ leftCalls at
     pub told-are : told s₀ (length answers₀) (length shown₀) p
@@ -139,7 +143,11 @@ module _ (ops tags lens bytes : List ℕ) where
   unfolding restOf
   rest-moved at len =
       let five : 5 * (at .calls + 1) ≡ 5 * at .calls + 5 = omega arith in
-      script-same (ap (λ (n : ℕ). drop n ops) five ∙ sym (drop-drop 5 (5 * at .calls) ops)) (sym (drop-drop _ (at .tags) tags)) (sym (drop-drop _ (at .lens) lens)) (sym (drop-drop _ (at .bytes) bytes))
+      script-same
+      (ap (λ (n : ℕ). drop n ops) five ∙ sym (drop-drop 5 (5 * at .calls) ops))
+      (sym (drop-drop _ (at .tags) tags))
+      (sym (drop-drop _ (at .lens) lens))
+      (sym (drop-drop _ (at .bytes) bytes))
 
   module _ (s₀ : Store) (answers₀ shown₀ : List ℕ) (s : Store) (answers shown : List ℕ) (at : Cursor) (g : Going s₀ answers₀ shown₀ s answers shown at) where
     abbrev rest : Script
@@ -149,12 +157,11 @@ module _ (ops tags lens bytes : List ℕ) where
     abbrev toldFrom : Cursor → Store → List Outcome
     toldFrom from x = fitting (length answers₀ - 3 * from .calls) (length shown₀ - from .shown) (answersS x (leftCalls from))
 
-    module _ (c : Call) (e : firstCall rest ≡ some c) (room : roomAt answers shown at (answerS s c) ≡ true) where
+    -- ---- the rest begins with a call
+
+    module _ (c : Call) (e : firstCall rest ≡ some c) where
       abbrev o : Outcome
       o = answerS s c
-
-      abbrev next : Cursor
-      next = moved at (draftsOf rest) (length (o .shown))
 
       has : HasCall rest
       has = has-call rest c e
@@ -162,170 +169,191 @@ module _ (ops tags lens bytes : List ℕ) where
       left-now : 5 + 5 * at .calls ≤ length ops
       left-now = let h = has .numbers in let k = length-drop (5 * at .calls) ops in omega arith
 
-      room-now : (3 ≤ length answers - 3 * at .calls) × (length (o .shown) ≤ length shown - at .shown)
-      room-now = simp tests at room
+      -- the calls behind it
+      abbrev behind : List Call
+      behind = callsIn (length ops - (at .calls + 1)) (restOf rest)
 
-      calls-now : leftCalls at ≡ c ∷ leftCalls next
+      calls-now : leftCalls at ≡ c ∷ behind
       calls-now =
           let n : length ops - at .calls ≡ suc (length ops - (at .calls + 1)) = let l = left-now in omega arith in
-          rw (n, calls-some (length ops - (at .calls + 1)) rest c e, rest-moved at (length (o .shown)))
+          rw n (calls-some (length ops - (at .calls + 1)) rest c e)
 
-      within-next : Within ops tags lens bytes (place answers (3 * at .calls) (threeNumbers o)) (place shown (at .shown) (o .shown)) next
-      within-next =
-          let d = has .draft in
-          let w = g .within .drafts-in in
-          let l = left-now in
-          let r = room-now in
-          let x = g .within .room-in in
-          let kt = length-drop (at .tags) tags in
-          let kl = length-drop (at .lens) lens in
-          let kb = length-drop (at .bytes) bytes in
-          let an : length (place answers (3 * at .calls) (threeNumbers o)) ≡ length answers = place-length answers (3 * at .calls) (threeNumbers o) (omega arith) in
-          let sn : length (place shown (at .shown) (o .shown)) ≡ length shown = place-length shown (at .shown) (o .shown) (omega arith) in
-          record {
-            ops-in = omega arith;
-            drafts-in = record { tags-in = omega arith; lens-in = omega arith; bytes-in = omega arith };
-            room-in = record { numbers-in = omega arith; shown-in = omega arith };
-          }
-
-      numbers-next : place answers (3 * at .calls) (threeNumbers o) ≡ place answers₀ 0 (outcomeNumbers (g .done ++ (o ∷ [])))
-      numbers-next =
-          let n : 3 * at .calls ≡ 0 + length (outcomeNumbers (g .done)) = let k = numbers-length (g .done) in let m = g .done-count in omega arith in
-          rw (n, g .numbers-are, numbers-more (g .done) o) (place-next answers₀ 0 (outcomeNumbers (g .done)) (threeNumbers o) (omega arith))
-
-      bytes-next : place shown (at .shown) (o .shown) ≡ place shown₀ 0 (outcomeBytes (g .done ++ (o ∷ [])))
-      bytes-next =
-          let n : at .shown ≡ 0 + length (outcomeBytes (g .done)) = let m = g .byte-count in omega arith in
-          rw (n, g .bytes-are, bytes-more (g .done) o) (place-next shown₀ 0 (outcomeBytes (g .done)) (o .shown) (omega arith))
-
-      told-next : toldFrom at s ≡ o ∷ toldFrom next (nextS s c)
-      told-next =
-          let b : hasRoom (length answers₀ - 3 * at .calls) (length shown₀ - at .shown) o ≡ true = rw (← g .answers-long, ← g .shown-long) room in
-          let n : length answers₀ - 3 * at .calls - 3 ≡ length answers₀ - 3 * (at .calls + 1) = omega arith in
-          let m : length shown₀ - at .shown - length (o .shown) ≡ length shown₀ - (at .shown + length (o .shown)) = omega arith in
+      -- it is reported where there is room, and then those behind it
+      told-now : toldFrom at s
+          ≡ cond (roomAt answers shown at o)
+          (o ∷ fitting (length answers₀ - 3 * at .calls - 3) (length shown₀ - at .shown - length (o .shown)) (answersS (nextS s c) behind))
+          []
+      told-now =
           ap (λ (l : List Call). fitting (length answers₀ - 3 * at .calls) (length shown₀ - at .shown) (answersS s l)) calls-now
-          ∙ fitting-one (length answers₀ - 3 * at .calls) (length shown₀ - at .shown) s c (leftCalls next)
-          ∙ rw (b, n, m)
+          ∙ fitting-one (length answers₀ - 3 * at .calls) (length shown₀ - at .shown) s c behind
+          ∙ rw (g .answers-long, g .shown-long)
 
-      pub going-more : Going s₀ answers₀ shown₀ (nextS s c) (place answers (3 * at .calls) (threeNumbers o)) (place shown (at .shown) (o .shown)) next
-      going-more =
+      -- ---- and there is room for it
+
+      module _ (room : roomAt answers shown at o ≡ true) where
+        abbrev next : Cursor
+        next = moved at (draftsOf rest) (length (o .shown))
+
+        room-now : (3 ≤ length answers - 3 * at .calls) × (length (o .shown) ≤ length shown - at .shown)
+        room-now = simp tests at room
+
+        calls-next : leftCalls at ≡ c ∷ leftCalls next
+        calls-next = calls-now ∙ rw (rest-moved at (length (o .shown)))
+
+        within-next : Within ops tags lens bytes (place answers (3 * at .calls) (threeNumbers o)) (place shown (at .shown) (o .shown)) next
+        within-next =
+            let d = has .draft in
+            let w = g .within .drafts-in in
+            let l = left-now in
+            let r = room-now in
+            let x = g .within .room-in in
+            let kt = length-drop (at .tags) tags in
+            let kl = length-drop (at .lens) lens in
+            let kb = length-drop (at .bytes) bytes in
+            let an : length (place answers (3 * at .calls) (threeNumbers o)) ≡ length answers = place-length answers (3 * at .calls) (threeNumbers o) (omega arith) in
+            let sn : length (place shown (at .shown) (o .shown)) ≡ length shown = place-length shown (at .shown) (o .shown) (omega arith) in
+            record {
+              ops-in = omega arith;
+              drafts-in = record { tags-in = omega arith; lens-in = omega arith; bytes-in = omega arith };
+              room-in = record { numbers-in = omega arith; shown-in = omega arith };
+            }
+
+        numbers-next : place answers (3 * at .calls) (threeNumbers o) ≡ place answers₀ 0 (outcomeNumbers (g .done ++ (o ∷ [])))
+        numbers-next =
+            let n : 3 * at .calls ≡ 0 + length (outcomeNumbers (g .done)) = let k = numbers-length (g .done) in let m = g .done-count in omega arith in
+            rw (n, g .numbers-are, numbers-more (g .done) o) (place-next answers₀ 0 (outcomeNumbers (g .done)) (threeNumbers o) (omega arith))
+
+        bytes-next : place shown (at .shown) (o .shown) ≡ place shown₀ 0 (outcomeBytes (g .done ++ (o ∷ [])))
+        bytes-next =
+            let n : at .shown ≡ 0 + length (outcomeBytes (g .done)) = let m = g .byte-count in omega arith in
+            rw (n, g .bytes-are, bytes-more (g .done) o) (place-next shown₀ 0 (outcomeBytes (g .done)) (o .shown) (omega arith))
+
+        told-next : toldFrom at s ≡ o ∷ toldFrom next (nextS s c)
+        told-next =
+            let n : length answers₀ - 3 * at .calls - 3 ≡ length answers₀ - 3 * (at .calls + 1) = omega arith in
+            let m : length shown₀ - at .shown - length (o .shown) ≡ length shown₀ - (at .shown + length (o .shown)) = omega arith in
+            told-now ∙ rw (room, n, m, rest-moved at (length (o .shown)))
+
+        pub going-more : Going s₀ answers₀ shown₀ (nextS s c) (place answers (3 * at .calls) (threeNumbers o)) (place shown (at .shown) (o .shown)) next
+        going-more =
+            record {
+              done = g .done ++ (o ∷ []);
+              ran = g .ran ++ (c ∷ []);
+              within = within-next;
+              answers-long = place-length answers (3 * at .calls) (threeNumbers o) (let r = room-now in let w = g .within .room-in .numbers-in in omega arith) ∙ g .answers-long;
+              shown-long = place-length shown (at .shown) (o .shown) (let r = room-now in let w = g .within .room-in .shown-in in omega arith) ∙ g .shown-long;
+              done-count = length-append (g .done) (o ∷ []) ∙ ap (λ (n : ℕ). n + 1) (g .done-count);
+              ran-count = length-append (g .ran) (c ∷ []) ∙ ap (λ (n : ℕ). n + 1) (g .ran-count);
+              byte-count = ap length (bytes-more (g .done) o) ∙ length-append (outcomeBytes (g .done)) (o .shown) ∙ ap (λ (n : ℕ). n + length (o .shown)) (g .byte-count);
+              numbers-are = numbers-next;
+              bytes-are = bytes-next;
+              store-is = ap (λ (x : Store). nextS x c) (g .store-is) ∙ sym (after-more s₀ (g .ran) c);
+              rest-is = rest-moved at (length (o .shown)) ∙ ap restOf (g .rest-is) ∙ sym (rest-more (at .calls) p) ∙ ap (λ (n : ℕ). restAfter n p) (sym (add-one (at .calls)));
+              calls-are = g .calls-are ∙ ap (λ (l : List Call). g .ran ++ l) calls-next ∙ sym (append-assoc (g .ran) (c ∷ []) (leftCalls next));
+              told-are = g .told-are ∙ ap (λ (l : List Outcome). g .done ++ l) told-next ∙ sym (append-assoc (g .done) (o ∷ []) (toldFrom next (nextS s c)));
+            }
+
+    -- ---- nothing more is reported
+
+    module _ (none-left : toldFrom at s ≡ []) where
+      told-all : told s₀ (length answers₀) (length shown₀) p ≡ g .done
+      told-all = g .told-are ∙ ap (λ (l : List Outcome). g .done ++ l) none-left ∙ append-nil (g .done)
+
+      told-count : length (told s₀ (length answers₀) (length shown₀) p) ≡ at .calls
+      told-count = ap length told-all ∙ g .done-count
+
+      finished : (x : Stop) → x ≡ toldStop s₀ (length answers₀) (length shown₀) p
+          → Finished s₀ answers₀ shown₀ p (record { stop = x; calls = at .calls }) s answers shown
+      finished x stops =
           record {
-            done = g .done ++ (o ∷ []);
-            ran = g .ran ++ (c ∷ []);
-            within = within-next;
-            answers-long = place-length answers (3 * at .calls) (threeNumbers o) (let r = room-now in let w = g .within .room-in .numbers-in in omega arith) ∙ g .answers-long;
-            shown-long = place-length shown (at .shown) (o .shown) (let r = room-now in let w = g .within .room-in .shown-in in omega arith) ∙ g .shown-long;
-            done-count = length-append (g .done) (o ∷ []) ∙ ap (λ (n : ℕ). n + 1) (g .done-count);
-            ran-count = length-append (g .ran) (c ∷ []) ∙ ap (λ (n : ℕ). n + 1) (g .ran-count);
-            byte-count = ap length (bytes-more (g .done) o) ∙ length-append (outcomeBytes (g .done)) (o .shown) ∙ ap (λ (n : ℕ). n + length (o .shown)) (g .byte-count);
-            numbers-are = numbers-next;
-            bytes-are = bytes-next;
-            store-is = ap (λ (x : Store). nextS x c) (g .store-is) ∙ sym (after-more s₀ (g .ran) c);
-            rest-is = rest-moved at (length (o .shown)) ∙ ap restOf (g .rest-is) ∙ sym (rest-more (at .calls) p) ∙ ap (λ (n : ℕ). restAfter n p) (sym (add-one (at .calls)));
-            calls-are = g .calls-are ∙ ap (λ (l : List Call). g .ran ++ l) calls-now ∙ sym (append-assoc (g .ran) (c ∷ []) (leftCalls next));
-            told-are = g .told-are ∙ ap (λ (l : List Outcome). g .done ++ l) told-next ∙ sym (append-assoc (g .done) (o ∷ []) (toldFrom next (nextS s c)));
+            stop = stops;
+            calls = sym told-count;
+            left = g .store-is ∙ ap (λ (cs : List Call). afterS s₀ cs)
+                (sym (ap (λ (k : ℕ). take k (callsOf p)) told-count ∙ ap (take (at .calls)) (g .calls-are) ∙ take-at (g .ran) (leftCalls at) (at .calls) (g .ran-count)));
+            numbers = g .numbers-are ∙ ap (λ (os : List Outcome). place answers₀ 0 (outcomeNumbers os)) (sym told-all);
+            fields = g .bytes-are ∙ ap (λ (os : List Outcome). place shown₀ 0 (outcomeBytes os)) (sym told-all);
           }
 
-    -- the end of a run: nothing more is reported
-    finished : (x : Stop) → toldFrom at s ≡ [] → x ≡ toldStop s₀ (length answers₀) (length shown₀) p
-        → Finished s₀ answers₀ shown₀ p (record { stop = x; calls = at .calls }) s answers shown
-    finished x none-left stops =
-        let all : told s₀ (length answers₀) (length shown₀) p ≡ g .done = g .told-are ∙ ap (λ (l : List Outcome). g .done ++ l) none-left ∙ append-nil (g .done) in
-        let n : length (told s₀ (length answers₀) (length shown₀) p) ≡ at .calls = ap length all ∙ g .done-count in
-        record {
-          stop = stops;
-          calls = sym n;
-          left = g .store-is ∙ ap (λ (cs : List Call). afterS s₀ cs)
-              (sym (ap (λ (k : ℕ). take k (callsOf p)) n ∙ ap (take (at .calls)) (g .calls-are) ∙ take-at (g .ran) (leftCalls at) (at .calls) (g .ran-count)));
-          numbers = g .numbers-are ∙ ap (λ (os : List Outcome). place answers₀ 0 (outcomeNumbers os)) (sym all);
-          fields = g .bytes-are ∙ ap (λ (os : List Outcome). place shown₀ 0 (outcomeBytes os)) (sym all);
-        }
-
-    told-count : toldFrom at s ≡ [] → length (told s₀ (length answers₀) (length shown₀) p) ≡ at .calls
-    told-count none-left = ap length (g .told-are ∙ ap (λ (l : List Outcome). g .done ++ l) none-left ∙ append-nil (g .done)) ∙ g .done-count
-
-    -- there is no further call
-    no-more : firstCall rest ≡ none → leftCalls at ≡ []
-    no-more e = calls-none (length ops - at .calls) rest e
-
+    -- since there is no further call
     finished-list : firstCall rest ≡ none → Finished s₀ answers₀ shown₀ p (record { stop = stopAt rest; calls = at .calls }) s answers shown
     unfolding toldStop
     finished-list e =
-        let none-left : toldFrom at s ≡ [] = rw (no-more e) (fitting-none (length answers₀ - 3 * at .calls) (length shown₀ - at .shown) s) in
-        let n : length (callsOf p) ≡ at .calls = ap length (g .calls-are ∙ ap (λ (l : List Call). g .ran ++ l) (no-more e) ∙ append-nil (g .ran)) ∙ g .ran-count in
-        finished (stopAt rest) none-left
+        let no-more : leftCalls at ≡ [] = calls-none (length ops - at .calls) rest e in
+        let none-left : toldFrom at s ≡ [] = rw no-more (fitting-none (length answers₀ - 3 * at .calls) (length shown₀ - at .shown) s) in
+        let n : length (callsOf p) ≡ at .calls = ap length (g .calls-are ∙ ap (λ (l : List Call). g .ran ++ l) no-more ∙ append-nil (g .ran)) ∙ g .ran-count in
+        finished none-left (stopAt rest)
         (rw (told-count none-left, n, le-ltb (at .calls) (at .calls) (le-refl _)) (ap stopAt (g .rest-is)))
 
-    -- the next call has no room
+    -- since the next call has no room
     finished-room : (c : Call) → firstCall rest ≡ some c → roomAt answers shown at (answerS s c) ≡ false
         → Finished s₀ answers₀ shown₀ p (record { stop = NoRoom; calls = at .calls }) s answers shown
     unfolding toldStop
     finished-room c e full =
-        let more : List Call = callsIn (length ops - (at .calls + 1)) (restOf rest) in
-        let h = has-call rest c e .numbers in
-        let k = length-drop (5 * at .calls) ops in
-        let n : length ops - at .calls ≡ suc (length ops - (at .calls + 1)) = omega arith in
-        let now : leftCalls at ≡ c ∷ more = rw n (calls-some (length ops - (at .calls + 1)) rest c e) in
-        let b : hasRoom (length answers₀ - 3 * at .calls) (length shown₀ - at .shown) (answerS s c) ≡ false = rw (← g .answers-long, ← g .shown-long) full in
-        let none-left : toldFrom at s ≡ [] =
-        ap (λ (l : List Call). fitting (length answers₀ - 3 * at .calls) (length shown₀ - at .shown) (answersS s l)) now
-        ∙ fitting-one (length answers₀ - 3 * at .calls) (length shown₀ - at .shown) s c more
-        ∙ rw b in
-        let m : length (callsOf p) ≡ at .calls + suc (length more) =
-        ap length (g .calls-are ∙ ap (λ (l : List Call). g .ran ++ l) now) ∙ length-append (g .ran) (c ∷ more) ∙ ap (λ (i : ℕ). i + suc (length more)) (g .ran-count) in
-        finished NoRoom none-left (rw (told-count none-left, m, lt-ltb (at .calls) (at .calls + suc (length more)) (omega arith)))
+        let none-left : toldFrom at s ≡ [] = told-now c e ∙ rw full in
+        let m : length (callsOf p) ≡ at .calls + suc (length (behind c e)) =
+        ap length (g .calls-are ∙ ap (λ (l : List Call). g .ran ++ l) (calls-now c e))
+        ∙ length-append (g .ran) (c ∷ behind c e)
+        ∙ ap (λ (i : ℕ). i + suc (length (behind c e))) (g .ran-count) in
+        finished none-left NoRoom (rw (told-count none-left, m, lt-ltb (at .calls) (at .calls + suc (length (behind c e))) (omega arith)))
+
+    -- ---- what a turn did
 
     module _ (t : Turn) (s′ : Store) (answers′ shown′ : List ℕ) (u : Turned rest s answers shown at t s′ answers′ shown′) where
-      by-call : (q : Option Call) → firstCall rest ≡ q → onCall q (Halted rest s answers shown t s′ answers′ shown′) (λ c. Ran s c (draftsOf rest) answers shown at t s′ answers′ shown′)
+      -- a call was run and reported, or it had no room, or there was none
+      data Did : Type 0 where
+        more : (c : Call) → firstCall rest ≡ some c → roomAt answers shown at (answerS s c) ≡ true
+            → t ≡ Next (moved at (draftsOf rest) (length (answerS s c .shown))) → s′ ≡ nextS s c
+            → answers′ ≡ place answers (3 * at .calls) (threeNumbers (answerS s c)) → shown′ ≡ place shown (at .shown) (answerS s c .shown) → Did
+        full : (c : Call) → firstCall rest ≡ some c → roomAt answers shown at (answerS s c) ≡ false
+            → t ≡ Stopped NoRoom → s′ ≡ s → answers′ ≡ answers → shown′ ≡ shown → Did
+        over : firstCall rest ≡ none → t ≡ Stopped (stopAt rest) → s′ ≡ s → answers′ ≡ answers → shown′ ≡ shown → Did
+
+      did : Did
       unfolding Turned
-      by-call q e = rw e at u
-
-      pub going-next : (at′ : Cursor) → t ≡ Next at′ → Going s₀ answers₀ shown₀ s′ answers′ shown′ at′
-      going-next at′ n = go (firstCall rest) refl (by-call (firstCall rest) refl)
+      did = go (firstCall rest) refl
         where
-          ran : (c : Call) → firstCall rest ≡ some c → Ran s c (draftsOf rest) answers shown at t s′ answers′ shown′ → (b : Bool) → roomAt answers shown at (answerS s c) ≡ b
-              → Going s₀ answers₀ shown₀ s′ answers′ shown′ at′
-          ran c e r true b =
-              let z : at′ ≡ moved at (draftsOf rest) (length (answerS s c .shown)) = cc (rw b at (r .turn), n) in
-              rw (z, rw b at (r .left), rw b at (r .numbers), rw b at (r .fields)) (going-more c e b)
-          ran c e r false b = absurd (let z : _≡_ {A = ℕ} 0 1 = cc (rw b at (r .turn), n) in omega arith)
+          ran : (c : Call) → firstCall rest ≡ some c → Ran s c (draftsOf rest) answers shown at t s′ answers′ shown′
+              → (b : Bool) → roomAt answers shown at (answerS s c) ≡ b → Did
+          ran c e r true b = more c e b (rw b at (r .turn)) (rw b at (r .left)) (rw b at (r .numbers)) (rw b at (r .fields))
+          ran c e r false b = full c e b (rw b at (r .turn)) (rw b at (r .left)) (rw b at (r .numbers)) (rw b at (r .fields))
 
-          go : (q : Option Call) → firstCall rest ≡ q → onCall q (Halted rest s answers shown t s′ answers′ shown′) (λ c. Ran s c (draftsOf rest) answers shown at t s′ answers′ shown′)
-              → Going s₀ answers₀ shown₀ s′ answers′ shown′ at′
-          go none e h = absurd (let z : _≡_ {A = ℕ} 0 1 = cc (h .turn, n) in omega arith)
-          go (some c) e r = ran c e r (roomAt answers shown at (answerS s c)) refl
+          go : (q : Option Call) → firstCall rest ≡ q → Did
+          go none e = let h : Halted rest s answers shown t s′ answers′ shown′ = rw e at u in over e (h .turn) (h .left) (h .numbers) (h .fields)
+          go (some c) e =
+              let r : Ran s c (draftsOf rest) answers shown at t s′ answers′ shown′ = rw e at u in
+              ran c e r (roomAt answers shown at (answerS s c)) refl
+
+      -- it moves on
+      pub going-next : (at′ : Cursor) → t ≡ Next at′ → Going s₀ answers₀ shown₀ s′ answers′ shown′ at′
+      going-next at′ n = go did
+        where
+          go : Did → Going s₀ answers₀ shown₀ s′ answers′ shown′ at′
+          go (more c e b turn left numbers fields) =
+              let z : at′ ≡ moved at (draftsOf rest) (length (answerS s c .shown)) = cc in
+              rw (z, left, numbers, fields) (going-more c e b)
+          go (full c e b turn left numbers fields) = absurd (let z : _≡_ {A = ℕ} 0 1 = cc in omega arith)
+          go (over e turn left numbers fields) = absurd (let z : _≡_ {A = ℕ} 0 1 = cc in omega arith)
 
       -- and what is left to run falls
       pub going-less : (at′ : Cursor) → t ≡ Next at′ → length ops - at′ .calls < length ops - at .calls
-      going-less at′ n = go (firstCall rest) refl (by-call (firstCall rest) refl)
+      going-less at′ n = go did
         where
-          ran : (c : Call) → firstCall rest ≡ some c → Ran s c (draftsOf rest) answers shown at t s′ answers′ shown′ → (b : Bool) → roomAt answers shown at (answerS s c) ≡ b
-              → length ops - at′ .calls < length ops - at .calls
-          ran c e r true b =
-              let z : at′ ≡ moved at (draftsOf rest) (length (answerS s c .shown)) = cc (rw b at (r .turn), n) in
+          go : Did → length ops - at′ .calls < length ops - at .calls
+          go (more c e b turn left numbers fields) =
+              let z : at′ ≡ moved at (draftsOf rest) (length (answerS s c .shown)) = cc in
               let m : at′ .calls ≡ at .calls + 1 = ap (λ (x : Cursor). x .calls) z in
-              let l = left-now c e b in
+              let l = left-now c e in
               omega arith
-          ran c e r false b = absurd (let z : _≡_ {A = ℕ} 0 1 = cc (rw b at (r .turn), n) in omega arith)
+          go (full c e b turn left numbers fields) = absurd (let z : _≡_ {A = ℕ} 0 1 = cc in omega arith)
+          go (over e turn left numbers fields) = absurd (let z : _≡_ {A = ℕ} 0 1 = cc in omega arith)
 
-          go : (q : Option Call) → firstCall rest ≡ q → onCall q (Halted rest s answers shown t s′ answers′ shown′) (λ c. Ran s c (draftsOf rest) answers shown at t s′ answers′ shown′)
-              → length ops - at′ .calls < length ops - at .calls
-          go none e h = absurd (let z : _≡_ {A = ℕ} 0 1 = cc (h .turn, n) in omega arith)
-          go (some c) e r = ran c e r (roomAt answers shown at (answerS s c)) refl
-
+      -- it stops
       pub going-stop : (x : Stop) → t ≡ Stopped x → Finished s₀ answers₀ shown₀ p (record { stop = x; calls = at .calls }) s′ answers′ shown′
-      going-stop x n = go (firstCall rest) refl (by-call (firstCall rest) refl)
+      going-stop x n = go did
         where
-          ran : (c : Call) → firstCall rest ≡ some c → Ran s c (draftsOf rest) answers shown at t s′ answers′ shown′ → (b : Bool) → roomAt answers shown at (answerS s c) ≡ b
-              → Finished s₀ answers₀ shown₀ p (record { stop = x; calls = at .calls }) s′ answers′ shown′
-          ran c e r true b = absurd (let z : _≡_ {A = ℕ} 0 1 = cc (rw b at (r .turn), n) in omega arith)
-          ran c e r false b =
-              let z : x ≡ NoRoom = cc (rw b at (r .turn), n) in
-              rw (z, rw b at (r .left), rw b at (r .numbers), rw b at (r .fields)) (finished-room c e b)
+          go : Did → Finished s₀ answers₀ shown₀ p (record { stop = x; calls = at .calls }) s′ answers′ shown′
+          go (more c e b turn left numbers fields) = absurd (let z : _≡_ {A = ℕ} 0 1 = cc in omega arith)
+          go (full c e b turn left numbers fields) = let z : x ≡ NoRoom = cc in rw (z, left, numbers, fields) (finished-room c e b)
+          go (over e turn left numbers fields) = let z : x ≡ stopAt rest = cc in rw (z, left, numbers, fields) (finished-list e)
 
-          go : (q : Option Call) → firstCall rest ≡ q → onCall q (Halted rest s answers shown t s′ answers′ shown′) (λ c. Ran s c (draftsOf rest) answers shown at t s′ answers′ shown′)
-              → Finished s₀ answers₀ shown₀ p (record { stop = x; calls = at .calls }) s′ answers′ shown′
-          go none e h =
-              let z : x ≡ stopAt rest = cc (h .turn, n) in
-              rw (z, h .left, h .numbers, h .fields) (finished-list e)
-          go (some c) e r = ran c e r (roomAt answers shown at (answerS s c)) refl
+pub ruleset goings = (going-next, going-less, going-stop)

@@ -1,8 +1,9 @@
--- From the store's own run to the ledger's words: what a run from a store just formatted reports is what the ledger answers, by demand 3.
+-- From the store's own run to the ledger's words: what a run from a store just formatted reports is what the ledger answers, by demand 3. The
+-- theorem stands last, `replay-ran` where format is done and `replay-refused` where it is not.
 use Prim.Native.Nat.{ℕ, _≤_}
 use native.Mathlib.Omega.{arith}
 use mathlib.Core.Path.{_≡_, refl, sym, ap, _∙_}
-use mathlib.Core.Bool.{Bool, true, false, not, _&&_, cond}
+use mathlib.Core.Bool.{Bool, true, false}
 use mathlib.Core.List.{List, [], _∷_}
 use lib.ListN.{length}
 use denote.Enum.Declared.{tagOf}
@@ -18,17 +19,18 @@ use Rattle.store.proofs.answer.Answer as answer
 use Rattle.store.proofs.Plans.{not-done}
 use Rattle.store.proofs.Gates.{Refusing, refusing-not-done, lengths-facts}
 use Rattle.ledger.specs.Call.{Call, format, Outcome}
-use Rattle.ledger.specs.Ledger.{Ledger, empty, answersL, afterL}
-use Rattle.ledger.specs.StoreRun.{Store, store, nextS, answersS, afterS}
+use Rattle.ledger.specs.Ledger.{Ledger, empty, afterL}
+use Rattle.ledger.specs.StoreRun.{Store, store, nextS, afterS}
 use Rattle.ledger.specs.LedgerOf.{ledgerOf}
 use Rattle.ledger.specs.Replay.{Script, callsOf, fitting, outcomeNumbers, outcomeBytes, bothPermitted, reported, stopFor, callsRun, ledgerAfter, storeAfter, Kept, Replays}
 use Rattle.ledger.specs.Turns.{told, toldStop, Finished}
 use Rattle.ledger.specs.declared.replay.Replayed.{Replayed}
 use Rattle.ledger.specs.declared.replay.Stop.the-variants.{BadLength}
-use Rattle.ledger.proofs.Formatting.{formatted, formatted-sound, formatted-ledger, format-leaves}
-use Rattle.ledger.proofs.Theorem.{Demand3, demand-3, answers-are-the-ledgers}
+use Rattle.ledger.proofs.Formatting.{format-done, formatted, formatted-sound, formatted-ledger, format-leaves}
+use Rattle.ledger.proofs.Theorem.{demand-3, answers-are-the-ledgers}
 
 module _ (mst xrf : List ℕ) where
+  -- the replay asks of the lengths what format asks of the buffers
   permitted-is : bothPermitted (length mst) (length xrf) ≡ lengthsPermitted mst xrf
   unfolding lengthsPermitted
   permitted-is = refl
@@ -42,27 +44,25 @@ module _ (mst xrf : List ℕ) where
       go true h = h
       go false h = absurd (let z : _≡_ {A = ℕ} 0 1 = cc (rw h at e) in omega arith)
 
-  permitted-done : lengthsPermitted mst xrf ≡ true → formatAnswer mst xrf ≡ Done
-  unfolding formatAnswer
-  permitted-done h = rw h
-
   refusing-permitted : Refusing (formatAnswer mst xrf) → lengthsPermitted mst xrf ≡ false
   refusing-permitted h = go (lengthsPermitted mst xrf) refl
     where
       go : (b : Bool) → lengthsPermitted mst xrf ≡ b → lengthsPermitted mst xrf ≡ false
-      go true k = absurd (refusing-not-done (formatAnswer mst xrf) h (permitted-done k))
+      go true k = absurd (refusing-not-done (formatAnswer mst xrf) h (format-done mst xrf k))
       go false k = k
 
-  -- ---- done
+  -- ---- a run after a format that is done, in the ledger's words
 
   module _ (h : lengthsPermitted mst xrf ≡ true) (numbers bytes : ℕ) (p : Script) where
     abbrev s : Store
     s = nextS (store mst xrf) format
 
+    -- what is reported
     told-is : told s numbers bytes p ≡ reported (length mst) (length xrf) numbers bytes p
     unfolding told reported
     told-is = rw (permitted-is, h) (ap (λ (os : List Outcome). fitting numbers bytes os) (demand-3 mst xrf h (callsOf p) .answers))
 
+    -- why it stops
     stop-is : toldStop s numbers bytes p ≡ stopFor (length mst) (length xrf) numbers bytes p
     unfolding toldStop stopFor
     stop-is = rw (permitted-is, h, told-is)
@@ -70,6 +70,7 @@ module _ (mst xrf : List ℕ) where
     abbrev ran : List Call
     ran = callsRun (length mst) (length xrf) numbers bytes p
 
+    -- what the buffers say at the end
     ledger-is : ledgerOf (afterS s ran) ≡ afterL (empty (length mst) (length xrf)) ran
     ledger-is =
         rw (format-leaves mst xrf h)
@@ -82,7 +83,8 @@ module _ (mst xrf : List ℕ) where
         let d = demand-3 mst xrf h ran in
         record { sound = d .sound; ledger = ledger-is; next = d .control .next; end = d .control .end }
 
-  -- what format leaves
+  -- ---- what a replay promises, from the buffers that format left
+
   module _ (mst₁ xrf₁ : List ℕ) (a : Answer) (ea : a ≡ formatAnswer mst xrf) (em : mst₁ ≡ formatMst mst xrf) (ex : xrf₁ ≡ formatXrf mst xrf) where
     formatted-is : store mst₁ xrf₁ ≡ nextS (store mst xrf) format
     unfolding nextS
@@ -123,6 +125,7 @@ module _ (mst xrf : List ℕ) where
           kept = λ e. absurd (let z : _≡_ {A = ℕ} 0 1 = cc (rw (permitted-is, h) at e) in omega arith);
         }
 
+  -- what the run asks of the MST that format left
   pub run-asked : (mst₁ : List ℕ) (a : Answer) → a ≡ formatAnswer mst xrf → a ≡ Done → length mst₁ ≡ length mst → length mst₁ ≤ 536870400
   run-asked mst₁ a ea d l = let f = lengths-facts mst xrf (done-permitted (sym ea ∙ d)) .mst-high in omega arith
 

@@ -17,7 +17,7 @@ use Rattle.store.specs.Refusals.{formatAnswer, createAnswer, updateAnswer, dele
 use Rattle.store.specs.Calls.{formatMst, formatXrf, createOf, createdMst, createdXrf, createMst, createXrf, updatedMst, updatedXrf, updateMst, updateXrf, deletedMst, deletedXrf, deleteMst, deleteXrf, settledMst, settledXrf, settleMst, settleXrf, revertedXrf, revertXrf}
 use Rattle.store.specs.declared.answer.Answer.{Answer}
 use Rattle.store.proofs.Gates.{after-same}
-use Rattle.soundness.proofs.Standing.{Sound, stands, body-sound, EntryStands, is-gone, is-at, known-stands, create-row, below-capacity, version-fine}
+use Rattle.soundness.proofs.Standing.{Sound, stands, body-sound, EntryStands, is-gone, is-at, known-stands, create-row, below-capacity, version-fine, sound}
 use Rattle.ledger.specs.Call.{Call, format, view, viewSettled, create, update, delete, settle, revert, check, Outcome, plain}
 use Rattle.ledger.specs.Ledger.{Ledger, nextMfn, empty, itemOf, created, updated, deleted, settledItem, revertedItem, withItem, formatNumber, createNumber, updateNumber, deleteNumber, settleNumber, revertNumber, answerL, nextL, answersL, afterL}
 use Rattle.ledger.specs.StoreRun.{Store, store, answerS, nextS, answersS, afterS}
@@ -31,7 +31,6 @@ use Rattle.ledger.proofs.Either.{Left, either}
 use Rattle.ledger.proofs.Asked.{update-asked, delete-asked, settle-asked, revert-asked}
 use Rattle.ledger.proofs.Versions.{update-left, delete-left, settle-left, revert-left}
 use Rattle.ledger.proofs.Lists.{Step, Run, run-all}
-use Rattle.soundness.proofs.Standing.{sound}
 
 -- ---- what is known of a sound store
 

@@ -1,15 +1,15 @@
 -- What the functions of one turn promise, one law for each way that they return: its premises are what is known there, the callees' promises and
--- the tests on the way.
-use Prim.Native.Nat.{ℕ, suc, _+_, _*_, _-_, _≤_, _<_}
+-- the tests on the way. In the order of the code, from the inside: what a call answers and leaves (`Wrote`), that it is reported where there is
+-- room (`Ran`), and that it is the first call of what is left (`Turned`).
+use Prim.Native.Nat.{ℕ, _+_, _*_, _-_, _≤_, _<_}
 use native.Mathlib.Nat.{add-sub-cancel-left}
 use native.Mathlib.Omega.{arith}
-use native.Mathlib.Numerals.{add-one}
+use native.Mathlib.Numerals.{add-one, add-two}
 use mathlib.Core.Path.{_≡_, refl, sym, ap, _∙_}
-use mathlib.Core.Bool.{Bool, true, false, _&&_, cond}
-use mathlib.Core.Option.{Option, some, none}
+use mathlib.Core.Bool.{true, false}
+use mathlib.Core.Option.{none}
 use mathlib.Core.List.{List, [], _∷_}
-use lib.Dec.{eqb, leb}
-use lib.ListN.{length, take, drop, set, length-drop}
+use lib.ListN.{length, drop, set, length-drop}
 use borrow.Author.Tests.{le-leb, lt-leb, eq-eqb, ne-eqb}
 use Rattle.word.specs.Place.{place, part}
 use Rattle.word.proofs.Place.{part-length, place-none, place-stores}
@@ -24,8 +24,8 @@ use Rattle.layout.specs.declared.sizes.Tag.{Tag}
 use Rattle.soundness.specs.Sound.{checkAnswer}
 use Rattle.ledger.specs.Call.{Call, create, update, Outcome}
 use Rattle.ledger.specs.StoreRun.{Store, store, answerS, nextS}
-use Rattle.ledger.specs.Replay.{Script, firstCall, onCall, hasRoom, threeNumbers, stopAt}
-use Rattle.ledger.specs.Turns.{counts, draftsOf, leftOf, noDraft, opIn, readingCall, writingAt, draftOf, scriptAt, leftAt, moved, DraftWithin, Within, shownOutcome, createdOutcome, withoutMfn, Wrote, roomAt, Ran, Halted, Turned}
+use Rattle.ledger.specs.Replay.{Script, firstCall, stopAt}
+use Rattle.ledger.specs.Turns.{noDraft, opIn, readingCall, writingAt, draftOf, scriptAt, leftAt, moved, DraftWithin, Within, shownOutcome, withoutMfn, Wrote, roomAt, Ran, Turned}
 use Rattle.ledger.specs.declared.replay.Stop.{Stop}
 use Rattle.ledger.specs.declared.replay.Stop.the-variants.{Ended, NoRoom}
 use Rattle.ledger.specs.declared.replay.Counts.{Counts}
@@ -38,7 +38,7 @@ use Rattle.ledger.specs.declared.replay.Op.the-variants.{Asks, Writes}
 use Rattle.ledger.specs.declared.replay.Cursor.{Cursor}
 use Rattle.ledger.specs.declared.replay.Turn.{Turn}
 use Rattle.ledger.specs.declared.replay.Turn.the-variants.{Next, Stopped}
-use Rattle.ledger.proofs.Decoding.{Fits, Decoded, decoded, asks-call, writes-call, malformed-call, too-short}
+use Rattle.ledger.proofs.Decoding.{leftOf, Decoded, decoded, asks-call, writes-call, malformed-call, too-short}
 use Rattle.ledger.specs.declared.replay.Op.the-variants as op
 use Rattle.ledger.specs.declared.replay.Stop.the-variants as stop
 
@@ -60,7 +60,11 @@ pub check-asked : (mst xrf : List ℕ) (r : Reading) (a : Answer) → r ≡ Chec
 unfolding answerS
 check-asked mst xrf r a e f = rw (e, f)
 
+pub ruleset asked-answers = (view-asked, settled-asked, check-asked)
+
 -- ---- calls that may write
+
+-- by the callee that creates or updates, from the draft that it is lent
 
 module _ (mst xrf mst′ xrf′ tags lens bytes : List ℕ) (c : Call) where
   pub create-wrote : (r : Created) → r ≡ createOf mst xrf tags lens bytes → mst′ ≡ createMst mst xrf tags lens bytes
@@ -73,6 +77,7 @@ module _ (mst xrf mst′ xrf′ tags lens bytes : List ℕ) (c : Call) where
   unfolding answerS nextS
   update-wrote m a e f g h = record { outcome = rw (h, e); left = rw (h, f, g) }
 
+-- by the call, from all drafts and the cursor
 module _ (mst xrf tags lens bytes mst′ xrf′ : List ℕ) (at : Cursor) where
   module _ (w : Writing) (a : Answer) (r : Created) where
     pub format-writes : w ≡ Format → r ≡ withoutMfn a → a ≡ formatAnswer mst xrf → mst′ ≡ formatMst mst xrf → xrf′ ≡ formatXrf mst xrf
@@ -107,7 +112,22 @@ pub revert-writes : (mst xrf tags lens bytes xrf′ : List ℕ) (at : Cursor) (w
 unfolding answerS nextS
 revert-writes mst xrf tags lens bytes xrf′ at w a r m k i e g = record { outcome = rw (k, i, e); left = rw (k, g) }
 
+-- the draft of a create, and of an update, lies where the call's does
+pub create-draft : (tags lens bytes : List ℕ) (at : Cursor) (w : Writing) (n : Counts) → w ≡ Create n → DraftWithin tags lens bytes at (draftOf w)
+    → DraftWithin tags lens bytes at n
+create-draft tags lens bytes at w n e h = rw e at h
+
+pub update-draft : (tags lens bytes : List ℕ) (at : Cursor) (w : Writing) (m : Mfn) (n : Counts) → w ≡ Update m n → DraftWithin tags lens bytes at (draftOf w)
+    → DraftWithin tags lens bytes at n
+update-draft tags lens bytes at w m n e h = rw e at h
+
+pub ruleset written-answers = (format-writes, create-writes, update-writes, delete-writes, settle-writes, revert-writes, create-draft, update-draft)
+
 -- ---- a call is run and reported
+
+-- its three numbers are stored one by one
+pub place-three : (d : List ℕ) (i x y z : ℕ) → i + 3 ≤ length d → set (set (set d i x) (i + 1) y) (i + 2) z ≡ place d i (x ∷ y ∷ z ∷ [])
+place-three d i x y z h = rw (add-one i, add-two i) (place-stores d i (x ∷ y ∷ z ∷ []) h)
 
 -- a call that reads leaves the store as it was
 reading-keeps : (s : Store) (r : Reading) → nextS s (readingCall r) ≡ s
@@ -116,6 +136,7 @@ reading-keeps s (View m tag occ) = refl
 reading-keeps s (Settled m tag occ) = refl
 reading-keeps s Check = refl
 
+-- there is no room for a call, whichever it is
 module _ (s : Store) (c : Call) (n : Counts) (answers shown : List ℕ) (at : Cursor) where
   full : roomAt answers shown at (answerS s c) ≡ false → Ran s c n answers shown at (Stopped NoRoom) s answers shown
   full b = record { turn = rw b; left = rw b; numbers = rw b; fields = rw b }
@@ -123,6 +144,7 @@ module _ (s : Store) (c : Call) (n : Counts) (answers shown : List ℕ) (at : Cu
   pub no-numbers : length answers - 3 * at .calls < 3 → Ran s c n answers shown at (Stopped NoRoom) s answers shown
   no-numbers h = full (rw (lt-leb 3 (length answers - 3 * at .calls) h))
 
+-- a call that reads shows sh, and there is room for the three numbers
 module _ (mst xrf answers shown : List ℕ) (at : Cursor) (r : Reading) (sh : Shown)
     (e : shownOutcome mst sh ≡ answerS (store mst xrf) (readingCall r)) (w : sh .start + sh .len ≤ length mst) (h : 3 ≤ length answers - 3 * at .calls) where
   abbrev s : Store
@@ -151,6 +173,7 @@ module _ (mst xrf answers shown : List ℕ) (at : Cursor) (r : Reading) (sh : Sh
         fields = rw (b, ← e) (rw (add-sub-cancel-left (sh .start) (sh .len)) at ef);
       }
 
+-- a call that may write is run where there is room for the three numbers: it shows nothing
 pub wrote-next : (s s′ : Store) (c : Call) (r : Created) (answers answers′ : List ℕ) (at at′ : Cursor) (k : Writing) (n : Counts)
     → Wrote s c r s′ → 3 ≤ length answers - 3 * at .calls
     → answers′ ≡ place answers (3 * at .calls) (numberOf (r .answer) ∷ r .mfn .0 ∷ 0 ∷ [])
@@ -165,6 +188,10 @@ wrote-next s s′ c r answers answers′ at at′ k n w h en z m shown =
       fields = rw (b, ← w .outcome) (sym (place-none shown (at .shown)));
     }
 
+pub ruleset asked-turns = (no-numbers, no-bytes, asked-next)
+
+pub ruleset written-turns = (no-numbers, wrote-next)
+
 -- ---- a turn
 
 module _ (ops tags lens bytes : List ℕ) (at : Cursor) where
@@ -178,12 +205,14 @@ module _ (ops tags lens bytes : List ℕ) (at : Cursor) where
   stop-malformed : (length ops ≡ 5 * at .calls → ⊥) → 5 * at .calls ≤ length ops → stop.Malformed ≡ stopAt rest
   stop-malformed k h = rw (rest-length, ne-eqb (length ops - 5 * at .calls) 0 (λ e. k (omega arith)))
 
+  -- the op that the code reads at the cursor is the first call of what is left
   was-read : (left : Counts) (o : Op) → 5 ≤ length ops - 5 * at .calls → left ≡ leftAt (length tags) (length lens) (length bytes) at
       → o ≡ opIn (drop (5 * at .calls) ops) left → Decoded rest o
   was-read left o h el eo =
       let l : left ≡ leftOf rest = el ∙ rw (length-drop (at .tags) tags, length-drop (at .lens) lens, length-drop (at .bytes) bytes) in
       rw (eo, l) (decoded rest (let k = rest-length in omega arith))
 
+  -- so the draft of a call that may write lies within the lists
   pub draft-within : (left : Counts) (o : Op) (w : Writing) (answers shown : List ℕ) → 5 ≤ length ops - 5 * at .calls
       → left ≡ leftAt (length tags) (length lens) (length bytes) at → o ≡ opIn (drop (5 * at .calls) ops) left → o ≡ Writes w
       → Within ops tags lens bytes answers shown at → DraftWithin tags lens bytes at (draftOf w)
@@ -196,6 +225,7 @@ module _ (ops tags lens bytes : List ℕ) (at : Cursor) where
       record { tags-in = omega arith; lens-in = omega arith; bytes-in = omega arith }
 
   module _ (answers shown : List ℕ) (s : Store) where
+    -- there is no call
     halted : (x : Stop) → firstCall rest ≡ none → x ≡ stopAt rest → Turned rest s answers shown at (Stopped x) s answers shown
     unfolding Turned
     halted x e f = rw e (record { turn = ap Stopped f; left = refl; numbers = refl; fields = refl })
@@ -225,29 +255,4 @@ module _ (ops tags lens bytes : List ℕ) (at : Cursor) where
       unfolding Turned
       turned-writes w t s′ answers′ e k = let f = writes-call rest o (was-read left o h el eo) w e in rw (f .0, f .1) (k shown)
 
-pub create-draft : (tags lens bytes : List ℕ) (at : Cursor) (w : Writing) (n : Counts) → w ≡ Create n → DraftWithin tags lens bytes at (draftOf w)
-    → DraftWithin tags lens bytes at n
-create-draft tags lens bytes at w n e h = rw e at h
-
-pub update-draft : (tags lens bytes : List ℕ) (at : Cursor) (w : Writing) (m : Mfn) (n : Counts) → w ≡ Update m n → DraftWithin tags lens bytes at (draftOf w)
-    → DraftWithin tags lens bytes at n
-update-draft tags lens bytes at w m n e h = rw e at h
-
--- three stores are a place
-pub place-three : (d : List ℕ) (i x y z : ℕ) → i + 3 ≤ length d → set (set (set d i x) (i + 1) y) (i + 2) z ≡ place d i (x ∷ y ∷ z ∷ [])
-place-three d i x y z h = rw (add-one i, two i) (place-stores d i (x ∷ y ∷ z ∷ []) h)
-  where
-    two : (i : ℕ) → i + 2 ≡ suc (suc i)
-    two i = omega arith
-
-pub ruleset asked-answers = (view-asked, settled-asked, check-asked)
-
-pub ruleset written-answers = (format-writes, create-writes, update-writes, delete-writes, settle-writes, revert-writes, create-draft, update-draft)
-
-pub ruleset asked-turns = (no-numbers, no-bytes, asked-next)
-
-pub ruleset written-turns = (no-numbers, wrote-next)
-
 pub ruleset turns = (turned-ended, turned-short, turned-malformed, turned-asks, turned-writes)
-
-pub ruleset drafts = (draft-within)

@@ -1,5 +1,5 @@
 -- Update, delete, settle and revert that are done on a sound store, beside the ledger's steps.
-use Prim.Native.Nat.{ℕ, _+_, _-_, _≤_, _<_}
+use Prim.Native.Nat.{ℕ, _+_, _≤_}
 use native.Mathlib.Omega.{arith}
 use mathlib.Core.Path.{_≡_, refl, _∙_}
 use mathlib.Core.Bool.{Bool, true, false, cond}
@@ -15,12 +15,13 @@ use Rattle.record.proofs.Draftable.{Draftable}
 use Rattle.store.specs.Reading.{placeFor, isSettled, isChanged, recordAt, leaderAt, settledRecord, currentFields}
 use Rattle.store.specs.Refusals.{updateAppends}
 use Rattle.store.specs.Calls.{pendingMark, updatedMst, updatedXrf, deletedMst, deletedXrf, settledMst, settledXrf, revertedXrf}
+use Rattle.store.proofs.Gates.{MfnFacts, mfn-facts}
 use Rattle.soundness.proofs.Standing.{Sound, sound}
 use Rattle.soundness.proofs.Writes.{Leaves, update-appends, update-stays, delete-appends, delete-stays, settled-leaves, reverted-leaves}
 use Rattle.ledger.specs.Ledger.{held, Ledger, itemOf, settledFields, appends, changedMark, withItem, withItemAt, updated, deleted, settledItem, revertedItem}
 use Rattle.ledger.specs.StoreRun.{store}
 use Rattle.ledger.specs.LedgerOf.{standingAt, ledgerOf}
-use Rattle.ledger.proofs.Reading.{Opened, known-range}
+use Rattle.ledger.proofs.Reading.{Opened}
 use Rattle.ledger.proofs.Answering.{settled-mark, appends-is, item-at}
 use Rattle.ledger.proofs.Changing.{standingFor, ledger-set}
 use Rattle.ledger.proofs.Either.{Left}
@@ -42,8 +43,8 @@ module _ (mst xrf : List ℕ) (s : Sound mst xrf) (m : ℕ) (o : Opened (store m
   abbrev p : Place
   p = placeFor mst xrf m
 
-  range : (1 ≤ m) × (m < nextOf mst)
-  range = known-range (store mst xrf) o m (t .known)
+  range : MfnFacts mst m
+  range = mfn-facts mst m (t .known)
 
   item : itemOf (ledgerOf (store mst xrf)) m ≡ held (currentFields mst p) (p .deleted) (standingAt mst p (p .mark))
   item = item-at (store mst xrf) o m p (t .known) (t .entry)
@@ -52,7 +53,7 @@ module _ (mst xrf : List ℕ) (s : Sound mst xrf) (m : ℕ) (o : Opened (store m
   left-set : {mst′ xrf′ : List ℕ} {end mfrl : ℕ} {q : Place} {fs old : List Field} → Leaves mst xrf mst′ xrf′ m end (nextOf mst) q mfrl fs old
       → (L′ : Ledger) → withItemAt (ledgerOf (store mst xrf)) m (held fs (q .deleted) (standingFor (q .mark) mfrl old)) end ≡ L′ → Left (store mst′ xrf′) L′
   left-set {mst′} {xrf′} l L′ e =
-      record { ledger = ledger-set s l refl (range .0) (range .1) ∙ e; sound = sound mst′ xrf′ (l .sound) }
+      record { ledger = ledger-set s l refl (range .low) (range .high) ∙ e; sound = sound mst′ xrf′ (l .sound) }
 
   end-is : ledgerOf (store mst xrf) .end ≡ endOf mst
   unfolding ledgerOf
@@ -75,10 +76,10 @@ module _ (mst xrf : List ℕ) (s : Sound mst xrf) (m : ℕ) (o : Opened (store m
 
         go : (b : Bool) → updateAppends p (leaderAt mst p) (needFor fs) ≡ b → Left (store (updatedMst mst m p fs) (updatedXrf mst xrf m p fs)) L′
         go true e =
-            left-set (update-appends s m p (range .0) (range .1) (t .entry) live fs d e (room e)) L′
+            left-set (update-appends s m p (range .low) (range .high) (t .entry) live fs d e (room e)) L′
             (rw (item, appends-same ∙ e, live, end-is, changed-standing mst p (p .mark) (needFor fs)))
         go false e =
-            left-set (update-stays s m p (range .0) (range .1) (t .entry) live fs d e) L′
+            left-set (update-stays s m p (range .low) (range .high) (t .entry) live fs d e) L′
             (rw (item, appends-same ∙ e, live, end-is, kept-standing mst p (p .mark)))
 
   -- ---- delete, by whether the record is settled
@@ -94,9 +95,9 @@ module _ (mst xrf : List ℕ) (s : Sound mst xrf) (m : ℕ) (o : Opened (store m
 
         go : (b : Bool) → isSettled (p .mark) ≡ b → Left (store (deletedMst mst m p (currentFields mst p)) (deletedXrf mst xrf m p)) L′
         go true e =
-            left-set (delete-appends s m p (range .0) (range .1) (t .entry) live e (room e)) L′ (rw (item, settled-mark mst p (p .mark), e, end-is))
+            left-set (delete-appends s m p (range .low) (range .high) (t .entry) live e (room e)) L′ (rw (item, settled-mark mst p (p .mark), e, end-is))
         go false e =
-            left-set (delete-stays s m p (range .0) (range .1) (t .entry) live e) L′
+            left-set (delete-stays s m p (range .low) (range .high) (t .entry) live e) L′
             (rw (item, settled-mark mst p (p .mark), e, end-is, kept-standing mst p (p .mark)))
 
   -- ---- settle and revert
@@ -104,7 +105,7 @@ module _ (mst xrf : List ℕ) (s : Sound mst xrf) (m : ℕ) (o : Opened (store m
   pub settle-left : Left (store (settledMst mst p) (settledXrf xrf m p)) (withItem (ledgerOf (store mst xrf)) m (settledItem (itemOf (ledgerOf (store mst xrf)) m)))
   unfolding settledItem
   settle-left =
-      left-set (settled-leaves s m p (range .0) (range .1) (t .entry))
+      left-set (settled-leaves s m p (range .low) (range .high) (t .entry))
       (withItem (ledgerOf (store mst xrf)) m (settledItem (itemOf (ledgerOf (store mst xrf)) m)))
       (rw (item, end-is))
 
@@ -117,6 +118,6 @@ module _ (mst xrf : List ℕ) (s : Sound mst xrf) (m : ℕ) (o : Opened (store m
       → Left (store mst (revertedXrf mst xrf m p)) (withItem (ledgerOf (store mst xrf)) m (revertedItem (itemOf (ledgerOf (store mst xrf)) m)))
   unfolding revertedItem
   revert-left c =
-      left-set (reverted-leaves s m p (range .0) (range .1) (t .entry) c)
+      left-set (reverted-leaves s m p (range .low) (range .high) (t .entry) c)
       (withItem (ledgerOf (store mst xrf)) m (revertedItem (itemOf (ledgerOf (store mst xrf)) m)))
       (rw (item, end-is, changed-fields (p .mark) c))

@@ -8,22 +8,20 @@ use lib.Dec.{eqb}
 use Rattle.word.specs.Place.{part}
 use Rattle.layout.specs.Control.{endOf}
 use Rattle.layout.specs.Entry.{placeAddress}
-use Rattle.layout.specs.Leader.{leaderOf}
 use Rattle.layout.specs.declared.entry.Mark.{Mark}
 use Rattle.layout.specs.declared.entry.Mark.the-variants.{Settled, Changed, New}
 use Rattle.layout.specs.declared.entry.Place.{Place}
 use Rattle.layout.specs.declared.entry.Entry.the-variants.{Gone}
-use Rattle.layout.proofs.Tests.{tests}
+use Rattle.layout.proofs.Tests.{cond-holds}
 use Rattle.record.specs.Fields.{fieldsOf, fieldNamed, findOf}
 use Rattle.record.specs.declared.fields.Found.{Found}
-use Rattle.record.proofs.Local.{ReadsAs, right-reads}
 use Rattle.store.specs.Answer.{after, numberOf}
-use Rattle.store.specs.Reading.{mfnKnown, entryFor, placeFor, isChanged, recordAt, leaderAt, backAddress, recordFine, settledRecord, settledFine, versionFine, shownSettled, currentFields}
+use Rattle.store.specs.Reading.{mfnKnown, entryFor, placeFor, isChanged, recordAt, leaderAt, backAddress, recordFine, settledRecord, settledFine, versionFine, shownSettled}
 use Rattle.store.specs.Refusals.{viewAnswer, settledViewAnswer}
 use Rattle.store.specs.Calls.{foundStart, foundLength, shownAt, viewOf, settledAddress, settledViewOf, shownBytes}
 use Rattle.store.specs.declared.answer.Answer.{Answer}
 use Rattle.store.specs.declared.answer.Answer.the-variants.{NoSuchMfn, PhysicallyDeleted}
-use Rattle.store.proofs.Gates.{Refusing, after-refused}
+use Rattle.store.proofs.Gates.{Refusing, after-refused, fine-reads, settled-fine-reads}
 use Rattle.ledger.specs.Call.{Outcome, view, viewSettled}
 use Rattle.ledger.specs.Ledger.{itemOf, fieldsIn, standingIn, settledFields, bytesOf, answerL}
 use Rattle.ledger.specs.StoreRun.{Store, answerS}
@@ -40,21 +38,6 @@ shown-after d a at f = go (eqb (numberOf a) 0)
     go : (b : Bool) → part d (cond b (at + foundStart f) 0) (cond b (foundLength f) 0) ≡ cond b (part d (at + foundStart f) (foundLength f)) []
     go true = refl
     go false = refl
-
--- the current record and the settled version of a record that is right
-current-reads : (mst : List ℕ) (m : ℕ) (p : Place) → recordFine mst m p ≡ true
-    → ReadsAs (recordAt mst p) m (p .deleted) (leaderAt mst p) (currentFields mst p)
-unfolding recordFine
-current-reads mst m p e = right-reads (recordAt mst p) m (p .deleted) ((simp tests at e) .0)
-
-settled-reads : (mst : List ℕ) (m : ℕ) (p : Place) → settledFine mst m p ≡ true
-    → ReadsAs (settledRecord mst p) m false (leaderOf (settledRecord mst p)) (fieldsOf (settledRecord mst p))
-unfolding settledFine
-settled-reads mst m p e = right-reads (settledRecord mst p) m false ((simp tests at e) .0)
-
--- what is asked where a test holds
-asked : (b f : Bool) → b ≡ true → cond b f true ≡ true → f ≡ true
-asked b f e h = rw e at h
 
 -- a refused view shows nothing, whatever the ledger's field
 shown-none : (d : List ℕ) (a : Answer) (at : ℕ) (f : Found) (b : List ℕ) → Refusing a → shownBytes d (shownAt a at f) ≡ after a b []
@@ -92,7 +75,7 @@ module _ (s : Store) (o : Opened s) where
         shown-after (s .mst) (viewAnswer (s .mst) (s .xrf) m tag occ) (placeAddress (placeFor (s .mst) (s .xrf) m)) (findOf (recordAt (s .mst) (placeFor (s .mst) (s .xrf) m)) tag occ),
         e,
         item-at s o m p k e,
-        shown-done (s .mst) (placeAddress p) (endOf (s .mst) - placeAddress p) (current-reads (s .mst) m p f) tag occ,
+        shown-done (s .mst) (placeAddress p) (endOf (s .mst) - placeAddress p) (fine-reads (s .mst) m p f) tag occ,
       )
 
   pub view-outcome : (m tag occ : ℕ) → Seen s m → answerS s (view m tag occ) ≡ answerL (ledgerOf s) (view m tag occ)
@@ -107,10 +90,10 @@ module _ (s : Store) (o : Opened s) where
       (foundLength (findOf (cond (isChanged k) (settledRecord (s .mst) p) (recordAt (s .mst) p)) tag occ))
       ≡ bytesOf (fieldNamed (fieldsOf (cond (isChanged k) (settledRecord (s .mst) p) (recordAt (s .mst) p))) tag occ)
   unfolding versionFine
-  version-shown m tag occ p f v Settled q = shown-done (s .mst) (placeAddress p) (endOf (s .mst) - placeAddress p) (current-reads (s .mst) m p f) tag occ
+  version-shown m tag occ p f v Settled q = shown-done (s .mst) (placeAddress p) (endOf (s .mst) - placeAddress p) (fine-reads (s .mst) m p f) tag occ
   version-shown m tag occ p f v Changed q =
-      shown-done (s .mst) (backAddress (leaderAt (s .mst) p)) (endOf (s .mst) - backAddress (leaderAt (s .mst) p)) (settled-reads (s .mst) m p (asked (isChanged (p .mark)) (settledFine (s .mst) m p) (ap isChanged q) v)) tag occ
-  version-shown m tag occ p f v New q = shown-done (s .mst) (placeAddress p) (endOf (s .mst) - placeAddress p) (current-reads (s .mst) m p f) tag occ
+      shown-done (s .mst) (backAddress (leaderAt (s .mst) p)) (endOf (s .mst) - backAddress (leaderAt (s .mst) p)) (settled-fine-reads (s .mst) m p (cond-holds (isChanged (p .mark)) (settledFine (s .mst) m p) v (ap isChanged q))) tag occ
+  version-shown m tag occ p f v New q = shown-done (s .mst) (placeAddress p) (endOf (s .mst) - placeAddress p) (fine-reads (s .mst) m p f) tag occ
 
   settled-absent : (m tag occ : ℕ) → mfnKnown (s .mst) m ≡ false → settledViewAnswer (s .mst) (s .xrf) m tag occ ≡ NoSuchMfn
   unfolding settledViewAnswer

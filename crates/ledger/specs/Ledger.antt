@@ -1,6 +1,6 @@
 -- The ledger: it is fed each call with its arguments and knows the two buffer lengths; nothing is read from the buffers.
 -- Document 01, "The ledger of demand 3".
-use Prim.Native.Nat.{ℕ, zero, suc, _+_, _-_}
+use Prim.Native.Nat.{ℕ, _+_, _-_}
 use mathlib.Core.Bool.{Bool, true, false, not, _&&_, _||_, cond}
 use mathlib.Core.List.{List, [], _∷_, _++_}
 use mathlib.Core.Option.{Option, some, none}
@@ -12,7 +12,7 @@ use Rattle.record.specs.Draft.{draftRight, draftFields}
 use Rattle.record.specs.Bytes.{needFor}
 use Rattle.store.specs.Answer.{refuse, lowest, after}
 use Rattle.store.specs.declared.answer.Answer.{Answer}
-use Rattle.store.specs.declared.answer.Answer.the-variants.{Done, BadLength, BadDraft, NoSuchMfn, Full, PhysicallyDeleted, Deleted, NotPending, NeverSettled, NoField, NoRoom}
+use Rattle.store.specs.declared.answer.Answer.the-variants.{BadLength, BadDraft, NoSuchMfn, Full, PhysicallyDeleted, Deleted, NotPending, NeverSettled, NoField, NoRoom}
 use Rattle.ledger.specs.Call.{Call, format, view, viewSettled, create, update, delete, settle, revert, check, Outcome, plain}
 
 -- a record's mark; under the two pending marks a record length is kept, and under changed the settled fields too

@@ -1,6 +1,6 @@
 -- What a sound store's bytes say of all that the ledger keeps.
 use Prim.Native.Nat.{ℕ, zero, suc, _-_}
-use mathlib.Core.Bool.{Bool, true}
+use mathlib.Core.Bool.{true}
 use mathlib.Core.Path.{_≡_}
 use mathlib.Core.List.{List, [], _∷_, _++_}
 use lib.ListN.{length}
@@ -10,7 +10,7 @@ use Rattle.layout.specs.declared.entry.Mark.the-variants.{Settled, Changed, New
 use Rattle.layout.specs.declared.entry.Place.{Place}
 use Rattle.layout.specs.declared.entry.Entry.{Entry}
 use Rattle.layout.specs.declared.entry.Entry.the-variants.{Gone, Malformed, At}
-use Rattle.record.specs.Fields.{Field, fieldsOf}
+use Rattle.record.specs.Fields.{fieldsOf}
 use Rattle.store.specs.Reading.{entryFor, leaderAt, settledRecord, currentFields}
 use Rattle.soundness.specs.Sound.{soundOf}
 use Rattle.ledger.specs.Ledger.{Standing, settled, new, changed, Item, gone, held, Ledger}

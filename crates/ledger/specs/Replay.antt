@@ -40,7 +40,7 @@ pub record Script : Type 0 where
 abbrev pub script : List ℕ → List ℕ → List ℕ → List ℕ → Script
 script ops tags lens bytes = record { ops = ops; tags = tags; lens = lens; bytes = bytes }
 
--- the draft that a call takes from the front of the three lists
+-- the draft of a create or an update is the front of the three lists, which have to be as long as its numbers say
 abbrev pub draftFits : Script → Bool
 draftFits s =
     leb (getD (s .ops) 2 0) (length (s .tags)) && leb (getD (s .ops) 3 0) (length (s .lens)) && leb (getD (s .ops) 4 0) (length (s .bytes))
@@ -58,6 +58,7 @@ draftBytes s = take (getD (s .ops) 4 0) (s .bytes)
 abbrev pub viewFits : Script → Bool
 viewFits s = leb (getD (s .ops) 2 0) 65535
 
+-- a call whose numbers have to pass a test
 abbrev pub onlyIf : Bool → Call → Option Call
 onlyIf b c = cond b (some c) none
 
@@ -98,6 +99,7 @@ unfoldable pub restAfter : ℕ → Script → Script
 restAfter zero s = s
 restAfter (suc n) s = restAfter n (restOf s)
 
+-- by whether there is a call
 abbrev pub onCall {ℓ} : {A : Type ℓ} → Option Call → A → (Call → A) → A
 onCall none x f = x
 onCall (some c) x f = f c
@@ -107,6 +109,7 @@ unfoldable pub callsIn : ℕ → Script → List Call
 callsIn zero s = []
 callsIn (suc n) s = onCall (firstCall s) [] (λ c. c ∷ callsIn n (restOf s))
 
+-- all of them: there are no more calls than numbers
 unfoldable pub callsOf : Script → List Call
 callsOf s = callsIn (length (s .ops)) s
 
@@ -125,6 +128,7 @@ fitting numbers bytes (o ∷ os) = cond (hasRoom numbers bytes o) (o ∷ fitting
 abbrev pub threeNumbers : Outcome → List ℕ
 threeNumbers o = numberOf (o .answer) ∷ o .mfn ∷ length (o .shown) ∷ []
 
+-- of all, one after the other
 unfoldable pub outcomeNumbers : List Outcome → List ℕ
 outcomeNumbers [] = []
 outcomeNumbers (o ∷ os) = threeNumbers o ++ outcomeNumbers os
@@ -136,6 +140,7 @@ outcomeBytes (o ∷ os) = o .shown ++ outcomeBytes os
 
 -- ---- the replay, on buffers of two lengths and with room for so many numbers and bytes
 
+-- both lengths are permitted
 abbrev pub bothPermitted : ℕ → ℕ → Bool
 bothPermitted mst xrf = mstPermitted mst && xrfPermitted xrf
 

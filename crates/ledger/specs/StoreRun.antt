@@ -2,9 +2,8 @@
 -- the calls cite.
 use Prim.Native.Nat.{ℕ}
 use mathlib.Core.List.{List, [], _∷_}
-use Rattle.store.specs.Refusals.{formatAnswer, viewAnswer, settledViewAnswer, createAnswer, updateAnswer, deleteAnswer, settleAnswer, revertAnswer}
+use Rattle.store.specs.Refusals.{formatAnswer, updateAnswer, deleteAnswer, settleAnswer, revertAnswer}
 use Rattle.store.specs.Calls.{formatMst, formatXrf, viewOf, settledViewOf, shownBytes, createOf, createMst, createXrf, updateMst, updateXrf, deleteMst, deleteXrf, settleMst, settleXrf, revertXrf}
-use Rattle.store.specs.declared.answer.Answer.{Answer}
 use Rattle.soundness.specs.Sound.{checkAnswer}
 use Rattle.ledger.specs.Call.{Call, format, view, viewSettled, create, update, delete, settle, revert, check, Outcome, plain}
 

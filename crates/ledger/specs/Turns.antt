@@ -4,7 +4,6 @@ use Prim.Native.Nat.{ℕ, _+_, _*_, _-_, _≤_}
 use mathlib.Core.Path.{_≡_}
 use mathlib.Core.Bool.{Bool, _&&_, cond}
 use mathlib.Core.List.{List, []}
-use mathlib.Core.Option.{Option, some, none}
 use lib.Dec.{eqb, leb, ltb}
 use lib.ListN.{length, getD, take, drop}
 use Rattle.word.specs.Place.{place, part}
@@ -32,28 +31,29 @@ use Rattle.ledger.specs.declared.replay.Turn.the-variants.{Next, Stopped
 
 -- ---- a call from five numbers
 
+-- numbers as the code holds them
 abbrev pub mfnOf : ℕ → Mfn
 mfnOf m = record { 0 = m }
 
 abbrev pub tagOf : ℕ → Tag
 tagOf t = record { 0 = t }
 
+-- how much of the drafts' tags, lengths and data
 abbrev pub counts : ℕ → ℕ → ℕ → Counts
 counts tags lens bytes = record { tags = tags; lens = lens; bytes = bytes }
 
--- of the draft that the first call of a list takes; of what is left; and none
+-- of the draft that the first call of a list takes, and of none
 abbrev pub draftsOf : Script → Counts
 draftsOf s = counts (draftCount s 2) (draftCount s 3) (draftCount s 4)
-
-abbrev pub leftOf : Script → Counts
-leftOf s = counts (length (s .tags)) (length (s .lens)) (length (s .bytes))
 
 abbrev pub noDraft : Counts
 noDraft = counts 0 0 0
 
+-- a draft of n is no longer than what is left
 abbrev pub countsFit : Counts → Counts → Bool
 countsFit n left = leb (n .tags) (left .tags) && leb (n .lens) (left .lens) && leb (n .bytes) (left .bytes)
 
+-- a call whose numbers have to pass a test: the tag of a view is one of 16 bits, and a draft is there
 abbrev pub opIf : Bool → Op → Op
 opIf b o = cond b o Malformed
 
@@ -61,6 +61,7 @@ abbrev pub viewOp : Bool → ℕ → ℕ → ℕ → Op
 viewOp settled m tag occ =
     opIf (leb tag 65535) (Asks (cond settled (Settled (mfnOf m) (tagOf tag) occ) (View (mfnOf m) (tagOf tag) occ)))
 
+-- by the number of the call, the MFN and the three numbers behind it, where so much is left of the drafts (the table of specs/Replay.antt)
 unfoldable pub opOf : ℕ → ℕ → ℕ → ℕ → ℕ → Counts → Op
 opOf call m x y z left =
     cond (eqb call 0) (Writes Format)
@@ -74,11 +75,11 @@ opOf call m x y z left =
     (cond (eqb call 8) (Asks Check)
     Malformed))))))))
 
--- of the first five of a list
+-- from the first five of a list
 unfoldable pub opIn : List ℕ → Counts → Op
 opIn ns left = opOf (getD ns 0 0) (getD ns 1 0) (getD ns 2 0) (getD ns 3 0) (getD ns 4 0) left
 
--- the call that it is
+-- the call that it is; one that may write takes its draft from the front of the three lists
 abbrev pub readingCall : Reading → Call
 readingCall (View m tag occ) = view (m .0) (tag .0) occ
 readingCall (Settled m tag occ) = viewSettled (m .0) (tag .0) occ
@@ -92,12 +93,7 @@ writingCall tags lens bytes (Delete m) = delete (m .0)
 writingCall tags lens bytes (Settle m) = settle (m .0)
 writingCall tags lens bytes (Revert m) = revert (m .0)
 
-abbrev pub opCall : Script → Op → Option Call
-opCall s (Asks r) = some (readingCall r)
-opCall s (Writes w) = some (writingCall (s .tags) (s .lens) (s .bytes) w)
-opCall s Malformed = none
-
--- with the draft at a cursor
+-- from the cursor on
 abbrev pub writingAt : List ℕ → List ℕ → List ℕ → Cursor → Writing → Call
 writingAt tags lens bytes at w = writingCall (drop (at .tags) tags) (drop (at .lens) lens) (drop (at .bytes) bytes) w
 
@@ -132,7 +128,7 @@ moved at n len =
       shown = at .shown + len;
     }
 
--- its numbers fit
+-- it has no number that is too high for 64 bits
 pub record Movable (at : Cursor) (n : Counts) (len : ℕ) : Type 0 where
   pub calls-fit : at .calls + 1 ≤ 18446744073709551615
   pub tags-fit : at .tags + n .tags ≤ 18446744073709551615
@@ -140,7 +136,7 @@ pub record Movable (at : Cursor) (n : Counts) (len : ℕ) : Type 0 where
   pub bytes-fit : at .bytes + n .bytes ≤ 18446744073709551615
   pub shown-fit : at .shown + len ≤ 18446744073709551615
 
--- a cursor, and one with a draft behind it, lie within the lists of drafts
+-- a draft at a cursor lies within the lists of drafts
 pub record DraftWithin (tags lens bytes : List ℕ) (at : Cursor) (n : Counts) : Type 0 where
   pub tags-in : at .tags + n .tags ≤ length tags
   pub lens-in : at .lens + n .lens ≤ length lens
@@ -151,6 +147,7 @@ pub record RoomWithin (answers shown : List ℕ) (at : Cursor) : Type 0 where
   pub numbers-in : 3 * at .calls ≤ length answers
   pub shown-in : at .shown ≤ length shown
 
+-- all of that, at a cursor
 pub record Within (ops tags lens bytes answers shown : List ℕ) (at : Cursor) : Type 0 where
   pub ops-in : 5 * at .calls ≤ length ops
   pub drafts-in : DraftWithin tags lens bytes at noDraft
@@ -158,13 +155,14 @@ pub record Within (ops tags lens bytes answers shown : List ℕ) (at : Cursor) :
 
 -- ---- one call
 
--- the outcome of a call that reads, and of one that may write
+-- the outcome of a call that reads, by what it shows, and of one that may write, by what it returns
 abbrev pub shownOutcome : List ℕ → Shown → Outcome
 shownOutcome mst r = record { answer = r .answer; mfn = 0; shown = part mst (r .start) (r .len) }
 
 abbrev pub createdOutcome : Created → Outcome
 createdOutcome r = record { answer = r .answer; mfn = r .mfn .0; shown = [] }
 
+-- what a call other than create returns
 abbrev pub withoutMfn : Answer → Created
 withoutMfn a = record { answer = a; mfn = mfnOf 0 }
 
@@ -173,7 +171,7 @@ pub record Wrote (s : Store) (c : Call) (r : Created) (s′ : Store) : Type 0 wh
   pub outcome : createdOutcome r ≡ answerS s c
   pub left : s′ ≡ nextS s c
 
--- whether there is room at a cursor
+-- whether there is room for an outcome at a cursor
 abbrev pub roomAt : List ℕ → List ℕ → Cursor → Outcome → Bool
 roomAt answers shown at o = hasRoom (length answers - 3 * at .calls) (length shown - at .shown) o
 
@@ -191,7 +189,7 @@ pub record Halted (rest : Script) (s : Store) (answers shown : List ℕ) (t : Tu
   pub numbers : answers′ ≡ answers
   pub fields : shown′ ≡ shown
 
--- a turn: the first call of what is left
+-- a turn: the first call of what is left, or none
 unfoldable pub Turned : Script → Store → List ℕ → List ℕ → Cursor → Turn → Store → List ℕ → List ℕ → Type 0
 Turned rest s answers shown at t s′ answers′ shown′ =
     onCall (firstCall rest) (Halted rest s answers shown t s′ answers′ shown′)
@@ -199,14 +197,15 @@ Turned rest s answers shown at t s′ answers′ shown′ =
 
 -- ---- the whole run, from any two buffers
 
--- the outcomes that are reported
+-- the outcomes that are reported: the store's, as far as there is room for them
 unfoldable pub told : Store → ℕ → ℕ → Script → List Outcome
 told s numbers bytes p = fitting numbers bytes (answersS s (callsOf p))
 
--- why it stops
+-- why it stops: a call has no room; or there is no further call
 unfoldable pub toldStop : Store → ℕ → ℕ → Script → Stop
 toldStop s numbers bytes p = cond (ltb (length (told s numbers bytes p)) (length (callsOf p))) NoRoom (stopAt (restAfter (length (callsOf p)) p))
 
+-- what a run reports and leaves
 pub record Finished (s : Store) (answers shown : List ℕ) (p : Script) (r : Replayed) (s′ : Store) (answers′ shown′ : List ℕ) : Type 0 where
   pub stop : r .stop ≡ toldStop s (length answers) (length shown) p
   pub calls : r .calls ≡ length (told s (length answers) (length shown) p)

@@ -42,4 +42,4 @@ module _ (rec : List ℕ) (room n i pos : ℕ) (d : Bool) (inv : d ≡ directory
     pub directory-long : (len : ℕ) → len ≡ lenAt rec i → room < pos + len → false ≡ d
     directory-long len l b = rw (inv, directory-step rec room n i pos h, ← l, lt-leb (pos + len) room b, and-false)
 
-pub ruleset directory-answers = (directory-done, directory-tag, directory-pos, directory-long, directory-more)
+pub ruleset directory-answers = (directory-done, directory-tag, directory-pos, directory-long)

@@ -83,6 +83,7 @@ pub ruleset tags-answers = (tags-done, tags-wrong, tags-more)
 
 -- ---- the need
 
+-- it is even, holds a leader, and what it has to hold, with at most one byte of padding
 pub record NeedFacts (fields size need : ℕ) : Type 0 where
   pub even : need % 2 ≡ 0
   pub low : 18 ≤ need

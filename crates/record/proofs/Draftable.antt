@@ -27,6 +27,7 @@ unfoldable pub tagsOf : List Field → List ℕ
 tagsOf [] = []
 tagsOf (f ∷ fs) = f .tag ∷ tagsOf fs
 
+-- fields that a right draft can have
 pub record Draftable (fs : List Field) : Type 0 where
   pub tags : tagsPermitted (tagsOf fs) ≡ true
   pub need : needFor fs ≤ 32766

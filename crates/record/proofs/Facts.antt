@@ -36,6 +36,7 @@ module _ (rec : List ℕ) (room k i pos : ℕ) where
 
 -- ---- the leader
 
+-- a leader that is right for MFN m, where so many bytes are left
 pub record LeaderFacts (m : ℕ) (deleted : Bool) (left : ℕ) (l : Leader) : Type 0 where
   pub mfn : l .mfn .0 ≡ m
   pub mfrl : recordLength (l .mfrl) ≡ true
@@ -72,6 +73,7 @@ module _ (m : ℕ) (deleted : Bool) (left : ℕ) (l : Leader) where
 
 -- ---- the record
 
+-- a right record, by its two parts
 pub record RightFacts (rec : List ℕ) (m : ℕ) (deleted : Bool) : Type 0 where
   pub leader : LeaderFacts m deleted (length rec) (leaderOf rec)
   pub directory : directoryRight rec (leaderOf rec .mfrl - leaderOf rec .base) (leaderOf rec .nvf) 0 0 ≡ true
@@ -111,13 +113,7 @@ module _ (rec : List ℕ) (m : ℕ) (deleted : Bool) where
       go true h = refl
       go false h = let z : _≡_ {A = ℕ} 0 1 = cc in absurd (omega arith)
 
-  pub test-from : recordRight rec m deleted ≡ true → testOf rec m deleted ≡ WellFormed (leaderOf rec)
-  unfolding testOf
-  test-from e = rw e
-
-  pub test-leader : (l : Leader) → testOf rec m deleted ≡ WellFormed l → leaderOf rec ≡ l
-  test-leader l e = let h = test-from (test-right l e) in cc
-
+-- the back pointer is 0/0
 pub record NoBackFacts (l : Leader) : Type 0 where
   pub block : l .mfbwb .0 ≡ 0
   pub offset : l .mfbwp ≡ 0
@@ -133,6 +129,7 @@ module _ (l : Leader) where
 
 -- ---- the draft
 
+-- a right draft
 pub record DraftFacts (tags lens bytes : List ℕ) : Type 0 where
   pub equal : length tags ≡ length lens
   pub tags-right : tagsPermitted tags ≡ true

@@ -10,8 +10,7 @@ use lib.ListN.{length, length-append}
 use Rattle.word.specs.Integer.{le}
 use Rattle.word.specs.Place.{part}
 use Rattle.word.proofs.Place.{part-length, part-add}
-use Rattle.word.proofs.Integers.{u16-back}
-use Rattle.word.proofs.ByteRange.{Bytes}
+use Rattle.word.proofs.Integers.{Bytes, u16-back}
 use Rattle.layout.specs.Leader.{leaderOf}
 use Rattle.record.specs.Directory.{tagAt, posAt, lenAt, directoryRight}
 use Rattle.record.specs.Fields.{Field, fieldAt, fieldsFrom, fieldsOf}

@@ -3,29 +3,25 @@
 -- MFRL bytes are those of a right record is read as that record is, whatever follows; and so is a record whose leader alone was written
 -- anew. What is read stands in one record, `ReadsAs`, and each law takes one and gives one.
 use Prim.Native.Nat.{ℕ, zero, suc, _+_, _*_, _-_, _≤_, _<_}
-use native.Mathlib.Nat.{add-zero}
 use native.Mathlib.Omega.{arith}
 use mathlib.Core.Path.{_≡_, refl, sym, ap, _∙_}
-use mathlib.Core.Logic.{_⊎_, inl, inr, ⊎-elim}
+use mathlib.Core.Logic.{inl, inr}
 use mathlib.Core.Bool.{Bool, true, false}
 use mathlib.Core.List.{List, [], _++_}
 use lib.ListN.{length, getD, take, drop, replicate, length-take, length-drop}
-use lib.Seq.{take-take, take-append-add, drop-at, length-take-le}
+use lib.Seq.{take-take}
 use Rattle.word.specs.Integer.{u16At, le}
 use Rattle.word.specs.Place.{place, part}
-use Rattle.word.proofs.Place.{part-take, place-length, place-drop-at, place-before, place-after, place-part-after, place-in-part}
+use Rattle.word.proofs.Place.{part-take, place-length, place-part-after, drop-placed}
 use Rattle.word.proofs.Integers.{u16-part, u16-other, u32-other, u16-inside, u32-inside, u16-le-at, u32-le}
 use Rattle.word.proofs.Window.{window, window-u16, window-part}
-use Rattle.layout.specs.Leader.{leaderOf, leaderBytes}
+use Rattle.layout.specs.Leader.{leaderOf}
 use Rattle.layout.specs.declared.leader.Leader.{Leader}
-use Rattle.layout.proofs.LeaderBytes.{leader-is, leader-front, leader-length, Ranged, leader-of-bytes}
+use Rattle.layout.proofs.LeaderBytes.{leader-is, leader-front}
 use Rattle.record.specs.Directory.{tagAt, posAt, lenAt, directoryRight}
 use Rattle.record.specs.Fields.{Field, fieldsFrom, fieldsOf}
-use Rattle.record.specs.Record.{statusFor, leaderRight, recordRight, testOf}
-use Rattle.record.specs.Bytes.{leaderFor}
-use Rattle.record.specs.declared.test.Tested.the-variants.{WellFormed}
-use Rattle.record.proofs.FieldData.{fields-length}
-use Rattle.record.proofs.Facts.{EntryFacts, entry-facts, LeaderFacts, leader-from, right-facts, right-from, test-right, test-from, test-leader}
+use Rattle.record.specs.Record.{statusFor, leaderRight, recordRight}
+use Rattle.record.proofs.Facts.{EntryFacts, entry-facts, LeaderFacts, leader-from, right-facts, right-from}
 
 -- what is read of a record that is right for MFN m and deleted or not: its leader and its fields
 pub record ReadsAs (rec : List ℕ) (m : ℕ) (deleted : Bool) (l : Leader) (fs : List Field) : Type 0 where
@@ -35,13 +31,6 @@ pub record ReadsAs (rec : List ℕ) (m : ℕ) (deleted : Bool) (l : Leader) (fs 
 
 pub right-reads : (rec : List ℕ) (m : ℕ) (deleted : Bool) → recordRight rec m deleted ≡ true → ReadsAs rec m deleted (leaderOf rec) (fieldsOf rec)
 right-reads rec m deleted e = record { right = e; leader = refl; fields = refl }
-
--- what the test answers
-pub reads-test : {rec : List ℕ} {m : ℕ} {deleted : Bool} {l : Leader} {fs : List Field} → ReadsAs rec m deleted l fs → testOf rec m deleted ≡ WellFormed l
-reads-test {rec} {m} {deleted} r = test-from rec m deleted (r .right) ∙ ap WellFormed (r .leader)
-
-pub test-reads : (rec : List ℕ) (m : ℕ) (deleted : Bool) (l : Leader) → testOf rec m deleted ≡ WellFormed l → ReadsAs rec m deleted l (fieldsOf rec)
-test-reads rec m deleted l e = record { right = test-right rec m deleted l e; leader = test-leader rec m deleted l e; fields = refl }
 
 -- ---- the n bytes behind the leader
 
@@ -102,10 +91,6 @@ module _ {rec : List ℕ} {m : ℕ} {deleted : Bool} {l : Leader} {fs : List Fie
     unfolding fieldsOf
     reads-fields = rw (r .leader) at (r .fields)
 
-    -- NVF is the number of fields
-    pub reads-count : l .nvf ≡ length fs
-    reads-count = sym (fields-length rec (l .base) (l .nvf) 0) ∙ ap length reads-fields
-
   pub reads-from : leaderOf rec ≡ l → leaderRight m deleted (length rec) l ≡ true → directoryRight rec (l .mfrl - l .base) (l .nvf) 0 0 ≡ true
       → fieldsFrom rec (l .base) (l .nvf) 0 ≡ fs → ReadsAs rec m deleted l fs
   unfolding fieldsOf
@@ -141,12 +126,6 @@ module _ {rec : List ℕ} {m : ℕ} {deleted : Bool} {l : Leader} {fs : List Fie
       (sym (leader-front rec′ n (f .low)) ∙ ap leaderOf e ∙ leader-front rec n (f .low) ∙ r .leader)
       (f .mfn) refl refl refl (f .status) long
       (sym (part-take rec′ n 18 (n - 18) k) ∙ ap (λ (x : List ℕ). part x 18 (n - 18)) e ∙ part-take rec n 18 (n - 18) k)
-
-  -- the same, byte by byte
-  pub reads-bytes : l .mfrl ≤ length rec′ → ((i : ℕ) → i < l .mfrl → getD rec′ i 0 ≡ getD rec i 0) → ReadsAs rec′ m deleted l fs
-  reads-bytes long same =
-      let f : LeaderFacts m deleted (length rec) l = reads-leader r in
-      reads-take long (window rec′ rec 0 (l .mfrl) (omega arith) (omega arith) (λ i h k. same i (omega arith)))
 
 -- ---- records in a buffer: the part from its first byte to the end
 
@@ -188,39 +167,12 @@ tail-reads d at n {m} {deleted} {l} r h =
     reads-take r (part d at n) (omega (arith, length-take n (drop at d))) (take-take (l .mfrl) n (drop at d) h)
 
 module _ (d : List ℕ) (at end : ℕ) {m : ℕ} {deleted : Bool} {l : Leader} {fs : List Field} (r : ReadsAs (part d at (end - at)) m deleted l fs) where
-  -- the record stops at or before the end, and within the buffer
-  pub reads-within : at + l .mfrl ≤ end
-  reads-within = let b = part-in d at (end - at) r in omega arith
-
-  pub reads-inside : at + l .mfrl ≤ length d
-  reads-inside = part-in d at (end - at) r .2
-
   pub reads-window : (d′ : List ℕ) (end′ : ℕ) → at + l .mfrl ≤ end′ → end′ ≤ length d′
       → ((i : ℕ) → at ≤ i → i < at + l .mfrl → getD d′ i 0 ≡ getD d i 0) → ReadsAs (part d′ at (end′ - at)) m deleted l fs
   reads-window d′ end′ h k same =
       let b = part-in d at (end - at) r in
       reads-part d at (end - at) r d′ (end′ - at) (omega arith) (omega arith)
       (window d′ d at (l .mfrl) (omega arith) (b .2) same)
-
-  -- something is written beside the record
-  pub reads-beside : (a : ℕ) (xs : List ℕ) (end′ : ℕ) → a + length xs ≤ length d → (at + l .mfrl ≤ a) ⊎ (a + length xs ≤ at) → at + l .mfrl ≤ end′ → end′ ≤ length d
-      → ReadsAs (part (place d a xs) at (end′ - at)) m deleted l fs
-  reads-beside a xs end′ h side k j =
-      reads-window (place d a xs) end′ k (rw (place-length d a xs h) j)
-      (λ i p q. ⊎-elim (λ b. place-before d a xs i (omega arith) (omega arith)) (λ c. place-after d a xs i (omega arith)) side)
-
--- ---- a place within a record, from its first byte
-
--- what is read where something was placed: that, then what stood behind it
-pub part-placed : (d : List ℕ) (at : ℕ) (xs : List ℕ) (n : ℕ) → at ≤ length d → length xs ≤ n
-    → part (place d at xs) at n ≡ xs ++ part d (at + length xs) (n - length xs)
-part-placed d at xs n h k =
-    let s : length xs + (n - length xs) ≡ n = omega arith in
-    ap (take n) (place-drop-at d at xs h) ∙ rw s at (take-append-add xs (drop (at + length xs) d) (n - length xs))
-
-pub drop-placed : (d : List ℕ) (at i : ℕ) (xs : List ℕ) → at ≤ length d → drop at (place d (at + i) xs) ≡ place (drop at d) i xs
-drop-placed d at i xs h =
-    ap (drop at) (sym (place-in-part d at i xs)) ∙ drop-at (take at d) (place (drop at d) i xs) at (length-take-le at d h)
 
 -- ---- another back pointer is written
 
@@ -235,11 +187,6 @@ withBack l b p =
       nvf = l .nvf;
       status = l .status;
     }
-
--- it is the leader of a record of as many fields
-pub reads-with-back : {rec : List ℕ} {m : ℕ} {deleted : Bool} {l : Leader} {fs : List Field} → ReadsAs rec m deleted l fs → (b p : ℕ)
-    → withBack l b p ≡ leaderFor m (l .mfrl) b p deleted (length fs)
-reads-with-back r b p = let f = reads-leader r in rw (← f .mfn, ← reads-count r, f .base-is, ← f .status)
 
 pub status-small : (deleted : Bool) → statusFor deleted ≤ 1
 status-small true = omega arith
@@ -273,17 +220,6 @@ module _ (b p : ℕ) (low : b < 4294967296) (high : p < 65536) where
       (u16-other rec 6 xs 14 h (inr (omega arith)) ∙ ap (λ (x : Leader). x .nvf) (r .leader))
       (u16-other rec 6 xs 16 h (inr (omega arith)) ∙ ap (λ (x : Leader). x .status) (r .leader)))
 
-  -- the whole leader
-  pub reads-back : {rec : List ℕ} {m : ℕ} {deleted : Bool} {l : Leader} {fs : List Field} → ReadsAs rec m deleted l fs → m < 4294967296
-      → ReadsAs (place rec 0 (leaderBytes (withBack l b p))) m deleted (withBack l b p) fs
-  reads-back {rec} {m} {deleted} {l} r h =
-      let f : LeaderFacts m deleted (length rec) l = reads-leader r in
-      let xs : List ℕ = leaderBytes (withBack l b p) in
-      let ranged : Ranged (withBack l b p) =
-      record { mfn = rw (f .mfn) h; mfrl = omega arith; mfbwb = low; mfbwp = high; base = omega arith; nvf = omega arith; status = omega (arith, status-small deleted) } in
-      reads-patched r b p 0 xs (omega (arith, leader-length (withBack l b p)))
-      (ap leaderOf (place-drop-at rec 0 xs (omega arith)) ∙ leader-of-bytes (withBack l b p) (drop (0 + length xs) rec) ranged)
-
   -- in a buffer
   module _ (d : List ℕ) (at n : ℕ) {m : ℕ} {deleted : Bool} {l : Leader} {fs : List Field} (r : ReadsAs (part d at n) m deleted l fs) where
     pub reads-pointer-placed : ReadsAs (part (place d (at + 6) (le 4 b ++ le 2 p)) at n) m deleted (withBack l b p) fs
@@ -292,12 +228,6 @@ module _ (b p : ℕ) (low : b < 4294967296) (high : p < 65536) where
         tail-reads (place d (at + 6) (le 4 b ++ le 2 p)) at n
         (rw (drop-placed d at 6 (le 4 b ++ le 2 p) (omega arith)) (reads-pointer (reads-tail d at n r)))
         (c .1)
-
-    pub reads-back-placed : m < 4294967296 → ReadsAs (part (place d at (leaderBytes (withBack l b p))) at n) m deleted (withBack l b p) fs
-    reads-back-placed h =
-        let c = part-in d at n r in
-        let e = drop-placed d at 0 (leaderBytes (withBack l b p)) (omega arith) in
-        tail-reads (place d at (leaderBytes (withBack l b p))) at n (rw (rw add-zero at e) (reads-back (reads-tail d at n r) h)) (c .1)
 
 -- the back pointer 0/0
 pub reads-settled : (d : List ℕ) (at n : ℕ) {m : ℕ} {deleted : Bool} {l : Leader} {fs : List Field} → ReadsAs (part d at n) m deleted l fs

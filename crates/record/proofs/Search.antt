@@ -103,4 +103,4 @@ module _ (rec : List ℕ) (base n i tag left : ℕ) (r : Found) (inv : r ≡ fin
       pub find-here : (pos len : ℕ) → left ≡ 1 → pos ≡ posAt rec i → len ≡ lenAt rec i → At (base + pos) len ≡ r
       find-here pos len b p l = rw (inv, find-step rec base n i tag left h, ← e, ← p, ← l, eq-eqb t tag same, eq-eqb left 1 b)
 
-pub ruleset find-answers = (find-no-occurrence, find-done, find-other, find-later, find-here)
+pub ruleset find-answers = (find-no-occurrence, find-done, find-here)

@@ -11,6 +11,7 @@ use lib.ListN.{length, take, drop, replicate, length-append, length-replicate}
 use lib.Seq.{drop-drop, drop-at, take-at}
 use Rattle.word.specs.Integer.{u16At, le}
 use Rattle.word.specs.Place.{place, part}
+use Rattle.word.proofs.Place.{part-placed}
 use Rattle.word.proofs.Integers.{u16-drop, u16-le, u16-le-at}
 use Rattle.layout.specs.Sizes.{recordLength, tagPermitted}
 use Rattle.layout.specs.Leader.{leaderOf, leaderBytes}
@@ -25,7 +26,7 @@ use Rattle.record.specs.Draft.{tagsPermitted}
 use Rattle.record.specs.Bytes.{dataOf, entryBytes, directoryBytes, usedBy, needFor, recordBytes, leaderFor}
 use Rattle.record.proofs.Facts.{entry-from, leader-from}
 use Rattle.record.proofs.FieldData.{directory-length}
-use Rattle.record.proofs.Local.{ReadsAs, reads-from, part-placed, status-small}
+use Rattle.record.proofs.Local.{ReadsAs, reads-from, status-small}
 use Rattle.record.proofs.Draftable.{tagsOf, Draftable, need-used, need-length}
 
 -- ---- one entry
@@ -46,6 +47,7 @@ module _ (s : List ℕ) (i t p n : ℕ) (tail : List ℕ) (e : drop (18 + 6 * i)
 
 -- ---- the directory and the data
 
+-- the tags of a list are permitted: the first, and the rest
 record FirstTag (f : Field) (fs : List Field) : Type 0 where
   high : f .tag ≤ 32767
   here : tagPermitted (f .tag) ≡ true

@@ -11,7 +11,7 @@ use borrow.Rule.Slice.PartMut.{midOf, putMid}
 use Rattle.word.specs.Integer.{le}
 use Rattle.word.specs.Place.{place, part}
 use Rattle.word.proofs.Place.{part-length, place-length, place-part-after, place-none, place-same, place-next, place-commute, returned-front}
-use Rattle.word.proofs.ByteRange.{Bytes}
+use Rattle.word.proofs.Integers.{Bytes}
 use Rattle.layout.specs.Leader.{leaderBytes, leaderOf}
 use Rattle.layout.specs.declared.leader.Leader.{Leader}
 use Rattle.layout.proofs.LeaderBytes.{leader-length}

@@ -18,13 +18,13 @@ use Rattle.store.specs.declared.answer.Answer.{Answer}
 use Rattle.store.specs.declared.answer.Answer.the-variants.{Done, Unsound}
 use Rattle.store.specs.declared.gate.Gate.{Gate}
 use Rattle.store.specs.declared.gate.Gate.the-variants.{Open, Shut}
-use Rattle.store.proofs.Gates.{gated-passes, gate-shut, gate-open}
+use Rattle.store.proofs.Gates.{gated-passes, gate-shut, gate-is, opened, open-xrf}
 use Rattle.soundness.specs.Sound.{headsRight, restFree, steps, arrives, entriesSound, bodySound, checkAnswer}
 use Rattle.soundness.specs.Passes.{entriesFine, namedTotal, tallyOf, walkOf}
 use Rattle.soundness.specs.declared.passes.Tally.{Tally}
 use Rattle.soundness.specs.declared.passes.Tally.the-variants.{Named, Wrong}
 use Rattle.soundness.proofs.Deciding.{entries-wrong, walk-decides}
-use Rattle.soundness.proofs.PassAnswers.{open-low, open-xrf, named-parts, wrong-part}
+use Rattle.soundness.proofs.PassAnswers.{open-low, named-parts, wrong-part}
 
 module _ (mst xrf : List ℕ) (t : Tally) (e : t ≡ tallyOf mst xrf) where
   not-fine : t ≡ Wrong → entriesFine mst xrf ≡ false
@@ -44,22 +44,19 @@ module _ (mst xrf : List ℕ) (g : Gate) (e : g ≡ gateOf mst xrf) where
   check-shut a r h q = q ∙ ap gateAnswer h ∙ sym (gate-shut mst xrf a (sym e ∙ h) .answers (refuse Unsound (not (bodySound mst xrf)) ∷ []))
 
   module _ (next : Mfn) (end : ℕ) (h : g ≡ Open next end) where
-    pub check-gate : gateOf mst xrf ≡ Open next end
-    check-gate = sym e ∙ h
-
     pub check-xrf : length xrf ≤ 2097152
-    check-xrf = open-xrf mst xrf next end check-gate
+    check-xrf = open-xrf mst xrf next end (gate-is mst xrf g e next end h)
 
     pub check-next-low : 1 ≤ next .0
-    check-next-low = open-low mst xrf next end check-gate
+    check-next-low = open-low mst xrf next end (gate-is mst xrf g e next end h)
 
     pub check-next-high : next .0 ≤ capacityOf (length xrf) + 1
-    check-next-high = let f = gate-open mst xrf next end check-gate in omega arith
+    check-next-high = let f = opened mst xrf g e next end h in omega arith
 
     answered : (b : Bool) → bodySound mst xrf ≡ b → cond b Done Unsound ≡ checkAnswer mst xrf
     unfolding checkAnswer
     answered b q =
-        let f = gate-open mst xrf next end check-gate in
+        let f = opened mst xrf g e next end h in
         rw (gated-passes mst xrf _ (f .lengths) (f .control), q) (same b)
       where
         same : (b : Bool) → cond b Done Unsound ≡ cond (not b) Unsound Done
@@ -73,7 +70,7 @@ module _ (mst xrf : List ℕ) (g : Gate) (e : g ≡ gateOf mst xrf) where
 
       module _ (v : Bool) (s : v ≡ restFree xrf (next .0)) where
         rest-is : restFree xrf (nextOf mst) ≡ v
-        rest-is = rw (← gate-open mst xrf next end check-gate .next-is) (sym s)
+        rest-is = rw (← opened mst xrf g e next end h .next-is) (sym s)
 
         pub check-rest : not v ≡ true → Unsound ≡ checkAnswer mst xrf
         unfolding bodySound
@@ -88,7 +85,7 @@ module _ (mst xrf : List ℕ) (g : Gate) (e : g ≡ gateOf mst xrf) where
             walked : (arrives mst (endOf mst) 64 && entriesSound mst xrf (steps mst (endOf mst) 64)) ≡ r
             walked =
                 let q = tally-both mst xrf t k named c in
-                sym (walk-decides mst xrf (gate-open mst xrf next end check-gate .next-low) (q .0)) ∙ ap (walkOf mst xrf) (q .1) ∙ sym x
+                sym (walk-decides mst xrf (opened mst xrf g e next end h .next-low) (q .0)) ∙ ap (walkOf mst xrf) (q .1) ∙ sym x
 
             pub check-lost : r ≡ false → Unsound ≡ checkAnswer mst xrf
             unfolding bodySound
@@ -105,4 +102,4 @@ module _ (mst xrf : List ℕ) (g : Gate) (e : g ≡ gateOf mst xrf) where
                 ∙ rw (walked, o, ← u, rest-is, not-false w m, not-false v n))
 
 pub ruleset check-answers =
-    (check-shut, check-gate, check-xrf, check-next-low, check-next-high, check-heads, check-rest, check-wrong, check-lost, check-sound, tally-fine, arith)
+    (check-shut, gate-is, check-xrf, check-next-low, check-next-high, check-heads, check-rest, check-wrong, check-lost, check-sound, tally-fine, arith)

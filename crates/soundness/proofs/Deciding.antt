@@ -10,7 +10,7 @@ use mathlib.Core.Bool.{Bool, true, false, not, _&&_, cond}
 use mathlib.Core.List.{List, [], _∷_}
 use lib.Dec.{eqb}
 use lib.ListN.{length, length-take}
-use borrow.Author.Tests.{eqb-false, ne-eqb, not-true}
+use borrow.Author.Tests.{eqb-false, ne-eqb}
 use Rattle.word.specs.Integer.{u32At}
 use Rattle.word.proofs.Integers.{u32-part}
 use Rattle.layout.specs.Entry.{placeAddress}
@@ -19,7 +19,7 @@ use Rattle.layout.specs.Leader.{leaderOf}
 use Rattle.layout.specs.declared.entry.Place.{Place}
 use Rattle.layout.specs.declared.entry.Entry.{Entry}
 use Rattle.layout.specs.declared.entry.Entry.the-variants.{Gone, Malformed, At}
-use Rattle.layout.proofs.Tests.{tests, and-iff, false-true}
+use Rattle.layout.proofs.Tests.{tests, and-iff, false-true, not-both, cond-holds}
 use Rattle.record.specs.Record.{recordRight, noBack, backRight}
 use Rattle.record.proofs.Facts.{right-facts}
 use Rattle.store.specs.Reading.{mfnKnown, entryFor, isChanged, recordFrom, recordAt, leaderAt, backAddress, backFine, recordFine, settledRecord, settledFine, versionFine}
@@ -29,14 +29,6 @@ use Rattle.soundness.proofs.Stepping.{steps-ascend, elem-none, elem-cas
 use Rattle.soundness.proofs.Counting.{allTo-at, allTo-same, allTo-and, every, Once, ascends-once, Naming, named-all}
 
 -- ---- an entry that is right but for the steps
-
-cond-holds : (t b : Bool) → cond t b true ≡ true → t ≡ true → b ≡ true
-cond-holds true b e h = e
-cond-holds false b e h = absurd (false-true h)
-
-not-both : (t b : Bool) → not (t && b) ≡ true → t ≡ true → b ≡ false
-not-both true b e h = not-true b e
-not-both false b e h = absurd (false-true h)
 
 module _ (mst : List ℕ) (m : ℕ) where
   -- a well-formed record holds its own MFN

@@ -30,9 +30,9 @@ use Rattle.layout.proofs.ControlRecord.{control-facts, next-placed, end-placed,
 use Rattle.layout.proofs.CrossReference.{slot-in, entry-later, entry-gone, with-entry-length, with-entry-byte, with-entry-head, with-entry-free, with-entry-other}
 use Rattle.record.specs.Fields.{Field, fieldsOf}
 use Rattle.record.specs.Record.{recordRight, noBack, backRight}
-use Rattle.record.proofs.Local.{ReadsAs, right-reads, reads-mfn, reads-mfrl, reads-window}
+use Rattle.record.proofs.Local.{ReadsAs, reads-mfn, reads-mfrl, reads-window}
 use Rattle.store.specs.Reading.{lengthsPermitted, controlFine, entryFor, recordFrom, recordAt, leaderAt, backAddress, backFine, recordFine, settledRecord, settledFine, currentFields}
-use Rattle.store.proofs.Gates.{fine-facts, BackFacts, back-changed, settled-facts}
+use Rattle.store.proofs.Gates.{fine-facts, BackFacts, back-changed, settled-facts, fine-reads, settled-fine-reads}
 use Rattle.soundness.specs.Sound.{elem, mfrlAt, steps, arrives}
 use Rattle.soundness.proofs.Stepping.{MemberFacts, member-facts, steps-apart, MfrlKept, steps-same, arrives-same, arrives-append, elem-kept, elem-new}
 use Rattle.soundness.proofs.Standing.{PlaceStands, EntryStands, is-gone, is-at, Sound, sound-from}
@@ -121,11 +121,11 @@ settled-from mst m p a b = simp tests (a, b)
 
 -- what is read of a place that stands, and of its settled version
 pub place-reads : {mst : List ℕ} {m : ℕ} {p : Place} → PlaceStands mst m p → ReadsAs (recordAt mst p) m (p .deleted) (leaderAt mst p) (currentFields mst p)
-place-reads {mst} {m} {p} s = right-reads (recordAt mst p) m (p .deleted) (fine-facts mst m p (s .fine) .right)
+place-reads {mst} {m} {p} s = fine-reads mst m p (s .fine)
 
 pub settled-reads : {mst : List ℕ} {m : ℕ} {p : Place} → PlaceStands mst m p → p .mark ≡ Changed
     → ReadsAs (settledRecord mst p) m false (leaderOf (settledRecord mst p)) (fieldsOf (settledRecord mst p))
-settled-reads {mst} {m} {p} s c = right-reads (settledRecord mst p) m false (settled-facts mst m p (s .fine) c (s .settled c .fine) .right)
+settled-reads {mst} {m} {p} s c = settled-fine-reads mst m p (s .settled c .fine)
 
 -- ---- THE THEOREM
 
@@ -211,10 +211,6 @@ module _ {mst xrf mst′ : List ℕ} {m at n : ℕ} (s : Sound mst xrf) (w : Mst
   other-kept o p ne f =
       place-kept o p f (step-other o (placeAddress p) ne (f .step) (place-reads f))
       (λ c. step-other o (backAddress (leaderAt mst p)) ne (f .settled c .step) (settled-reads f c))
-
-  -- m's own place, where nothing before the end is touched
-  pub old-kept : (p : Place) → endOf mst ≤ at → PlaceStands mst m p → Kept mst mst′ m p
-  old-kept p h f = place-kept m p f (step-before h (placeAddress p) (f .step)) (λ c. step-before h (backAddress (leaderAt mst p)) (f .settled c .step))
 
   -- m's own settled version, which is at another step
   pub settled-kept : (p : Place) → entryFor mst xrf m ≡ At p → PlaceStands mst m p → p .mark ≡ Changed

@@ -9,7 +9,7 @@ use mathlib.Core.Bool.{Bool, true, false, not, _&&_, cond}
 use mathlib.Core.List.{List, [], _∷_}
 use lib.Dec.{eqb, leb}
 use lib.ListN.{length}
-use borrow.Author.Tests.{le-leb, lt-leb, lt-ltb, le-ltb, eq-eqb, ne-eqb, not-true, not-false}
+use borrow.Author.Tests.{le-leb, lt-leb, le-ltb, eq-eqb, ne-eqb, not-true, not-false}
 use types.Run.{OneOf}
 use denote.Enum.Declared.{tagOf}
 use Rattle.word.specs.Integer.{u16At, u32At}
@@ -28,7 +28,7 @@ use Rattle.layout.specs.declared.entry.Entry.the-variants.{Gone, Malformed, At}
 use Rattle.layout.specs.declared.leader.Leader.{Leader}
 use Rattle.layout.proofs.entry.Entry as entry
 use Rattle.layout.proofs.entry.Mark as mark
-use Rattle.layout.proofs.Tests.{and-false}
+use Rattle.layout.proofs.Tests.{and-false, and-left}
 use Rattle.layout.proofs.Facts.{well-placed-facts}
 use Rattle.layout.proofs.CrossReference.{entry-well-placed}
 use Rattle.store.specs.Answer.{numberOf, after}
@@ -40,7 +40,7 @@ use Rattle.store.specs.declared.answer.Answer.the-variants.{Done, BadEntry, Phy
 use Rattle.store.specs.declared.gate.Gate.the-variants.{Open}
 use Rattle.store.specs.declared.gate.Known.{Known}
 use Rattle.store.specs.declared.gate.Known.the-variants.{Record, Refused}
-use Rattle.store.proofs.Gates.{gate-open, fine-facts, back-changed}
+use Rattle.store.proofs.Gates.{gate-open, open-end, open-end-in, open-xrf, open-capacity, open-known, open-entry, fine-facts, back-changed}
 use Rattle.soundness.specs.Sound.{allTo, elem, implies, restFree, stepRight, nextStep, steps, arrives}
 use Rattle.soundness.specs.Passes.{bit, count, sumTo, namesOf, entryFine, entriesFine, namedTotal, tallyOf, entryTally, namedUnder, refusedTally, hit, walkOf, Names}
 use Rattle.soundness.specs.declared.passes.Tally.{Tally}
@@ -119,23 +119,11 @@ module _ (mst xrf : List ℕ) (next : Mfn) (end : ℕ) (g : gateOf mst xrf ≡ O
   pub open-few : next .0 ≤ 520193
   open-few = let f = gate-open mst xrf next end g in omega arith
 
-  pub open-end : end ≡ endOf mst
-  open-end = gate-open mst xrf next end g .end-is
-
   pub open-end-low : 64 ≤ end
   open-end-low = let f = gate-open mst xrf next end g in omega arith
 
-  pub open-end-in : end ≤ length mst
-  open-end-in = let f = gate-open mst xrf next end g in omega arith
-
   pub open-mst : length mst ≤ 536870400
   open-mst = gate-open mst xrf next end g .sizes .mst-high
-
-  pub open-xrf : length xrf ≤ 2097152
-  open-xrf = gate-open mst xrf next end g .sizes .xrf-high
-
-  pub open-capacity : (m : ℕ) → m < next .0 → m ≤ capacityOf (length xrf)
-  open-capacity m h = let f = gate-open mst xrf next end g in omega arith
 
   pub open-step : (s : ℕ) → s + 18 ≤ end → s + 4 ≤ length mst
   open-step s h = let f = gate-open mst xrf next end g in omega arith
@@ -193,16 +181,9 @@ tally-entry mst m (At p) = go (recordFine mst m p && versionFine mst m p) (isCha
     go false t c = refl
 
 module _ (mst xrf : List ℕ) (next : Mfn) (end : ℕ) (g : gateOf mst xrf ≡ Open next end) where
-  known-is : (m : ℕ) → 1 ≤ m → m < next .0 → mfnKnown mst m ≡ true
-  unfolding mfnKnown
-  known-is m lo hi =
-      let f = gate-open mst xrf next end g in
-      let k : m < nextOf mst = omega arith in
-      rw (le-leb 1 m lo, lt-ltb m (nextOf mst) k)
-
   module _ (m : ℕ) (lo : 1 ≤ m) (hi : m < next .0) (k : Known) (e : k ≡ knownBoth mst xrf m) where
     counted : tallyKnown k ≡ entryTally mst m (entryFor mst xrf m)
-    counted = ap tallyKnown (e ∙ both-entry mst xrf m (known-is m lo hi)) ∙ tally-entry mst m (entryFor mst xrf m)
+    counted = ap tallyKnown (e ∙ both-entry mst xrf m (open-known mst xrf next end g m lo hi)) ∙ tally-entry mst m (entryFor mst xrf m)
 
     pub tally-refused : (a b : Answer) (r : Tally) → k ≡ Refused a → b ≡ knownAnswer k → r ≡ refusedTally b → r ≡ entryTally mst m (entryFor mst xrf m)
     unfolding tallyKnown
@@ -279,7 +260,7 @@ module _ (mst xrf : List ℕ) where
       rw (sym f) (ap Named (rw h at (w .named-is)))
 
 pub ruleset tally-answers =
-    (refused-gone, refused-other, tally-refused, tally-found, tally-none, tally-few, tally-more, tally-wrong, tally-done, open-low, arith)
+    (refused-gone, refused-other, tally-refused, tally-found, tally-none, tally-more, tally-wrong, tally-done, open-low, arith)
 
 -- ---- the second pass
 
@@ -344,11 +325,11 @@ module _ (mst xrf : List ℕ) (s m : ℕ) (e : m ≡ u32At mst s) where
 
     module _ (lo : 1 ≤ m) (hi : m < next .0) (n : Entry) (u : n ≡ entryAt xrf end m) where
       entry-is : entryFor mst xrf m ≡ n
-      entry-is = ap (λ (x : ℕ). entryAt xrf x m) (sym (gate-open mst xrf next end g .end-is)) ∙ sym u
+      entry-is = open-entry mst xrf next end g m n u
 
       hit-is : hit mst xrf s ≡ elem s (namesOf mst n)
       unfolding hit
-      hit-is = rw (← e, known-is mst xrf next end g m lo hi, entry-is)
+      hit-is = rw (← e, open-known mst xrf next end g m lo hi, entry-is)
 
       pub hit-no-place : OneOf (0 ∷ 1 ∷ []) (tagOf entry.the-type n) → 0 ≡ bit (hit mst xrf s)
       unfolding bit
@@ -365,10 +346,6 @@ module _ (mst xrf : List ℕ) (s m : ℕ) (e : m ≡ u32At mst s) where
             let q : entryFine mst m (At p) ≡ true =
             sym (ap (entryFine mst m) (entry-is ∙ h)) ∙ entry-fine mst xrf (f .next-low) fine m lo (omega arith) in
             and-left (recordFine mst m p) (versionFine mst m p) q
-          where
-            and-left : (a b : Bool) → a && b ≡ true → a ≡ true
-            and-left true b v = refl
-            and-left false b v = v
 
         pub hit-names : entriesFine mst xrf ≡ true → Names mst end p
         hit-names fine =

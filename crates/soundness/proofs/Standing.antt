@@ -27,10 +27,10 @@ use Rattle.store.specs.Answer.{Refusal, refuse, lowest}
 use Rattle.store.specs.Reading.{lengthsPermitted, controlFine, mfnKnown, entryFor, placeFor, isMalformed, isGone, isChanged, leaderAt, backAddress, recordFine, settledFine, versionFine}
 use Rattle.store.specs.Refusals.{gated, named, fine, bothFine}
 use Rattle.store.specs.declared.answer.Answer.{Answer}
-use Rattle.store.specs.declared.answer.Answer.the-variants.{Done, NoSuchMfn, Full, BadEntry, PhysicallyDeleted, BadRecord}
+use Rattle.store.specs.declared.answer.Answer.the-variants.{NoSuchMfn, BadEntry, PhysicallyDeleted, BadRecord}
 use Rattle.store.proofs.Gates.{LengthsFacts, lengths-facts, mfn-facts}
 use Rattle.soundness.proofs.Counting.{allTo-at, allTo-all}
-use Rattle.soundness.specs.Sound.{allTo, elem, implies, headsRight, restFree, steps, arrives, placeSound, entrySound, entriesSound, bodySound, soundOf, checkAnswer}
+use Rattle.soundness.specs.Sound.{allTo, elem, implies, headsRight, restFree, steps, arrives, placeSound, entrySound, entriesSound, bodySound, soundOf}
 
 -- ---- the facts
 
@@ -50,6 +50,7 @@ pub data EntryStands (mst xrf : List ℕ) (m : ℕ) : Type 0 where
   is-gone : entryFor mst xrf m ≡ Gone → EntryStands mst xrf m
   is-at : (p : Place) → entryFor mst xrf m ≡ At p → PlaceStands mst m p → EntryStands mst xrf m
 
+-- a sound store, fact by fact: what `soundOf` tests
 pub record Sound (mst xrf : List ℕ) : Type 0 where
   pub lengths : lengthsPermitted mst xrf ≡ true
   pub control : controlFine mst xrf ≡ true
@@ -193,12 +194,6 @@ named-rows true malformed true right rest a b = rw (a refl)
 named-rows true malformed false right rest a b = rw (a refl, b refl refl)
 named-rows false malformed gone right rest a b = refl
 
--- 5 and 6 of a create
-create-rows : (full right : Bool) (rest : Answer) → (full ≡ false → right ≡ true)
-    → cond full Full (cond (not right) BadEntry rest) ≡ cond full Full rest
-create-rows true right rest a = refl
-create-rows false right rest a = rw (a refl)
-
 pub version-fine : (mst : List ℕ) (m : ℕ) (p : Place) → PlaceStands mst m p → versionFine mst m p ≡ true
 unfolding versionFine
 version-fine mst m p s = go (isChanged (p .mark)) refl
@@ -272,18 +267,3 @@ module _ {mst xrf : List ℕ} (s : Sound mst xrf) where
       let f = s .numbers in
       let d = eqb-false (nextOf mst) (capacityOf (length xrf) + 1) e in
       ⊎-elim (λ h. omega arith) (λ h. absurd (d (omega arith))) (lt-or-ge (nextOf mst) (capacityOf (length xrf) + 1))
-
-  pub create-sound : (rest : List Refusal)
-      → lowest
-      (refuse Full (eqb (nextOf mst) (capacityOf (length xrf) + 1))
-      ∷ refuse BadEntry (not (headRight xrf (xrfBlock (nextOf mst)) && slotFree xrf (nextOf mst)))
-      ∷ rest)
-      ≡ lowest (refuse Full (eqb (nextOf mst) (capacityOf (length xrf) + 1)) ∷ rest)
-  create-sound rest =
-      create-rows (eqb (nextOf mst) (capacityOf (length xrf) + 1)) (headRight xrf (xrfBlock (nextOf mst)) && slotFree xrf (nextOf mst)) (lowest rest)
-      (λ e. create-row (below-capacity e))
-
-  -- 14
-  pub check-sound : checkAnswer mst xrf ≡ Done
-  unfolding checkAnswer
-  check-sound = rw (s .lengths, s .control, body-sound mst xrf s)

@@ -213,12 +213,6 @@ pub elem-right : (a : ℕ) (l r : List ℕ) → elem a r ≡ true → elem a (l 
 elem-right a [] r h = h
 elem-right a (s ∷ l) r h = elem-there a s (l ++ r) (elem-right a l r h)
 
-pub elem-append : (a : ℕ) (l r : List ℕ) → elem a (l ++ r) ≡ true → (elem a l ≡ true) ⊎ (elem a r ≡ true)
-elem-append a [] r h = inr h
-elem-append a (s ∷ l) r h =
-    ⊎-elim (λ e. inl (rw e (elem-here s l)))
-    (λ i. ⊎-elim (λ j. inl (elem-there a s l j)) (λ j. inr j) (elem-append a l r i)) (elem-cases a s (l ++ r) h)
-
 -- ---- members of the steps
 
 module _ (mst : List ℕ) (end : ℕ) where
@@ -236,13 +230,6 @@ module _ (mst : List ℕ) (end : ℕ) where
   pub way-on : (at : ℕ) → at + 18 ≤ end → arrives mst end at ≡ true → arrives mst end (nextStep mst end at) ≡ true
   way-on at room way = sym (arrives-more mst end at room) ∙ way
 
-  pub arrives-in : (at : ℕ) → arrives mst end at ≡ true → at ≤ end
-  arrives-in at way = pick (decLe (at + 18) end)
-    where
-      pick : Dec (at + 18 ≤ end) → at ≤ end
-      pick (yes room) = omega arith
-      pick (no full) = let q : at ≡ end = eqb-true at end (sym (arrives-end mst end at (omega arith)) ∙ way) in omega arith
-
   -- a member that the first step is, or that is one of the rest
   pub steps-cases : (at s : ℕ) → at + 18 ≤ end → elem s (steps mst end at) ≡ true → (s ≡ at) ⊎ (elem s (steps mst end (nextStep mst end at)) ≡ true)
   steps-cases at s room i = elem-cases s at (steps mst end (nextStep mst end at)) (rw (steps-more mst end at room) at i)
@@ -250,28 +237,14 @@ module _ (mst : List ℕ) (end : ℕ) where
   pub steps-none : (at s : ℕ) → end < at + 18 → elem s (steps mst end at) ≡ true → ⊥
   steps-none at s full i = elem-none s (rw (steps-end mst end at full) at i)
 
+-- one of the steps from an address on
 pub record MemberFacts (mst : List ℕ) (end at s : ℕ) : Type 0 where
   pub from : at ≤ s
   pub room : s + 18 ≤ end
-  pub right : stepRight mst end s ≡ true
-  pub mfrl : recordLength (mfrlAt mst s) ≡ true
-  pub even : mfrlAt mst s % 2 ≡ 0
-  pub low : 18 ≤ mfrlAt mst s
-  pub high : mfrlAt mst s ≤ 32766
-  pub stops : s + mfrlAt mst s ≤ end
+  pub step : StepFacts mst end s
 
 member-from : {mst : List ℕ} {end at next s : ℕ} → at ≤ next → MemberFacts mst end next s → MemberFacts mst end at s
-member-from h f =
-    record {
-      from = omega (arith, f .from);
-      room = f .room;
-      right = f .right;
-      mfrl = f .mfrl;
-      even = f .even;
-      low = f .low;
-      high = f .high;
-      stops = f .stops;
-    }
+member-from h f = record { from = omega (arith, f .from); room = f .room; step = f .step }
 
 pub member-facts : (mst : List ℕ) (end s at : ℕ) → arrives mst end at ≡ true → elem s (steps mst end at) ≡ true → MemberFacts mst end at s
 member-facts mst end s =
@@ -280,19 +253,7 @@ member-facts mst end s =
     (λ at room ih way i. ⊎-elim (here at room way) (there at room way ih) (steps-cases mst end at s room i))
   where
     here : (at : ℕ) → at + 18 ≤ end → arrives mst end at ≡ true → s ≡ at → MemberFacts mst end at s
-    here at room way e =
-        let f = step-facts mst end at (len-right mst end at room way) in
-        rw e
-        (record {
-          from = omega arith;
-          room = room;
-          right = f .right;
-          mfrl = f .mfrl;
-          even = f .even;
-          low = f .low;
-          high = f .high;
-          stops = f .stops;
-        })
+    here at room way e = rw e (record { from = omega arith; room = room; step = step-facts mst end at (len-right mst end at room way) })
 
     there : (at : ℕ) → at + 18 ≤ end → arrives mst end at ≡ true
         → (arrives mst end (nextStep mst end at) ≡ true → elem s (steps mst end (nextStep mst end at)) ≡ true → MemberFacts mst end (nextStep mst end at) s)

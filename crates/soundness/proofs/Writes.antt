@@ -5,7 +5,7 @@ use Prim.Native.Nat.{ℕ, _+_, _-_, _%_, _≤_, _<_}
 use native.Mathlib.Nat.{add-zero}
 use native.Mathlib.Omega.{arith}
 use mathlib.Core.Path.{_≡_, refl, sym, ap, _∙_}
-use mathlib.Core.Bool.{Bool, true, false, not, _&&_, _||_}
+use mathlib.Core.Bool.{Bool, true, false, not, _&&_}
 use mathlib.Core.List.{List, [], _++_}
 use lib.Dec.{eqb, ltb}
 use lib.ListN.{length, getD, replicate}
@@ -23,7 +23,7 @@ use Rattle.layout.specs.declared.entry.Mark.the-variants.{Settled, Changed, New
 use Rattle.layout.specs.declared.entry.Place.{Place}
 use Rattle.layout.specs.declared.entry.Entry.the-variants.{At}
 use Rattle.layout.specs.declared.leader.Leader.{Leader}
-use Rattle.layout.proofs.Tests.{tests, false-true}
+use Rattle.layout.proofs.Tests.{tests, false-true, or-false}
 use Rattle.layout.proofs.Facts.{address-of-at, well-placed-facts, well-placed-later, well-placed-at, encodable, RecordLengthFacts, record-length-facts, EndMovedFacts, end-moved-facts, end-moved-in}
 use Rattle.layout.proofs.ControlRecord.{control-facts, next-placed, control-right-placed, end-length, end-byte, next-of-end, end-of-end, control-right-end, next-length, next-byte, next-of-next, end-of-next, control-right-next, formatted-length, formatted-next, formatted-end, formatted-right}
 use Rattle.layout.proofs.CrossReference.{slot-in, block-in, entry-well-placed, with-entry-same, formatted-xrf-length, formatted-head, formatted-free}
@@ -45,6 +45,8 @@ use Rattle.soundness.proofs.Moves.{XrfMoved, MstMoved, next-stays, stay
 
 -- ---- what is left
 
+-- the call leaves a sound store with this end and NXTMFN; m is at p, with a record of this MFRL, these fields and, where it is changed, these
+-- settled ones; every other MFN is as it was
 pub record Leaves (mst xrf mst′ xrf′ : List ℕ) (m end next : ℕ) (p : Place) (mfrl : ℕ) (fs old : List Field) : Type 0 where
   pub sound : Sound mst′ xrf′
   pub mst-long : length mst′ ≡ length mst
@@ -532,10 +534,6 @@ module _ {mst xrf : List ℕ} (s : Sound mst xrf) (m : ℕ) (p : Place) (low : 1
         rw z (reads-mfrl over-it (placeAddress p) (endOf mst - placeAddress p) again-read ∙ sym old-mfrl) in
         (rw (z, again-length) at (mst-within s m high p e here 0 bs inside same), rw z at (within-end s m high p e here 0 bs inside same))
 
-    pub in-place-moved : MstMoved mst xrf (versionInPlace mst m p (leaderAt mst p) deleted fs) m (placeAddress p) (leaderAt mst p .mfrl)
-    unfolding versionInPlace versionLeader
-    in-place-moved = again-within .0
-
     -- whatever entry names the place, with the same mark
     in-place-leaves : {xrf′ : List ℕ} → XrfMoved xrf xrf′ m → (q : Place) → entryFor over-it xrf′ m ≡ At q → q .deleted ≡ deleted → q .mark ≡ p .mark
         → placeAddress q ≡ placeAddress p → Leaves mst xrf over-it xrf′ m (endOf mst) (nextOf mst) q (leaderAt mst p .mfrl) fs (fieldsOf (settledRecord mst p))
@@ -639,10 +637,6 @@ module _ {mst xrf : List ℕ} (s : Sound mst xrf) (m : ℕ) (p : Place) (low : 1
 
 -- ---- update and delete as the calls have them
 
-either-false : (a b : Bool) → (a || b) ≡ false → (a ≡ false) × (b ≡ false)
-either-false true b h = absurd (false-true (sym h))
-either-false false b h = (refl, h)
-
 module _ {mst xrf : List ℕ} (s : Sound mst xrf) (m : ℕ) (p : Place) (low : 1 ≤ m) (high : m < nextOf mst) (e : entryFor mst xrf m ≡ At p)
     (live : p .deleted ≡ false) where
   module _ (fs : List Field) (d : Draftable fs) where
@@ -654,7 +648,7 @@ module _ {mst xrf : List ℕ} (s : Sound mst xrf) (m : ℕ) (p : Place) (low : 1
 
     appends-none : updateAppends p (leaderAt mst p) (needFor fs) ≡ false → (isSettled (p .mark) ≡ false) × (ltb (leaderAt mst p .mfrl) (needFor fs) ≡ false)
     unfolding updateAppends
-    appends-none h = either-false (isSettled (p .mark)) (ltb (leaderAt mst p .mfrl) (needFor fs)) h
+    appends-none h = or-false (isSettled (p .mark)) (ltb (leaderAt mst p .mfrl) (needFor fs)) h
 
     pub update-stays : updateAppends p (leaderAt mst p) (needFor fs) ≡ false
         → Leaves mst xrf (updatedMst mst m p fs) (updatedXrf mst xrf m p fs) m (endOf mst) (nextOf mst) p (leaderAt mst p .mfrl) fs (fieldsOf (settledRecord mst p))

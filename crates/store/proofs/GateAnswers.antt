@@ -8,7 +8,7 @@ use mathlib.Core.Bool.{Bool, true, false, not, _&&_, cond}
 use mathlib.Core.List.{List, [], _∷_}
 use lib.Dec.{eqb}
 use lib.ListN.{length}
-use borrow.Author.Tests.{le-leb, lt-leb, lt-ltb, le-ltb, not-true, not-false}
+use borrow.Author.Tests.{lt-leb, le-ltb, not-true, not-false}
 use types.Run.{OneOf}
 use denote.Enum.Declared.{tagOf}
 use Rattle.word.specs.Place.{part}
@@ -36,7 +36,7 @@ use Rattle.record.specs.Record.{recordRight, testOf, noBack, backRight}
 use Rattle.record.specs.declared.test.Tested.{Tested}
 use Rattle.record.specs.declared.test.Tested.the-variants.{WellFormed, Broken}
 use Rattle.store.specs.Answer.{numberOf, after}
-use Rattle.store.specs.Reading.{lengthsPermitted, controlFine, mfnKnown, entryFor, placeIn, isMalformed, isGone, isChanged, recordAt, leaderAt, backAddress, backFine, recordFine, settledFine, versionFine}
+use Rattle.store.specs.Reading.{lengthsPermitted, controlFine, mfnKnown, placeIn, isMalformed, isGone, isChanged, recordAt, leaderAt, backAddress, backFine, recordFine, settledFine, versionFine}
 use Rattle.store.specs.Gate.{entryAnswer, placeKnown, settledFrom}
 use Rattle.store.specs.Steps.{gateOf, knownIf, knownOf, knownBoth}
 use Rattle.store.specs.declared.answer.Answer.{Answer}
@@ -44,7 +44,7 @@ use Rattle.store.specs.declared.answer.Answer.the-variants.{Done, BadLen
 use Rattle.store.specs.declared.gate.Gate.the-variants.{Open, Shut}
 use Rattle.store.specs.declared.gate.Known.{Known}
 use Rattle.store.specs.declared.gate.Known.the-variants.{Record, Refused}
-use Rattle.store.proofs.Gates.{gate-open, KnownFacts, known-facts, BackFacts, back-changed, refused-both}
+use Rattle.store.proofs.Gates.{gate-open, open-end, open-end-in, open-xrf, open-capacity, open-known, open-entry, KnownFacts, known-facts, BackFacts, back-changed, refused-both}
 
 -- ---- lengths and control record
 
@@ -182,18 +182,6 @@ module _ (mst xrf : List ℕ) (m : ℕ) where
   record-low h = rw (lt-leb 1 m h)
 
   module _ (next : Mfn) (end : ℕ) (g : gateOf mst xrf ≡ Open next end) where
-    pub gate-end : end ≡ endOf mst
-    gate-end = gate-open mst xrf next end g .end-is
-
-    pub gate-end-in : end ≤ length mst
-    gate-end-in = let f = gate-open mst xrf next end g in omega arith
-
-    pub gate-xrf : length xrf ≤ 2097152
-    gate-xrf = gate-open mst xrf next end g .sizes .xrf-high
-
-    pub record-capacity : m < next .0 → m ≤ capacityOf (length xrf)
-    record-capacity h = let f = gate-open mst xrf next end g in omega arith
-
     pub record-high : next .0 ≤ m → Refused NoSuchMfn ≡ knownOf mst xrf m
     unfolding knownOf knownIf mfnKnown after numberOf
     record-high h =
@@ -202,28 +190,18 @@ module _ (mst xrf : List ℕ) (m : ℕ) where
         rw (le-ltb m (nextOf mst) k, and-false)
 
     module _ (e : Entry) (u : e ≡ entryAt xrf end m) where
-      entry-is : entryFor mst xrf m ≡ e
-      entry-is = ap (λ (x : ℕ). entryAt xrf x m) (sym gate-end) ∙ sym u
-
       pub record-placed : (p : Place) → e ≡ At p → wellPlaced end (p .block .0) (p .offset) ≡ true
       record-placed p v = entry-well-placed xrf end m p (sym u ∙ v)
 
       module _ (low : 1 ≤ m) (high : m < next .0) where
-        known-is : mfnKnown mst m ≡ true
-        unfolding mfnKnown
-        known-is =
-            let f = gate-open mst xrf next end g in
-            let k : m < nextOf mst = omega arith in
-            rw (le-leb 1 m low, lt-ltb m (nextOf mst) k)
-
         pub record-no-place : (a : Answer) → OneOf (0 ∷ 1 ∷ []) (tagOf entry.the-type e) → a ≡ entryAnswer e → Refused a ≡ knownOf mst xrf m
         unfolding knownOf knownIf after numberOf
         record-no-place a o s =
-            rw (s, known-is, entry-is) (no-place e (recordFine mst m (placeIn e)) (Record (placeIn e) (leaderAt mst (placeIn e))) o)
+            rw (s, open-known mst xrf next end g m low high, open-entry mst xrf next end g m e u) (no-place e (recordFine mst m (placeIn e)) (Record (placeIn e) (leaderAt mst (placeIn e))) o)
 
         pub record-told : (p : Place) (r : Known) → e ≡ At p → r ≡ placeKnown mst m p → r ≡ knownOf mst xrf m
         unfolding knownOf knownIf placeKnown
-        record-told p r v s = rw (s, known-is, entry-is, v) (fine-cond (recordFine mst m p) (Record p (leaderAt mst p)))
+        record-told p r v s = rw (s, open-known mst xrf next end g m low high, open-entry mst xrf next end g m e u, v) (fine-cond (recordFine mst m p) (Record p (leaderAt mst p)))
 
 -- ---- the settled version
 
@@ -283,4 +261,4 @@ module _ (mst xrf : List ℕ) (m : ℕ) (k : Known) (e : k ≡ knownOf mst xrf m
           both-right n = both-told (version-is ∙ n)
 
 pub ruleset gate-answers =
-    (lengths-no, lengths-rest, gate-lengths, gate-wrong, gate-right, back-wrong, back-other, back-block, back-own, place-block, place-before, place-broken, place-back, place-right, record-low, gate-end, gate-end-in, gate-xrf, record-capacity, record-high, record-placed, record-no-place, record-told, settled-broken, settled-right, both-refused, both-other, both-block, both-before, both-broken, both-right, arith)
+    (lengths-no, lengths-rest, gate-lengths, gate-wrong, gate-right, back-wrong, back-other, back-block, back-own, place-block, place-before, place-broken, place-back, place-right, record-low, open-end, open-end-in, open-xrf, open-capacity, record-high, record-placed, record-no-place, record-told, settled-broken, settled-right, both-refused, both-other, both-block, both-before, both-broken, both-right, arith)

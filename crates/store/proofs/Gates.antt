@@ -7,32 +7,36 @@ use mathlib.Core.Logic.{_⊎_, inl, inr}
 use mathlib.Core.Bool.{Bool, true, false, not, _&&_, cond}
 use mathlib.Core.List.{List}
 use lib.Dec.{eqb}
-use borrow.Author.Tests.{eqb-true, eqb-false, eq-eqb, ne-eqb, not-false}
-use lib.ListN.{length, length-take}
+use borrow.Author.Tests.{lt-ltb, le-leb, eqb-true, eqb-false, eq-eqb, ne-eqb, not-false}
+use lib.ListN.{length}
 use Rattle.word.specs.Place.{part}
+use Rattle.word.proofs.Place.{part-short}
 use Rattle.layout.specs.Sizes.{mstPermitted, xrfPermitted, capacityOf}
 use Rattle.layout.specs.Entry.{wellPlaced, placeAddress}
 use Rattle.layout.specs.Control.{nextOf, endOf}
+use Rattle.layout.specs.CrossReference.{entryAt}
 use Rattle.layout.specs.Leader.{leaderOf}
 use Rattle.layout.specs.declared.sizes.Mfn.{Mfn}
-use Rattle.layout.specs.declared.entry.Mark.{Mark}
 use Rattle.layout.specs.declared.entry.Mark.the-variants.{Settled, Changed, New}
 use Rattle.layout.specs.declared.entry.Place.{Place}
 use Rattle.layout.specs.declared.entry.Entry.{Entry}
 use Rattle.layout.specs.declared.entry.Entry.the-variants.{Gone, Malformed, At}
 use Rattle.layout.specs.declared.leader.Leader.{Leader}
-use Rattle.layout.proofs.Tests.{tests, false-true}
+use Rattle.layout.proofs.Tests.{tests, false-true, not-both, cond-holds}
 use Rattle.layout.proofs.Facts.{blocks-facts, WellPlacedFacts, well-placed-facts}
 use Rattle.layout.proofs.ControlRecord.{control-facts}
 use Rattle.layout.proofs.CrossReference.{entry-well-placed}
 use Rattle.record.specs.Record.{recordRight, noBack, backRight, Readable}
-use Rattle.record.proofs.Facts.{LeaderFacts, right-facts, right-readable}
+use Rattle.record.specs.Fields.{fieldsOf}
+use Rattle.record.proofs.Local.{ReadsAs, right-reads}
+use Rattle.record.proofs.Facts.{LeaderFacts, right-facts, right-readable, NoBackFacts, no-back-facts}
 use Rattle.store.specs.Answer.{numberOf, Refusal, lowest, after}
-use Rattle.store.specs.Reading.{lengthsPermitted, controlFine, mfnKnown, entryFor, placeIn, placeFor, isMalformed, isGone, isChanged, recordAt, leaderAt, backAddress, backFine, recordFine, settledRecord, settledFine, versionFine}
+use Rattle.store.specs.Reading.{lengthsPermitted, controlFine, mfnKnown, entryFor, placeIn, placeFor, isMalformed, isGone, isChanged, recordAt, leaderAt, backAddress, backFine, recordFine, settledRecord, settledFine, versionFine, currentFields}
 use Rattle.store.specs.Refusals.{gated, named, fine, bothFine}
-use Rattle.store.specs.Steps.{gateOf, knownIf, knownOf, knownBoth, Planned}
+use Rattle.store.specs.Steps.{gateOf, knownIf, knownOf, knownBoth}
 use Rattle.store.specs.declared.answer.Answer.{Answer}
 use Rattle.store.specs.declared.answer.Answer.the-variants.{Done, BadLength, BadControl, BadDraft, NoSuchMfn, Full, BadEntry, PhysicallyDeleted, BadRecord, Deleted, NotPending, NeverSettled, NoField, NoRoom, Unsound}
+use Rattle.store.specs.declared.gate.Gate.{Gate}
 use Rattle.store.specs.declared.gate.Gate.the-variants.{Open, Shut}
 use Rattle.store.specs.declared.gate.Known.{Known}
 use Rattle.store.specs.declared.gate.Known.the-variants.{Record, Refused}
@@ -67,9 +71,6 @@ Refusing a = numberOf a ≡ 0 → ⊥
 
 pub refusing-not-done : (a : Answer) → Refusing a → a ≡ Done → ⊥
 refusing-not-done a h e = h (ap numberOf e ∙ done-number)
-
-pub not-done-refusing : (a : Answer) → (a ≡ Done → ⊥) → Refusing a
-not-done-refusing a h e = h (number-done a e)
 
 -- what holds after a call that is done, and after one that is refused
 pub after-done : {A : Type 0} (a : Answer) (new old : A) → a ≡ Done → after a new old ≡ new
@@ -108,6 +109,10 @@ pub passed : (b : Bool) (a rest : Answer) → Refusing a → cond b a rest ≡ D
 passed true a rest h e = absurd (refusing-not-done a h e)
 passed false a rest h e = (refl, e)
 
+-- and one whose test has to hold
+pub holds : (b : Bool) (a rest : Answer) → Refusing a → cond (not b) a rest ≡ Done → (b ≡ true) × (rest ≡ Done)
+holds b a rest h e = let q = passed (not b) a rest h e in (not-false b (q .0), q .1)
+
 -- ---- the gate
 
 -- 1 and 2 by whether lengths and control record are right
@@ -123,10 +128,11 @@ module _ (mst xrf : List ℕ) where
       → (lengthsPermitted mst xrf ≡ true) × (controlFine mst xrf ≡ true) × (rest ≡ Done)
   unfolding numberOf
   gate-done rest e =
-      let a = passed (not (lengthsPermitted mst xrf)) BadLength _ (λ z. omega arith) e in
-      let b = passed (not (controlFine mst xrf)) BadControl rest (λ z. omega arith) (a .1) in
-      (not-false _ (a .0), not-false _ (b .0), b .1)
+      let a = holds (lengthsPermitted mst xrf) BadLength _ (λ z. omega arith) e in
+      let b = holds (controlFine mst xrf) BadControl rest (λ z. omega arith) (a .1) in
+      (a .0, b .0, b .1)
 
+-- the gate is shut with a: that is the answer, whatever the refusals after it
 pub record ShutFacts (mst xrf : List ℕ) (a : Answer) : Type 0 where
   pub refusing : Refusing a
   pub answers : (rest : List Refusal) → lowest (gated mst xrf rest) ≡ a
@@ -152,6 +158,7 @@ gate-shut mst xrf a e =
     let q = shut-cases (record { 0 = nextOf mst }) (endOf mst) a (lengthsPermitted mst xrf) (controlFine mst xrf) e in
     record { refusing = q .0; answers = λ rest. q .1 (lowest rest) }
 
+-- both lengths are permitted
 pub record LengthsFacts (mst xrf : List ℕ) : Type 0 where
   pub mst-whole : length mst % 512 ≡ 0
   pub mst-low : 512 ≤ length mst
@@ -216,6 +223,38 @@ gate-open mst xrf next end e =
     let q = open-cases next end Done (record { 0 = nextOf mst }) (endOf mst) (lengthsPermitted mst xrf) (controlFine mst xrf) e in
     open-from mst xrf next end (q .0) (q .1) (ap (λ (n : Mfn). n .0) (sym (q .2))) (sym (q .3))
 
+-- the facts that a search asks for, one by one
+module _ (mst xrf : List ℕ) (next : Mfn) (end : ℕ) (g : gateOf mst xrf ≡ Open next end) where
+  pub open-end : end ≡ endOf mst
+  open-end = gate-open mst xrf next end g .end-is
+
+  pub open-end-in : end ≤ length mst
+  open-end-in = let f = gate-open mst xrf next end g in omega arith
+
+  pub open-xrf : length xrf ≤ 2097152
+  open-xrf = gate-open mst xrf next end g .sizes .xrf-high
+
+  pub open-capacity : (m : ℕ) → m < next .0 → m ≤ capacityOf (length xrf)
+  open-capacity m h = let f = gate-open mst xrf next end g in omega arith
+
+  pub open-known : (m : ℕ) → 1 ≤ m → m < next .0 → mfnKnown mst m ≡ true
+  unfolding mfnKnown
+  open-known m low high =
+      let f = gate-open mst xrf next end g in
+      let k : m < nextOf mst = omega arith in
+      rw (le-leb 1 m low, lt-ltb m (nextOf mst) k)
+
+  pub open-entry : (m : ℕ) (e : Entry) → e ≡ entryAt xrf end m → entryFor mst xrf m ≡ e
+  open-entry m e u = ap (λ (x : ℕ). entryAt xrf x m) (sym open-end) ∙ sym u
+
+-- the gate that was tested came out open
+module _ (mst xrf : List ℕ) (g : Gate) (p : g ≡ gateOf mst xrf) (next : Mfn) (end : ℕ) (q : g ≡ Open next end) where
+  pub gate-is : gateOf mst xrf ≡ Open next end
+  gate-is = sym p ∙ q
+
+  pub opened : OpenFacts mst xrf next end
+  opened = gate-open mst xrf next end gate-is
+
 -- ---- the record of an MFN
 
 -- what a record that is well formed for m says
@@ -225,9 +264,6 @@ pub record FineFacts (mst : List ℕ) (m : ℕ) (p : Place) (l : Leader) : Type 
   pub readable : Readable (recordAt mst p)
   pub leader : LeaderFacts m (p .deleted) (length (recordAt mst p)) l
   pub short : length (recordAt mst p) ≤ endOf mst - placeAddress p
-
-pub part-short : (d : List ℕ) (a n : ℕ) → length (part d a n) ≤ n
-part-short d a n = simp length-take (omega arith)
 
 pub fine-facts : (mst : List ℕ) (m : ℕ) (p : Place) → recordFine mst m p ≡ true → FineFacts mst m p (leaderAt mst p)
 unfolding recordFine
@@ -241,37 +277,32 @@ fine-facts mst m p e =
       short = part-short mst (placeAddress p) (endOf mst - placeAddress p);
     }
 
+-- what is read of it, and of a settled version that is well formed for m
+pub fine-reads : (mst : List ℕ) (m : ℕ) (p : Place) → recordFine mst m p ≡ true
+    → ReadsAs (recordAt mst p) m (p .deleted) (leaderAt mst p) (currentFields mst p)
+fine-reads mst m p e = right-reads (recordAt mst p) m (p .deleted) (fine-facts mst m p e .right)
+
+pub settled-fine-reads : (mst : List ℕ) (m : ℕ) (p : Place) → settledFine mst m p ≡ true
+    → ReadsAs (settledRecord mst p) m false (leaderOf (settledRecord mst p)) (fieldsOf (settledRecord mst p))
+unfolding settledFine
+settled-fine-reads mst m p e = right-reads (settledRecord mst p) m false ((simp tests at e) .0)
+
 -- the back pointer under the changed mark, and under the two others
 pub record BackFacts (end : ℕ) (p : Place) (l : Leader) : Type 0 where
   pub placed : wellPlaced end (l .mfbwb .0) (l .mfbwp) ≡ true
   pub facts : WellPlacedFacts end (l .mfbwb .0) (l .mfbwp)
   pub other : backAddress l ≡ placeAddress p → ⊥
 
-not-both : (b : Bool) → not (true && b) ≡ true → b ≡ false
-not-both true e = absurd (false-true e)
-not-both false e = refl
-
-true-false : true ≡ false → ⊥
-true-false e = false-true (sym e)
-
 pub back-changed : (end : ℕ) (p : Place) (l : Leader) → backFine end p l ≡ true → p .mark ≡ Changed → BackFacts end p l
 unfolding backFine backRight
 back-changed end p l e h =
     let q = simp (h, tests) at e in
-    let differ : eqb (backAddress l) (placeAddress p) ≡ false = not-both (eqb (backAddress l) (placeAddress p)) (q .1) in
+    let differ : eqb (backAddress l) (placeAddress p) ≡ false = not-both true (eqb (backAddress l) (placeAddress p)) (q .1) refl in
     record {
       placed = q .0;
       facts = well-placed-facts end (l .mfbwb .0) (l .mfbwp) (q .0);
-      other = λ same. true-false (sym (eq-eqb (backAddress l) (placeAddress p) same) ∙ differ);
+      other = λ same. false-true (sym differ ∙ eq-eqb (backAddress l) (placeAddress p) same);
     }
-
-pub record NoBackFacts (l : Leader) : Type 0 where
-  pub block : l .mfbwb .0 ≡ 0
-  pub offset : l .mfbwp ≡ 0
-
-pub no-back-facts : (l : Leader) → noBack l ≡ true → NoBackFacts l
-unfolding noBack
-no-back-facts l e = let q = simp tests at e in record { block = q .0; offset = q .1 }
 
 pub back-settled : (end : ℕ) (p : Place) (l : Leader) → backFine end p l ≡ true → p .mark ≡ Settled → NoBackFacts l
 unfolding backFine backRight
@@ -286,10 +317,6 @@ abbrev namedList : Bool → Entry → Bool → Answer → Answer
 namedList known e ok rest =
     cond (not known) NoSuchMfn (cond (isMalformed e) BadEntry (cond (isGone e) PhysicallyDeleted (cond (not ok) BadRecord rest)))
 
-pub named-passes : (mst xrf : List ℕ) (m : ℕ) (p : Place) (ok : Bool) (rest : List Refusal) → mfnKnown mst m ≡ true → entryFor mst xrf m ≡ At p → ok ≡ true
-    → lowest (named mst xrf m ok rest) ≡ lowest rest
-named-passes mst xrf m p ok rest a b c = rw (a, b, c)
-
 entry-placed : (e : Entry) → isMalformed e ≡ false → isGone e ≡ false → e ≡ At (placeIn e)
 entry-placed Gone h k = absurd (false-true (sym k))
 entry-placed Malformed h k = absurd (false-true (sym h))
@@ -302,12 +329,13 @@ module _ (mst xrf : List ℕ) where
       → (mfnKnown mst m ≡ true) × (entryFor mst xrf m ≡ At (placeFor mst xrf m)) × (ok ≡ true) × (rest ≡ Done)
   unfolding numberOf
   named-done m ok rest e =
-      let a = passed (not (mfnKnown mst m)) NoSuchMfn _ (λ z. omega arith) e in
+      let a = holds (mfnKnown mst m) NoSuchMfn _ (λ z. omega arith) e in
       let b = passed (isMalformed (entryFor mst xrf m)) BadEntry _ (λ z. omega arith) (a .1) in
       let c = passed (isGone (entryFor mst xrf m)) PhysicallyDeleted _ (λ z. omega arith) (b .1) in
-      let d = passed (not ok) BadRecord rest (λ z. omega arith) (c .1) in
-      (not-false _ (a .0), entry-placed (entryFor mst xrf m) (b .0) (c .0), not-false _ (d .0), d .1)
+      let d = holds ok BadRecord rest (λ z. omega arith) (c .1) in
+      (a .0, entry-placed (entryFor mst xrf m) (b .0) (c .0), d .0, d .1)
 
+-- the record was not found, for a: that is the answer, whatever the refusals after it
 pub record RefusedFacts (mst xrf : List ℕ) (m : ℕ) (ok : Bool) (a : Answer) : Type 0 where
   pub refusing : Refusing a
   pub answers : (rest : List Refusal) → lowest (named mst xrf m ok rest) ≡ a
@@ -369,6 +397,7 @@ module _ (mst xrf : List ℕ) (m : ℕ) (a : Answer) where
   refused-both h =
       refused-more (leaderIn mst) a (mfnKnown mst m) (entryFor mst xrf m) (fine mst xrf m) (versionFine mst m (placeFor mst xrf m)) h
 
+-- an MFN that was given out
 pub record MfnFacts (mst : List ℕ) (m : ℕ) : Type 0 where
   pub low : 1 ≤ m
   pub high : m < nextOf mst
@@ -454,13 +483,10 @@ pub record BothFacts (mst xrf : List ℕ) (m : ℕ) (p : Place) (l : Leader) : T
   pub settled-fine : p .mark ≡ Changed → settledFine mst m p ≡ true
   pub settled : p .mark ≡ Changed → SettledFacts mst m p l
 
-if-changed : (k : Mark) (b : Bool) → cond (isChanged k) b true ≡ true → k ≡ Changed → b ≡ true
-if-changed k b e h = rw h at e
-
 module _ (mst xrf : List ℕ) (m : ℕ) (p : Place) (l : Leader) where
   changed-fine : versionFine mst m p ≡ true → p .mark ≡ Changed → settledFine mst m p ≡ true
   unfolding versionFine
-  changed-fine e h = if-changed (p .mark) (settledFine mst m p) e h
+  changed-fine e h = cond-holds (isChanged (p .mark)) (settledFine mst m p) e (ap isChanged h)
 
   pub both-facts : knownBoth mst xrf m ≡ Record p l → BothFacts mst xrf m p l
   unfolding knownBoth knownIf leaderIn
@@ -476,26 +502,18 @@ module _ (mst xrf : List ℕ) (m : ℕ) (p : Place) (l : Leader) where
         settled = λ c. rw (k .leader-is) (settled-facts mst m p (k .record-fine) c (changed-fine v c));
       }
 
--- the whole list of a call that names an MFN, behind an open gate
-pub planned : (mst xrf : List ℕ) (m : ℕ) (next : Mfn) (end : ℕ) (p : Place) (l : Leader) → OpenFacts mst xrf next end → KnownFacts mst xrf m p l
-    → Planned mst xrf m end p l
-planned mst xrf m next end p l o k =
-    record {
-      lengths = o .lengths;
-      control = o .control;
-      known = k .known;
-      entry = k .entry;
-      fine = k .record-fine;
-      leader = k .leader-is;
-      end-is = o .end-is;
-    }
+-- ---- and back: a call that is done found its record, behind an open gate
 
--- and back, from what a plan knows
-pub planned-open : (mst xrf : List ℕ) (m end : ℕ) (p : Place) (l : Leader) → Planned mst xrf m end p l → OpenFacts mst xrf (record { 0 = nextOf mst }) end
-planned-open mst xrf m end p l k = open-from mst xrf (record { 0 = nextOf mst }) end (k .lengths) (k .control) refl (k .end-is)
+pub record Planned (mst xrf : List ℕ) (m : ℕ) (p : Place) (l : Leader) : Type 0 where
+  pub gate : OpenFacts mst xrf (record { 0 = nextOf mst }) (endOf mst)
+  pub found : KnownFacts mst xrf m p l
 
-pub planned-known : (mst xrf : List ℕ) (m end : ℕ) (p : Place) (l : Leader) → Planned mst xrf m end p l → KnownFacts mst xrf m p l
+pub planned-at : (mst xrf : List ℕ) (m : ℕ) (p : Place) (l : Leader) → lengthsPermitted mst xrf ≡ true → controlFine mst xrf ≡ true → mfnKnown mst m ≡ true
+    → entryFor mst xrf m ≡ At (placeFor mst xrf m) → fine mst xrf m ≡ true → placeFor mst xrf m ≡ p → leaderAt mst (placeFor mst xrf m) ≡ l
+    → Planned mst xrf m p l
 unfolding leaderIn
-planned-known mst xrf m end p l k =
-    let at : placeFor mst xrf m ≡ p = rw (k .entry) in
-    known-from mst xrf m p l (k .known) (k .entry) (rw at (k .fine)) (rw at (k .leader))
+planned-at mst xrf m p l a b c d e f g =
+    record {
+      gate = open-from mst xrf (record { 0 = nextOf mst }) (endOf mst) a b refl refl;
+      found = known-from mst xrf m p l c (d ∙ ap At f) e (sym g);
+    }

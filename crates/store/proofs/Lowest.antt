@@ -29,6 +29,7 @@ abbrev pub Applies : List Refusal → Answer → Type 0
 Applies [] a = ⊥
 Applies (r ∷ rs) a = ((r .answer ≡ a) × (r .applies ≡ true)) ⊎ Applies rs a
 
+-- a is the lowest of the refusals that apply, and done exactly where none does
 pub record IsLowest (rs : List Refusal) (a : Answer) : Type 0 where
   pub none : a ≡ Done → (b : Answer) → Applies rs b → ⊥
   pub done : ((b : Answer) → Applies rs b → ⊥) → a ≡ Done

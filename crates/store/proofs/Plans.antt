@@ -1,29 +1,28 @@
 -- Which plan each call makes, by what its steps found. Each law's premises are what is known at one `return`, so that `search` finds them
 -- there wherever they stand; a step's result is a variable with what the step ensures of it.
-use Prim.Native.Nat.{ℕ, _+_, _*_, _-_, _/_, _%_, _≤_, _<_}
+use Prim.Native.Nat.{ℕ, _+_, _-_, _/_, _≤_, _<_}
 use native.Mathlib.Omega.{arith}
 use mathlib.Core.Path.{_≡_, refl, sym, ap, _∙_}
-use mathlib.Core.Bool.{Bool, true, false, not, _&&_, _||_, cond}
+use mathlib.Core.Bool.{Bool, true, false, not, _&&_, cond}
 use mathlib.Core.List.{List, [], _∷_}
-use lib.Dec.{ltb, eqb}
+use lib.Dec.{ltb}
 use lib.ListN.{length}
 use borrow.Author.Tests.{lt-ltb, le-ltb, eq-eqb, ne-eqb, not-true, not-false}
 use denote.Enum.Declared.{tagOf}
 use types.Run.{OneOf, miss}
 use Rattle.layout.specs.Sizes.{capacityOf}
 use Rattle.layout.specs.Control.{nextOf, endOf}
-use Rattle.layout.specs.CrossReference.{xrfBlock, headRight, slotFree}
+use Rattle.layout.specs.CrossReference.{headRight, slotFree}
 use Rattle.layout.specs.declared.sizes.Mfn.{Mfn}
 use Rattle.layout.specs.declared.entry.Mark.{Mark}
 use Rattle.layout.specs.declared.entry.Mark.the-variants.{Settled, Changed, New}
 use Rattle.layout.specs.declared.entry.Place.{Place}
 use Rattle.layout.specs.declared.leader.Leader.{Leader}
-use Rattle.layout.proofs.Tests.{and-false}
 use Rattle.layout.proofs.entry.Mark as mark
 use Rattle.record.specs.Draft.{needOf, draftRight, draftFields}
 use Rattle.record.specs.Bytes.{needFor}
 use Rattle.record.proofs.Draftable.{draft-need}
-use Rattle.store.specs.Answer.{numberOf, refuse, lowest, after}
+use Rattle.store.specs.Answer.{numberOf, refuse, after}
 use Rattle.store.specs.Reading.{lengthsPermitted, controlFine, mfnKnown, entryFor, placeFor, isMalformed, isGone, isSettled, isNew, leaderAt, currentFields}
 use Rattle.store.specs.Refusals.{fine, bothFine, exceeds, createAnswer, updateAppends, updateAnswer, deleteAnswer, settleAnswer, revertAnswer}
 use Rattle.store.specs.Steps.{gateOf, knownIf, knownOf, knownBoth, settlePlan, revertPlan, slotAnswer, SlotAsked, createPlan, planIf, updatePlan, deletePlan, roomPlan}
@@ -31,7 +30,6 @@ use Rattle.store.specs.Views.{gateAnswer, knownAnswer}
 use Rattle.store.specs.Writing.{RecordRead}
 use Rattle.store.specs.declared.answer.Answer.{Answer}
 use Rattle.store.specs.declared.answer.Answer.the-variants.{Done, BadLength, BadControl, BadDraft, NoSuchMfn, Full, BadEntry, PhysicallyDeleted, BadRecord, Deleted, NotPending, NeverSettled, NoField, NoRoom, Unsound}
-use Rattle.store.specs.declared.create.Creating.{Creating}
 use Rattle.store.specs.declared.create.Creating.the-variants.{Write, Unwritten}
 use Rattle.store.specs.declared.gate.Gate.{Gate}
 use Rattle.store.specs.declared.gate.Gate.the-variants.{Open, Shut}
@@ -41,7 +39,7 @@ use Rattle.store.specs.declared.versions.Plan.{Plan}
 use Rattle.store.specs.declared.versions.Plan.the-variants.{Append, InPlace, Refuse}
 use Rattle.store.proofs.answer.Answer as answer
 use Rattle.store.proofs.Told.{draft-fits, read-known}
-use Rattle.store.proofs.Gates.{Refusing, refused-is, done-is, gate-shut, OpenFacts, gate-open, known-refused, both-refused, KnownFacts, known-facts, BothFacts, both-facts}
+use Rattle.store.proofs.Gates.{Refusing, refused-is, done-is, gate-shut, known-refused, both-refused, known-facts, both-facts, gate-is, opened}
 
 -- ---- variants that are left in an `else`
 
@@ -70,11 +68,8 @@ not-settled New v = refl
 
 -- what is asked behind an open gate
 module _ (mst xrf : List ℕ) (g : Gate) (p : g ≡ gateOf mst xrf) (next : Mfn) (end : ℕ) (q : g ≡ Open next end) where
-  pub gate-asked : gateOf mst xrf ≡ Open next end
-  gate-asked = sym p ∙ q
-
   pub room-asked : (need : ℕ) → need ≤ 32766 → (end ≤ 536870400) × (need ≤ 65536)
-  room-asked need h = let o = gate-open mst xrf next end gate-asked in (omega arith, omega arith)
+  room-asked need h = let o = opened mst xrf g p next end q in (omega arith, omega arith)
 
   pub draft-room-asked : (tags lens bytes : List ℕ) (d : Bool) (need : ℕ) → d ≡ draftRight tags lens bytes → not d ≡ false
       → need ≡ needOf (length tags) (length bytes) → (end ≤ 536870400) × (need ≤ 65536)
@@ -132,15 +127,11 @@ module _ (mst xrf tags lens bytes : List ℕ) (g : Gate) (p : g ≡ gateOf mst x
       rw t (refused-is (createAnswer mst xrf tags lens bytes) _ Unwritten a (shut-answer mst xrf a _ e) (gate-shut mst xrf a e .refusing))
 
   module _ (next : Mfn) (end : ℕ) (q : g ≡ Open next end) (d : Bool) (e : d ≡ draftRight tags lens bytes) where
-    opened : OpenFacts mst xrf next end
-    opened = gate-open mst xrf next end (sym p ∙ q)
-
     pub create-no-draft : not d ≡ true → Unwritten BadDraft ≡ createPlan mst xrf tags lens bytes
     unfolding createPlan createAnswer numberOf
     create-no-draft h =
-        refused-is (createAnswer mst xrf tags lens bytes) _ Unwritten BadDraft
-        (rw (opened .lengths, opened .control, ← e, h))
-        (λ z. omega arith)
+        let o = opened mst xrf g p next end q in
+        refused-is (createAnswer mst xrf tags lens bytes) _ Unwritten BadDraft (rw (o .lengths, o .control, ← e, h)) (λ z. omega arith)
 
     module _ (h : not d ≡ false) (need : ℕ) (n : need ≡ needOf (length tags) (length bytes)) where
       own : needFor (draftFields tags lens bytes) ≡ need
@@ -148,7 +139,7 @@ module _ (mst xrf tags lens bytes : List ℕ) (g : Gate) (p : g ≡ gateOf mst x
 
       pub slot-asked : SlotAsked mst xrf (next .0) end need
       slot-asked =
-          let o = opened in
+          let o = opened mst xrf g p next end q in
           let f = draft-fits tags lens bytes (sym e ∙ not-false d h) in
           record {
             next-is = o .next-is;
@@ -163,7 +154,7 @@ module _ (mst xrf tags lens bytes : List ℕ) (g : Gate) (p : g ≡ gateOf mst x
       module _ (a : Answer) (s : a ≡ slotAnswer mst xrf need) where
         through : createAnswer mst xrf tags lens bytes ≡ a
         unfolding createAnswer slotAnswer
-        through = rw (opened .lengths, opened .control, ← e, h, own) (sym s)
+        through = let o = opened mst xrf g p next end q in rw (o .lengths, o .control, ← e, h, own) (sym s)
 
         pub create-no-slot : OneOf (1 ∷ 2 ∷ 3 ∷ 4 ∷ 5 ∷ 6 ∷ 7 ∷ 8 ∷ 9 ∷ 10 ∷ 11 ∷ 12 ∷ 13 ∷ 14 ∷ []) (tagOf answer.the-type a)
             → Unwritten a ≡ createPlan mst xrf tags lens bytes
@@ -173,9 +164,10 @@ module _ (mst xrf tags lens bytes : List ℕ) (g : Gate) (p : g ≡ gateOf mst x
         pub create-written : a ≡ Done → Write next end need ≡ createPlan mst xrf tags lens bytes
         unfolding createPlan
         create-written v =
+            let o = opened mst xrf g p next end q in
             done-is (createAnswer mst xrf tags lens bytes) _ Unwritten (Write next end need) (through ∙ v)
-            (ap (λ (k : ℕ). Write (record { 0 = k }) end need) (opened .next-is)
-            ∙ ap (λ (k : ℕ). Write (record { 0 = nextOf mst }) k need) (opened .end-is)
+            (ap (λ (k : ℕ). Write (record { 0 = k }) end need) (o .next-is)
+            ∙ ap (λ (k : ℕ). Write (record { 0 = nextOf mst }) k need) (o .end-is)
             ∙ ap (Write (record { 0 = nextOf mst }) (endOf mst)) (sym own))
 
 pub ruleset create-plans = (create-shut, create-no-draft, slot-asked, create-no-slot, create-written)
@@ -232,48 +224,47 @@ module _ (mst xrf : List ℕ) (m : ℕ) (tags lens bytes : List ℕ) (g : Gate) 
       rw t (update-refused a (shut-answer mst xrf a _ e) (gate-shut mst xrf a e .refusing))
 
   module _ (next : Mfn) (end : ℕ) (q : g ≡ Open next end) (d : Bool) (e : d ≡ draftRight tags lens bytes) where
-    update-opened : OpenFacts mst xrf next end
-    update-opened = gate-open mst xrf next end (sym p ∙ q)
-
     pub update-no-draft : not d ≡ true → Refuse BadDraft ≡ updatePlan mst xrf m tags lens bytes
     unfolding updateAnswer numberOf
-    update-no-draft h = update-refused BadDraft (rw (update-opened .lengths, update-opened .control, ← e, h)) (λ z. omega arith)
+    update-no-draft h =
+        let o = opened mst xrf g p next end q in
+        update-refused BadDraft (rw (o .lengths, o .control, ← e, h)) (λ z. omega arith)
 
     module _ (h : not d ≡ false) (k : Known) (u : k ≡ knownOf mst xrf m) where
       pub update-unknown : (a r : Answer) → k ≡ Refused a → r ≡ knownAnswer k → Refuse r ≡ updatePlan mst xrf m tags lens bytes
       unfolding updateAnswer
       update-unknown a r v s =
+          let o = opened mst xrf g p next end q in
           let f = known-refused mst xrf m a (sym u ∙ v) in
           let t : r ≡ a = rw v at s in
           let rest : (x : Answer) → namedAnswer mst xrf m (fine mst xrf m) x ≡ a = λ x. f .answers (refuse x true ∷ []) in
-          rw t (update-refused a (rw (update-opened .lengths, update-opened .control, ← e, h) (rest _)) (f .refusing))
+          rw t (update-refused a (rw (o .lengths, o .control, ← e, h) (rest _)) (f .refusing))
 
       module _ (pl : Place) (l : Leader) (v : k ≡ Record pl l) where
-        update-known : KnownFacts mst xrf m pl l
-        update-known = known-facts mst xrf m pl l (sym u ∙ v)
-
         pub update-deleted : pl .deleted ≡ true → Refuse Deleted ≡ updatePlan mst xrf m tags lens bytes
         unfolding updateAnswer numberOf
         update-deleted w =
-            let f = update-known in
+            let o = opened mst xrf g p next end q in
+            let f = known-facts mst xrf m pl l (sym u ∙ v) in
             update-refused Deleted
-            (rw (update-opened .lengths, update-opened .control, ← e, h, f .known, f .entry, f .record-fine, w))
+            (rw (o .lengths, o .control, ← e, h, f .known, f .entry, f .record-fine, w))
             (λ z. omega arith)
 
         pub update-planned : (need : ℕ) (appends : Bool) (r : Plan) → pl .deleted ≡ false → need ≡ needOf (length tags) (length bytes)
             → appends ≡ updateAppends pl l need → r ≡ roomPlan (length mst) end need appends pl l → r ≡ updatePlan mst xrf m tags lens bytes
         unfolding updatePlan updateAnswer
         update-planned need appends r w n x s =
-            let f = update-known in
+            let o = opened mst xrf g p next end q in
+            let f = known-facts mst xrf m pl l (sym u ∙ v) in
             let own : needFor (draftFields tags lens bytes) ≡ need = draft-need tags lens bytes (sym e ∙ not-false d h) ∙ sym n in
             let y : updateAppends (placeFor mst xrf m) (leaderAt mst (placeFor mst xrf m)) (needFor (draftFields tags lens bytes)) ≡ appends =
             rw (own, f .place-is, ← f .leader-is) (sym x) in
             let a : updateAnswer mst xrf m tags lens bytes ≡ cond (appends && exceeds mst need) NoRoom Done =
-            rw (update-opened .lengths, update-opened .control, ← e, h, f .known, y, own, f .entry, f .record-fine, w) in
-            s ∙ room-planned mst xrf m end need pl l (f .place-is) (f .leader-is) (update-opened .end-is) (updateAnswer mst xrf m tags lens bytes) appends (exceeds mst need) refl a
+            rw (o .lengths, o .control, ← e, h, f .known, y, own, f .entry, f .record-fine, w) in
+            s ∙ room-planned mst xrf m end need pl l (f .place-is) (f .leader-is) (o .end-is) (updateAnswer mst xrf m tags lens bytes) appends (exceeds mst need) refl a
             ∙ ap (λ (b : Bool). planIf (updateAnswer mst xrf m tags lens bytes) b mst xrf m) (sym y)
 
-pub ruleset update-plans = (gate-asked, update-shut, update-no-draft, update-unknown, update-deleted, update-planned)
+pub ruleset update-plans = (gate-is, update-shut, update-no-draft, update-unknown, update-deleted, update-planned)
 
 -- ---- delete
 
@@ -290,52 +281,50 @@ module _ (mst xrf : List ℕ) (m : ℕ) (g : Gate) (p : g ≡ gateOf mst xrf) wh
       rw t (delete-refused a (shut-answer mst xrf a _ e) (gate-shut mst xrf a e .refusing))
 
   module _ (next : Mfn) (end : ℕ) (q : g ≡ Open next end) (k : Known) (u : k ≡ knownOf mst xrf m) where
-    delete-opened : OpenFacts mst xrf next end
-    delete-opened = gate-open mst xrf next end (sym p ∙ q)
-
     pub delete-unknown : (a r : Answer) → k ≡ Refused a → r ≡ knownAnswer k → Refuse r ≡ deletePlan mst xrf m
     unfolding deleteAnswer
     delete-unknown a r v s =
+        let o = opened mst xrf g p next end q in
         let f = known-refused mst xrf m a (sym u ∙ v) in
         let t : r ≡ a = rw v at s in
         let rest : (x : Answer) → namedAnswer mst xrf m (fine mst xrf m) x ≡ a = λ x. f .answers (refuse x true ∷ []) in
-        rw t (delete-refused a (rw (delete-opened .lengths, delete-opened .control) (rest _)) (f .refusing))
+        rw t (delete-refused a (rw (o .lengths, o .control) (rest _)) (f .refusing))
 
     module _ (pl : Place) (l : Leader) (v : k ≡ Record pl l) where
-      delete-known : KnownFacts mst xrf m pl l
-      delete-known = known-facts mst xrf m pl l (sym u ∙ v)
-
       pub delete-deleted : pl .deleted ≡ true → Refuse Deleted ≡ deletePlan mst xrf m
       unfolding deleteAnswer numberOf
       delete-deleted w =
-          let f = delete-known in
-          delete-refused Deleted (rw (delete-opened .lengths, delete-opened .control, f .known, f .entry, f .record-fine, w)) (λ z. omega arith)
+          let o = opened mst xrf g p next end q in
+          let f = known-facts mst xrf m pl l (sym u ∙ v) in
+          delete-refused Deleted (rw (o .lengths, o .control, f .known, f .entry, f .record-fine, w)) (λ z. omega arith)
 
       module _ (w : pl .deleted ≡ false) where
         pub own-need-asked : RecordRead mst end pl l
-        own-need-asked = read-known mst xrf m next end delete-opened pl l delete-known
+        own-need-asked = read-known mst xrf m next end (opened mst xrf g p next end q) pl l (known-facts mst xrf m pl l (sym u ∙ v))
 
         pub delete-in-place : OneOf (1 ∷ 2 ∷ []) (tagOf mark.the-type (pl .mark)) → InPlace pl l ≡ deletePlan mst xrf m
         unfolding deletePlan deleteAnswer planIf
         delete-in-place x =
-            let f = delete-known in
+            let o = opened mst xrf g p next end q in
+            let f = known-facts mst xrf m pl l (sym u ∙ v) in
             let y : isSettled (pl .mark) ≡ false = not-settled (pl .mark) x in
             let a : deleteAnswer mst xrf m ≡ Done =
-            rw (delete-opened .lengths, delete-opened .control, f .known, f .entry, f .record-fine, w, y) in
+            rw (o .lengths, o .control, f .known, f .entry, f .record-fine, w, y) in
             done-is (deleteAnswer mst xrf m) _ Refuse (InPlace pl l) a (rw (f .place-is, y, ← f .leader-is))
 
         pub delete-planned : (need : ℕ) (r : Plan) → pl .mark ≡ Settled → need ≡ needFor (currentFields mst pl) → r ≡ roomPlan (length mst) end need true pl l
             → r ≡ deletePlan mst xrf m
         unfolding deletePlan deleteAnswer
         delete-planned need r x n s =
-            let f = delete-known in
+            let o = opened mst xrf g p next end q in
+            let f = known-facts mst xrf m pl l (sym u ∙ v) in
             let y : isSettled (placeFor mst xrf m .mark) ≡ true = rw (f .place-is, x) in
             let a : deleteAnswer mst xrf m ≡ cond (true && exceeds mst need) NoRoom Done =
-            rw (delete-opened .lengths, delete-opened .control, f .known, y, n, f .place-is, f .entry, f .record-fine, w) in
-            s ∙ room-planned mst xrf m end need pl l (f .place-is) (f .leader-is) (delete-opened .end-is) (deleteAnswer mst xrf m) true (exceeds mst need) refl a
+            rw (o .lengths, o .control, f .known, y, n, f .place-is, f .entry, f .record-fine, w) in
+            s ∙ room-planned mst xrf m end need pl l (f .place-is) (f .leader-is) (o .end-is) (deleteAnswer mst xrf m) true (exceeds mst need) refl a
             ∙ ap (λ (b : Bool). planIf (deleteAnswer mst xrf m) b mst xrf m) (sym y)
 
-pub ruleset delete-plans = (gate-asked, delete-shut, delete-unknown, delete-deleted, own-need-asked, delete-in-place, delete-planned)
+pub ruleset delete-plans = (gate-is, delete-shut, delete-unknown, delete-deleted, own-need-asked, delete-in-place, delete-planned)
 
 -- ---- settle and revert
 
@@ -355,23 +344,22 @@ module _ (mst xrf : List ℕ) (m : ℕ) (g : Gate) (p : g ≡ gateOf mst xrf) wh
       rw t (refused-is (revertAnswer mst xrf m) _ Refused a (shut-answer mst xrf a _ e) (gate-shut mst xrf a e .refusing))
 
   module _ (next : Mfn) (end : ℕ) (q : g ≡ Open next end) (k : Known) where
-    settling-opened : OpenFacts mst xrf next end
-    settling-opened = gate-open mst xrf next end (sym p ∙ q)
-
     module _ (u : k ≡ knownOf mst xrf m) where
       pub settle-unknown : (a : Answer) → k ≡ Refused a → k ≡ settlePlan mst xrf m
       unfolding settlePlan knownIf settleAnswer
       settle-unknown a v =
+          let o = opened mst xrf g p next end q in
           let f = known-refused mst xrf m a (sym u ∙ v) in
           let rest : (x : Answer) → namedAnswer mst xrf m (fine mst xrf m) x ≡ a = λ x. f .answers (refuse x true ∷ []) in
-          v ∙ refused-is (settleAnswer mst xrf m) _ Refused a (rw (settling-opened .lengths, settling-opened .control) (rest _)) (f .refusing)
+          v ∙ refused-is (settleAnswer mst xrf m) _ Refused a (rw (o .lengths, o .control) (rest _)) (f .refusing)
 
       module _ (pl : Place) (l : Leader) (v : k ≡ Record pl l) where
         settle-answer : settleAnswer mst xrf m ≡ cond (isSettled (pl .mark)) NotPending Done
         unfolding settleAnswer
         settle-answer =
+            let o = opened mst xrf g p next end q in
             let f = known-facts mst xrf m pl l (sym u ∙ v) in
-            rw (settling-opened .lengths, settling-opened .control, f .known, f .entry, f .record-fine)
+            rw (o .lengths, o .control, f .known, f .entry, f .record-fine)
 
         pub settle-settled : pl .mark ≡ Settled → Refused NotPending ≡ settlePlan mst xrf m
         unfolding settlePlan knownIf numberOf
@@ -387,16 +375,18 @@ module _ (mst xrf : List ℕ) (m : ℕ) (g : Gate) (p : g ≡ gateOf mst xrf) wh
       pub revert-unknown : (a : Answer) → k ≡ Refused a → k ≡ revertPlan mst xrf m
       unfolding revertPlan knownIf revertAnswer
       revert-unknown a v =
+          let o = opened mst xrf g p next end q in
           let f = both-refused mst xrf m a (sym u ∙ v) in
           let rest : (x : Answer) → namedAnswer mst xrf m (bothFine mst xrf m) x ≡ a = λ x. f .answers (refuse x true ∷ []) in
-          v ∙ refused-is (revertAnswer mst xrf m) _ Refused a (rw (settling-opened .lengths, settling-opened .control) (rest _)) (f .refusing)
+          v ∙ refused-is (revertAnswer mst xrf m) _ Refused a (rw (o .lengths, o .control) (rest _)) (f .refusing)
 
       module _ (pl : Place) (l : Leader) (v : k ≡ Record pl l) where
         revert-answer : revertAnswer mst xrf m ≡ cond (isSettled (pl .mark)) NotPending (cond (isNew (pl .mark)) NeverSettled Done)
         unfolding revertAnswer
         revert-answer =
+            let o = opened mst xrf g p next end q in
             let f = both-facts mst xrf m pl l (sym u ∙ v) in
-            rw (settling-opened .lengths, settling-opened .control, f .current .known, f .current .entry, f .current .record-fine, f .version-fine)
+            rw (o .lengths, o .control, f .current .known, f .current .entry, f .current .record-fine, f .version-fine)
 
         pub revert-settled : pl .mark ≡ Settled → Refused NotPending ≡ revertPlan mst xrf m
         unfolding revertPlan knownIf numberOf
@@ -412,6 +402,6 @@ module _ (mst xrf : List ℕ) (m : ℕ) (g : Gate) (p : g ≡ gateOf mst xrf) wh
             let f = both-facts mst xrf m pl l (sym u ∙ v) .current in
             done-is (revertAnswer mst xrf m) _ Refused (Record pl l) (revert-answer ∙ rw x) (rw (f .place-is, ← f .leader-is))
 
-pub ruleset settle-plans = (gate-asked, settle-shut, settle-unknown, settle-settled, settle-planned)
+pub ruleset settle-plans = (gate-is, settle-shut, settle-unknown, settle-settled, settle-planned)
 
-pub ruleset revert-plans = (gate-asked, revert-shut, revert-unknown, revert-settled, revert-planned, revert-new)
+pub ruleset revert-plans = (gate-is, revert-shut, revert-unknown, revert-settled, revert-planned, revert-new)

@@ -1,14 +1,14 @@
 -- What a plan tells the writing half, and what the call then returns. A plan that is not a refusal is made where the call's answer is done, so
 -- none of the call's refusals applies; with what the writing half left, that gives the call's answer and both buffers.
-use Prim.Native.Nat.{ℕ, _+_, _*_, _≤_, _<_}
+use Prim.Native.Nat.{ℕ, _+_, _≤_}
 use native.Mathlib.Omega.{arith}
 use mathlib.Core.Path.{_≡_, refl, sym, ap, _∙_}
-use mathlib.Core.Logic.{_⊎_, ⊎-elim}
-use mathlib.Core.Bool.{Bool, true, false, not, _&&_, _||_, cond}
+use mathlib.Core.Logic.{⊎-elim}
+use mathlib.Core.Bool.{Bool, true, false, not, _&&_, cond}
 use mathlib.Core.List.{List}
 use lib.Dec.{eqb}
 use lib.ListN.{length}
-use borrow.Author.Tests.{eqb-false, ltb-false, not-true, not-false}
+use borrow.Author.Tests.{eqb-false, ltb-false, not-false}
 use Rattle.layout.specs.Sizes.{mstPermitted, xrfPermitted, capacityOf}
 use Rattle.layout.specs.Entry.{placed, placeAddress}
 use Rattle.layout.specs.Control.{nextOf, endOf, formattedMst}
@@ -17,18 +17,17 @@ use Rattle.layout.specs.declared.sizes.Mfn.{Mfn}
 use Rattle.layout.specs.declared.entry.Mark.{Mark}
 use Rattle.layout.specs.declared.entry.Mark.the-variants.{Settled, Changed, New}
 use Rattle.layout.specs.declared.entry.Place.{Place}
-use Rattle.layout.specs.declared.entry.Entry.the-variants.{At}
 use Rattle.layout.specs.declared.leader.Leader.{Leader}
-use Rattle.layout.proofs.Tests.{false-true}
+use Rattle.layout.proofs.Tests.{false-true, and-left, or-false}
 use Rattle.record.specs.Draft.{needOf, draftRight, draftFields}
 use Rattle.record.specs.Fields.{Field}
 use Rattle.record.specs.Bytes.{needFor}
 use Rattle.record.proofs.Draftable.{draft-need}
 use Rattle.store.specs.Answer.{numberOf, after}
-use Rattle.store.specs.Reading.{lengthsPermitted, controlFine, mfnKnown, entryFor, placeFor, isSettled, isNew, leaderAt, recordFine, versionFine, currentFields}
+use Rattle.store.specs.Reading.{lengthsPermitted, placeFor, isSettled, isNew, leaderAt, currentFields}
 use Rattle.store.specs.Refusals.{fine, bothFine, exceeds, formatAnswer, createAnswer, updateAppends, updateAnswer, deleteAnswer, settleAnswer, revertAnswer}
 use Rattle.store.specs.Calls.{placeAtEnd, pendingMark, versionAppended, versionInPlace, formatMst, formatXrf, createdMst, createdXrf, createOf, createMst, createXrf, updatedMst, updatedXrf, updateMst, updateXrf, deletedMst, deletedXrf, deleteMst, deleteXrf, settledMst, settledXrf, settleMst, settleXrf, revertedXrf, revertXrf}
-use Rattle.store.specs.Steps.{knownIf, settlePlan, revertPlan, createPlan, creatingAnswer, planIf, updatePlan, deletePlan, Planned}
+use Rattle.store.specs.Steps.{knownIf, settlePlan, revertPlan, createPlan, creatingAnswer, planIf, updatePlan, deletePlan}
 use Rattle.store.specs.Views.{knownAnswer}
 use Rattle.store.specs.Writing.{HasSlot, AtEnd, DraftFits, RecordRead}
 use Rattle.store.specs.declared.answer.Answer.{Answer}
@@ -40,30 +39,8 @@ use Rattle.store.specs.declared.gate.Known.{Known}
 use Rattle.store.specs.declared.gate.Known.the-variants.{Record, Refused}
 use Rattle.store.specs.declared.versions.Plan.{Plan}
 use Rattle.store.specs.declared.versions.Plan.the-variants.{Append, InPlace, Refuse}
-use Rattle.store.proofs.Gates.{Refusing, after-refused, after-cases, passed, gate-done, named-done, lengths-both, OpenFacts, open-from, KnownFacts, BackFacts, back-changed, planned-open, planned-known}
+use Rattle.store.proofs.Gates.{Refusing, after-refused, after-cases, passed, gate-done, named-done, lengths-both, OpenFacts, open-from, back-changed, Planned, planned-at}
 use Rattle.store.proofs.Told.{need-low, draft-fits, at-end, slot-known, read-known, read-own}
-
--- ---- plans of answers that are done
-
-module _ (mst xrf : List ℕ) where
-  -- the plan's end, place and leader are the store's
-  planned-at : (m : ℕ) (p : Place) (l : Leader) → lengthsPermitted mst xrf ≡ true → controlFine mst xrf ≡ true → mfnKnown mst m ≡ true
-      → entryFor mst xrf m ≡ At (placeFor mst xrf m) → fine mst xrf m ≡ true → placeFor mst xrf m ≡ p → leaderAt mst (placeFor mst xrf m) ≡ l
-      → Planned mst xrf m (endOf mst) p l
-  planned-at m p l a b c d e f g =
-      record {
-        lengths = a;
-        control = b;
-        known = c;
-        entry = d ∙ ap At f;
-        fine = rw f at e;
-        leader = sym g ∙ ap (leaderAt mst) f;
-        end-is = refl;
-      }
-
-or-false : (a b : Bool) → a || b ≡ false → b ≡ false
-or-false true b e = absurd (false-true (sym e))
-or-false false b e = e
 
 and-true-false : (a b : Bool) → a && b ≡ false → a ≡ true → b ≡ false
 and-true-false true b e h = e
@@ -212,7 +189,7 @@ module _ (mst xrf : List ℕ) (m : ℕ) (tags lens bytes : List ℕ) where
   drafted = draftFields tags lens bytes
 
   update-passed : (p : Place) (l : Leader) → updateAnswer mst xrf m tags lens bytes ≡ Done → placeFor mst xrf m ≡ p → leaderAt mst (placeFor mst xrf m) ≡ l
-      → Planned mst xrf m (endOf mst) p l × (draftRight tags lens bytes ≡ true)
+      → Planned mst xrf m p l × (draftRight tags lens bytes ≡ true)
       × (updateAppends (placeFor mst xrf m) (leaderAt mst (placeFor mst xrf m)) (needFor drafted) && exceeds mst (needFor drafted) ≡ false)
   unfolding updateAnswer numberOf
   update-passed p l e f h =
@@ -242,7 +219,7 @@ module _ (mst xrf : List ℕ) (m : ℕ) (tags lens bytes : List ℕ) where
           plan-appends (updateAnswer mst xrf m tags lens bytes)
           (updateAppends (placeFor mst xrf m) (leaderAt mst (placeFor mst xrf m)) (needFor drafted)) mst xrf m end p l (sym u ∙ q)
 
-      appended-passed : Planned mst xrf m (endOf mst) p l × (draftRight tags lens bytes ≡ true) × (exceeds mst (needFor drafted) ≡ false)
+      appended-passed : Planned mst xrf m p l × (draftRight tags lens bytes ≡ true) × (exceeds mst (needFor drafted) ≡ false)
       appended-passed =
           let a = appending in
           let c = update-passed p l (a .0) (a .3) (a .4) in
@@ -252,8 +229,8 @@ module _ (mst xrf : List ℕ) (m : ℕ) (tags lens bytes : List ℕ) where
       unfolding exceeds
       update-append-asks =
           let c = appended-passed in
-          let o = planned-open mst xrf m (endOf mst) p l (c .0) in
-          let k = planned-known mst xrf m (endOf mst) p l (c .0) in
+          let o = c .0 .gate in
+          let k = c .0 .found in
           let room : endOf mst + needFor drafted ≤ length mst = ltb-false (length mst) (endOf mst + needFor drafted) (c .2) in
           let size : ℕ = needOf (length tags) (length bytes) in (
             slot-known mst xrf m _ (endOf mst) o p l k,
@@ -281,7 +258,7 @@ module _ (mst xrf : List ℕ) (m : ℕ) (tags lens bytes : List ℕ) where
           plan-in-place (updateAnswer mst xrf m tags lens bytes)
           (updateAppends (placeFor mst xrf m) (leaderAt mst (placeFor mst xrf m)) (needFor drafted)) mst xrf m p l (sym u ∙ q)
 
-      replaced-passed : Planned mst xrf m (endOf mst) p l × (draftRight tags lens bytes ≡ true)
+      replaced-passed : Planned mst xrf m p l × (draftRight tags lens bytes ≡ true)
       replaced-passed =
           let a = replacing in
           let c = update-passed p l (a .0) (a .2) (a .3) in
@@ -293,13 +270,13 @@ module _ (mst xrf : List ℕ) (m : ℕ) (tags lens bytes : List ℕ) where
       update-in-place-asks =
           let a = replacing in
           let c = replaced-passed in
-          let o = planned-open mst xrf m (endOf mst) p l (c .0) in
-          let k = planned-known mst xrf m (endOf mst) p l (c .0) in
+          let o = c .0 .gate in
+          let k = c .0 .found in
           let n = draft-need tags lens bytes (c .1) in (
             (k .place .block, omega arith),
             (
               draft-fits tags lens bytes (c .1),
-              rw (← n, ← a .3) (ltb-false _ _ (or-false (isSettled (placeFor mst xrf m .mark)) _ (a .1))),
+              rw (← n, ← a .3) (ltb-false _ _ (or-false (isSettled (placeFor mst xrf m .mark)) _ (a .1) .1)),
             ),
           )
 
@@ -314,7 +291,7 @@ module _ (mst xrf : List ℕ) (m : ℕ) (tags lens bytes : List ℕ) where
 
 module _ (mst xrf : List ℕ) (m : ℕ) where
   delete-passed : (p : Place) (l : Leader) → deleteAnswer mst xrf m ≡ Done → placeFor mst xrf m ≡ p → leaderAt mst (placeFor mst xrf m) ≡ l
-      → Planned mst xrf m (endOf mst) p l
+      → Planned mst xrf m p l
       × (isSettled (placeFor mst xrf m .mark) && exceeds mst (needFor (currentFields mst (placeFor mst xrf m))) ≡ false)
   unfolding deleteAnswer numberOf
   delete-passed p l e f h =
@@ -339,7 +316,7 @@ module _ (mst xrf : List ℕ) (m : ℕ) where
       unfolding deletePlan
       copying = plan-appends (deleteAnswer mst xrf m) (isSettled (placeFor mst xrf m .mark)) mst xrf m end p l (sym u ∙ q)
 
-      copied-passed : Planned mst xrf m (endOf mst) p l × (exceeds mst (needFor (currentFields mst (placeFor mst xrf m))) ≡ false)
+      copied-passed : Planned mst xrf m p l × (exceeds mst (needFor (currentFields mst (placeFor mst xrf m))) ≡ false)
       copied-passed =
           let a = copying in
           let c = delete-passed p l (a .0) (a .3) (a .4) in
@@ -349,8 +326,8 @@ module _ (mst xrf : List ℕ) (m : ℕ) where
       unfolding exceeds
       delete-append-asks =
           let c = copied-passed in
-          let o = planned-open mst xrf m (endOf mst) p l (c .0) in
-          let k = planned-known mst xrf m (endOf mst) p l (c .0) in
+          let o = c .0 .gate in
+          let k = c .0 .found in
           let own : ℕ = needFor (currentFields mst (placeFor mst xrf m)) in
           let room : endOf mst + own ≤ length mst = ltb-false (length mst) (endOf mst + own) (c .1) in (
             slot-known mst xrf m _ (endOf mst) o p l k,
@@ -374,14 +351,14 @@ module _ (mst xrf : List ℕ) (m : ℕ) where
       unfolding deletePlan
       marking = plan-in-place (deleteAnswer mst xrf m) (isSettled (placeFor mst xrf m .mark)) mst xrf m p l (sym u ∙ q)
 
-      marked-passed : Planned mst xrf m (endOf mst) p l
+      marked-passed : Planned mst xrf m p l
       marked-passed = let a = marking in delete-passed p l (a .0) (a .2) (a .3) .0
 
       pub delete-in-place-asks : HasSlot xrf m × RecordRead mst (endOf mst) p l
       delete-in-place-asks =
           let c = marked-passed in
-          let o = planned-open mst xrf m (endOf mst) p l c in
-          let k = planned-known mst xrf m (endOf mst) p l c in
+          let o = c .gate in
+          let k = c .found in
           (slot-known mst xrf m _ (endOf mst) o p l k, read-known mst xrf m _ (endOf mst) o p l k)
 
       pub delete-marked : (last lastX : List ℕ) → last ≡ versionInPlace mst m p l true (currentFields mst p)
@@ -427,7 +404,7 @@ module _ (mst xrf : List ℕ) (m : ℕ) (k : Known) (u : k ≡ settlePlan mst xr
     unfolding settlePlan
     settling = known-record (settleAnswer mst xrf m) mst xrf m p l (sym u ∙ q)
 
-    settle-passed : Planned mst xrf m (endOf mst) p l
+    settle-passed : Planned mst xrf m p l
     unfolding settleAnswer
     settle-passed =
         let a = settling in
@@ -438,8 +415,8 @@ module _ (mst xrf : List ℕ) (m : ℕ) (k : Known) (u : k ≡ settlePlan mst xr
     pub settle-asks : HasSlot xrf m × RecordRead mst (endOf mst) p (leaderAt mst p)
     settle-asks =
         let c = settle-passed in
-        let o = planned-open mst xrf m (endOf mst) p l c in
-        let k = planned-known mst xrf m (endOf mst) p l c in
+        let o = c .gate in
+        let k = c .found in
         (slot-known mst xrf m _ (endOf mst) o p l k, read-own mst (endOf mst) p l (read-known mst xrf m _ (endOf mst) o p l k))
 
     pub settle-done : (last lastX : List ℕ) → last ≡ settledMst mst p → lastX ≡ settledXrf xrf m p
@@ -448,14 +425,10 @@ module _ (mst xrf : List ℕ) (m : ℕ) (k : Known) (u : k ≡ settlePlan mst xr
     settle-done last lastX s t = let a = settling in (sym (a .0), (rw (a .0, a .1) s, rw (a .0, a .1) t))
 
 -- neither settled nor new
-changed : (k : Mark) → isSettled k ≡ false → isNew k ≡ false → k ≡ Changed
-changed Settled h i = absurd (false-true (sym h))
-changed Changed h i = refl
-changed New h i = absurd (false-true (sym i))
-
-and-left : (a b : Bool) → a && b ≡ true → a ≡ true
-and-left true b e = refl
-and-left false b e = e
+pub only-changed : (k : Mark) → isSettled k ≡ false → isNew k ≡ false → k ≡ Changed
+only-changed Settled h i = absurd (false-true (sym h))
+only-changed Changed h i = refl
+only-changed New h i = absurd (false-true (sym i))
 
 module _ (mst xrf : List ℕ) (m : ℕ) (k : Known) (u : k ≡ revertPlan mst xrf m) where
   pub revert-refused : (a r : Answer) → k ≡ Refused a → r ≡ knownAnswer k → (r ≡ revertAnswer mst xrf m) × (xrf ≡ revertXrf mst xrf m)
@@ -470,7 +443,7 @@ module _ (mst xrf : List ℕ) (m : ℕ) (k : Known) (u : k ≡ revertPlan mst xr
     unfolding revertPlan
     reverting = known-record (revertAnswer mst xrf m) mst xrf m p l (sym u ∙ q)
 
-    revert-passed : Planned mst xrf m (endOf mst) p l × (p .mark ≡ Changed)
+    revert-passed : Planned mst xrf m p l × (p .mark ≡ Changed)
     unfolding revertAnswer numberOf
     revert-passed =
         let a = reverting in
@@ -479,14 +452,14 @@ module _ (mst xrf : List ℕ) (m : ℕ) (k : Known) (u : k ≡ revertPlan mst xr
         let x = passed (isSettled (placeFor mst xrf m .mark)) NotPending _ (λ z. omega arith) (n .3) in
         let y = passed (isNew (placeFor mst xrf m .mark)) NeverSettled Done (λ z. omega arith) (x .1) in (
           planned-at mst xrf m p l (g .0) (g .1) (n .0) (n .1) (and-left _ _ (n .2)) (a .1) (a .2),
-          rw (a .1) at (changed (placeFor mst xrf m .mark) (x .0) (y .0)),
+          rw (a .1) at (only-changed (placeFor mst xrf m .mark) (x .0) (y .0)),
         )
 
     pub revert-asks : ((1 ≤ m) × (m ≤ capacityOf (length xrf))) × ((1 ≤ l .mfbwb .0) × (l .mfbwb .0 ≤ 1048575) × (l .mfbwp ≤ 498))
     revert-asks =
         let c = revert-passed in
-        let o = planned-open mst xrf m (endOf mst) p l (c .0) in
-        let k = planned-known mst xrf m (endOf mst) p l (c .0) in
+        let o = c .0 .gate in
+        let k = c .0 .found in
         let s = slot-known mst xrf m _ (endOf mst) o p l k in
         let b = back-changed (endOf mst) p l (k .facts .back) (c .1) in
         ((s .low, s .high), (b .facts .block, omega arith, b .facts .offset))

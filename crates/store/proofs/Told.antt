@@ -1,19 +1,16 @@
 -- What a call found, as what its writing half is told: an open gate, a right draft and a record that was found give the records of `Writing`.
-use Prim.Native.Nat.{ℕ, _+_, _*_, _/_, _%_, _≤_}
+use Prim.Native.Nat.{ℕ, _+_, _≤_}
 use native.Mathlib.Omega.{arith}
 use mathlib.Core.Path.{_≡_, sym, _∙_}
 use mathlib.Core.Bool.{Bool, true, false, not}
 use mathlib.Core.List.{List}
 use lib.ListN.{length}
 use borrow.Author.Tests.{not-false}
-use Rattle.layout.specs.Sizes.{capacityOf}
-use Rattle.layout.specs.Control.{nextOf, endOf}
+use Rattle.layout.specs.Control.{endOf}
 use Rattle.layout.specs.declared.sizes.Mfn.{Mfn}
 use Rattle.layout.specs.declared.entry.Place.{Place}
 use Rattle.layout.specs.declared.leader.Leader.{Leader}
 use Rattle.record.specs.Draft.{needOf, draftRight}
-use Rattle.record.specs.Bytes.{needFor}
-use Rattle.record.specs.Fields.{Field}
 use Rattle.record.proofs.Facts.{draft-facts}
 use Rattle.store.specs.Reading.{leaderAt}
 use Rattle.store.specs.Writing.{HasSlot, AtEnd, DraftFits, RecordRead}

@@ -9,6 +9,7 @@ use mathlib.Core.Bool.{Bool, true, false, cond}
 use mathlib.Core.List.{List, [], _∷_}
 use lib.ListN.{length}
 use Rattle.word.specs.Place.{part}
+use Rattle.word.proofs.Place.{part-short}
 use Rattle.layout.specs.Entry.{placeAddress}
 use Rattle.layout.specs.Leader.{leaderOf}
 use Rattle.layout.specs.Control.{nextOf, endOf}
@@ -33,7 +34,7 @@ use Rattle.store.specs.declared.gate.Known.{Known}
 use Rattle.store.specs.declared.gate.Known.the-variants.{Record, Refused}
 use Rattle.store.specs.declared.views.Version.{Version}
 use Rattle.store.specs.declared.views.Version.the-variants.{At as VersionAt, Refused as NoVersion}
-use Rattle.store.proofs.Gates.{Refusing, after-done, after-refused, after-cases, refused-is, done-is, gated-passes, gate-done, named-done, gate-shut, OpenFacts, open-from, gate-open, part-short, RefusedFacts, known-refused, both-refused, KnownFacts, known-facts, BothFacts, both-facts}
+use Rattle.store.proofs.Gates.{Refusing, after-done, after-refused, after-cases, refused-is, done-is, gated-passes, gate-done, named-done, gate-shut, OpenFacts, open-from, gate-is, opened, RefusedFacts, known-refused, both-refused, KnownFacts, known-facts, BothFacts, both-facts}
 use Rattle.store.proofs.Lowest.{above, lowest-append}
 
 -- ---- refusals
@@ -56,16 +57,10 @@ module _ (mst xrf : List ℕ) (g : Gate) (p : g ≡ gateOf mst xrf) where
       rw t (no-version b _ at end (f .answers (refuse rest true ∷ [])) (f .refusing))
 
   module _ (next : Mfn) (end : ℕ) (q : g ≡ Open next end) where
-    pub version-open : gateOf mst xrf ≡ Open next end
-    version-open = sym p ∙ q
-
-    opened : OpenFacts mst xrf next end
-    opened = gate-open mst xrf next end version-open
-
     unknown : (m : ℕ) (ok : Bool) (at to : ℕ) (rest : Answer) (k : Known) (a b : Answer) → k ≡ Refused b → a ≡ knownAnswer k → RefusedFacts mst xrf m ok b
         → NoVersion a ≡ versionIf (lowest (gated mst xrf (named mst xrf m ok (refuse rest true ∷ [])))) at to
     unknown m ok at to rest k a b v s f =
-        let o = opened in
+        let o = opened mst xrf g p next end q in
         let t : a ≡ b = s ∙ ap knownAnswer v in
         rw t
         (no-version b _ at to (gated-passes mst xrf (named mst xrf m ok (refuse rest true ∷ [])) (o .lengths) (o .control) ∙ f .answers (refuse rest true ∷ []))
@@ -261,4 +256,4 @@ version-shows shown made a later at end found refused =
     (after-cases a (VersionAt at end) (NoVersion a))
 
 pub ruleset version-answers =
-    (version-open, current-shut, current-unknown, current-block, current-deleted, current-found, mark-deleted, mark-new, mark-settled, mark-changed, mark-block, mark-back-block, settled-shut, settled-unknown, settled-located, settled-found, arith)
+    (gate-is, current-shut, current-unknown, current-block, current-deleted, current-found, mark-deleted, mark-new, mark-settled, mark-changed, mark-block, mark-back-block, settled-shut, settled-unknown, settled-located, settled-found, arith)

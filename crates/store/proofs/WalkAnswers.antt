@@ -10,7 +10,7 @@ use mir.Val.{Fits}
 use lib.ListN.{length, take, drop}
 use borrow.Author.Tests.{le-leb, lt-leb}
 use Rattle.word.specs.Place.{part}
-use Rattle.word.proofs.Place.{part-part}
+use Rattle.word.proofs.Place.{part-part, part-short}
 use Rattle.layout.specs.Entry.{placeAddress}
 use Rattle.layout.specs.Control.{endOf}
 use Rattle.layout.specs.Leader.{leaderOf}
@@ -27,14 +27,14 @@ use Rattle.store.specs.Answer.{numberOf, lowest, after}
 use Rattle.store.specs.Reading.{placeFor, recordAt, recordFrom, shownSettled, currentFields}
 use Rattle.store.specs.Refusals.{onCurrent, onSettled, fieldAnswer, settledFieldAnswer}
 use Rattle.store.specs.Steps.{versionIf, currentVersion, settledVersion}
-use Rattle.store.specs.Calls.{handedOut, fieldOf, settledAddress, settledFieldOf, fieldShown}
+use Rattle.store.specs.Calls.{handedOut, fieldOf, settledAddress, settledFieldOf}
 use Rattle.store.specs.Views.{refusedField, versionAnswer, shownWalked, walkedIn, ReadableAt, Legible}
 use Rattle.store.specs.declared.answer.Answer.{Answer}
 use Rattle.store.specs.declared.answer.Answer.the-variants.{Done, NoField}
 use Rattle.store.specs.declared.views.Version.{Version}
 use Rattle.store.specs.declared.views.Version.the-variants.{At as VersionAt, Refused as NoVersion}
 use Rattle.store.specs.declared.walk.ShownField.{ShownField}
-use Rattle.store.proofs.Gates.{Refusing, after-refused, part-short}
+use Rattle.store.proofs.Gates.{Refusing, after-refused}
 use Rattle.store.proofs.VersionAnswers.{noField, current-then, settled-then, version-shows, settled-from, current-readable, current-legible, settled-readable, settled-legible, version-end-in, version-before, version-readable, version-within}
 
 -- ---- what is handed out
@@ -112,6 +112,10 @@ pub ruleset walk-answers =
     (refused-within, walk-refused, walk-ended, walk-found, walk-within, walk-sum, version-end-in, version-before, version-readable, current-legible, settled-legible, field-handed, settled-field-handed, arith)
 
 -- ---- every field is handed out, and no more
+
+-- the field that is shown
+abbrev pub fieldShown : List ℕ → ShownField → Field
+fieldShown mst s = record { tag = s .tag .0; bytes = part mst (s .start) (s .len) }
 
 -- what a call hands out at index i of a list of fields: the field of that number, counted from 0, and 12 past the last one
 pub record HandsOut (mst : List ℕ) (fields : List Field) (i : ℕ) (s : ShownField) : Type 0 where

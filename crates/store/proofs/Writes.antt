@@ -1,15 +1,15 @@
 -- What the writing halves leave. A record is written into the tail of the MST that starts at its place; what the borrow checker hands back of
 -- that tail, with what the writer promises of it, is the MST with the record placed there. Each law's premises are what is known at a call or at
 -- the return of one writing half, so that `search` finds them.
-use Prim.Native.Nat.{ℕ, _+_, _*_, _-_, _/_, _%_, _≤_, _<_}
+use Prim.Native.Nat.{ℕ, _+_, _-_, _/_, _%_, _≤_, _<_}
 use native.Mathlib.Omega.{arith}
-use mathlib.Core.Path.{_≡_, refl, sym, ap, _∙_}
+use mathlib.Core.Path.{_≡_, sym, ap, _∙_}
 use mathlib.Core.Bool.{Bool, true, false}
 use mathlib.Core.List.{List}
-use lib.ListN.{length, replicate, take, drop, length-take, length-drop, length-append}
+use lib.ListN.{length, replicate, length-take, length-drop, length-append}
 use borrow.Rule.Slice.PartMut.{midOf, putMid}
-use Rattle.word.specs.Place.{place, part}
-use Rattle.word.proofs.Place.{returned-front, returned-tail, tail-back, lent-tail}
+use Rattle.word.specs.Place.{place}
+use Rattle.word.proofs.Place.{returned-front, returned-tail, tail-back}
 use Rattle.layout.specs.Sizes.{capacityOf, blockAt, offsetAt, endMoved}
 use Rattle.layout.specs.Entry.{placed, placeAddress}
 use Rattle.layout.specs.Control.{nextOf, endOf, withNext, withEnd}
@@ -17,7 +17,7 @@ use Rattle.layout.specs.CrossReference.{withEntry}
 use Rattle.layout.specs.Leader.{leaderOf}
 use Rattle.layout.specs.declared.sizes.Block.{Block}
 use Rattle.layout.specs.declared.entry.Mark.{Mark}
-use Rattle.layout.specs.declared.entry.Mark.the-variants.{Settled, Changed, New}
+use Rattle.layout.specs.declared.entry.Mark.the-variants.{Settled, New}
 use Rattle.layout.specs.declared.entry.Place.{Place}
 use Rattle.layout.specs.declared.leader.Leader.{Leader}
 use Rattle.layout.proofs.Facts.{end-moved-facts}
@@ -130,9 +130,6 @@ module _ (mst : List ℕ) (end : ℕ) (p : Place) (l : Leader) (r : RecordRead m
     tail-fields : fieldsOf (midOf at (length mst - at) mst) ≡ currentFields mst p
     tail-fields = lent-reads .fields
 
-    pub tail-leader-room : 18 ≤ length (midOf at (length mst - at) mst)
-    tail-leader-room = omega (arith, tail-length mst at)
-
     -- what the copy to the end asks
     pub copy-before : leaderOf (midOf at (length mst - at) mst) .mfrl ≤ end - at
     copy-before = rw tail-leader (omega arith)
@@ -170,8 +167,6 @@ module _ (mst : List ℕ) (end : ℕ) (p : Place) (l : Leader) (r : RecordRead m
         → putMid at (length mst - at) mst tail ≡ settledMst mst p
     unfolding settledMst
     back-cleared tail t = returned-tail mst at 6 (replicate 6 0) t ∙ rw e
-
-pub ruleset own-needs = (own-lent-readable, own-counted, own-need)
 
 pub ruleset copy-writes = (end-small, copy-kept, tail-readable, copy-before, copy-room, copy-need, copy-appended)
 

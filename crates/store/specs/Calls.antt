@@ -89,10 +89,6 @@ unfoldable pub settledFieldOf : List ℕ → List ℕ → ℕ → ℕ → ShownF
 settledFieldOf mst xrf m i =
     handedOut (settledFieldAnswer mst xrf m i) (settledAddress mst (placeFor mst xrf m)) (shownSettled mst (placeFor mst xrf m)) i
 
--- the field that is shown
-abbrev pub fieldShown : List ℕ → ShownField → Field
-fieldShown mst s = record { tag = s .tag .0; bytes = part mst (s .start) (s .len) }
-
 -- ---- writing
 
 -- a record of the fields in the part of the MST that starts at an address

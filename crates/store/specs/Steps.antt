@@ -1,7 +1,7 @@
 -- What a call has found before it shows or writes: each is the lowest refusal, or what was read.
 use Prim.Native.Nat.{ℕ, _+_, _≤_}
 use mathlib.Core.Path.{_≡_}
-use mathlib.Core.Bool.{Bool, true, not, _&&_, cond}
+use mathlib.Core.Bool.{Bool, not, _&&_, cond}
 use mathlib.Core.List.{List, [], _∷_}
 use lib.Dec.{eqb, ltb}
 use lib.ListN.{length}
@@ -10,13 +10,11 @@ use Rattle.layout.specs.CrossReference.{xrfBlock, headRight, slotFree}
 use Rattle.layout.specs.Control.{nextOf, endOf}
 use Rattle.layout.specs.Entry.{placeAddress}
 use Rattle.layout.specs.declared.entry.Place.{Place}
-use Rattle.layout.specs.declared.entry.Entry.{Entry}
-use Rattle.layout.specs.declared.entry.Entry.the-variants.{At}
 use Rattle.layout.specs.declared.leader.Leader.{Leader}
 use Rattle.record.specs.Draft.{draftFields}
 use Rattle.record.specs.Bytes.{needFor}
 use Rattle.store.specs.Answer.{refuse, lowest, after}
-use Rattle.store.specs.Reading.{lengthsPermitted, controlFine, mfnKnown, entryFor, placeFor, isSettled, leaderAt, recordFine}
+use Rattle.store.specs.Reading.{placeFor, isSettled, leaderAt}
 use Rattle.store.specs.Refusals.{gated, named, fine, bothFine, onCurrent, onSettled, exceeds, createAnswer, updateAppends, updateAnswer, deleteAnswer, settleAnswer, revertAnswer}
 use Rattle.store.specs.Calls.{settledAddress}
 use Rattle.store.specs.declared.answer.Answer.{Answer}
@@ -117,14 +115,3 @@ deletePlan mst xrf m = planIf (deleteAnswer mst xrf m) (isSettled (placeFor mst 
 -- where a version of a need goes in an MST of a length: at the end if it is to be appended, where there is room
 unfoldable pub roomPlan : ℕ → ℕ → ℕ → Bool → Place → Leader → Plan
 roomPlan room end need appends p l = cond appends (cond (ltb room (end + need)) (Refuse NoRoom) (Append end p l)) (InPlace p l)
-
--- what is known once the record of MFN m is found: the plan's place and leader are its own, and where it is to be written over or copied
--- all of it can be read
-pub record Planned (mst xrf : List ℕ) (m end : ℕ) (p : Place) (l : Leader) : Type 0 where
-  pub lengths : lengthsPermitted mst xrf ≡ true
-  pub control : controlFine mst xrf ≡ true
-  pub known : mfnKnown mst m ≡ true
-  pub entry : entryFor mst xrf m ≡ At p
-  pub fine : recordFine mst m p ≡ true
-  pub leader : l ≡ leaderAt mst p
-  pub end-is : end ≡ endOf mst

@@ -3,10 +3,6 @@ use Rattle.store.specs.Answer.{numberOf}
 use borrow.Author.Needs.{needs}
 use Rattle.isis.proofs.isis_check.Statement.{statement}
 use Rattle.isis.proofs.isis_check.Tie as tie
-use Rattle.isis.proofs.isis_check.Reads as reads
-use Rattle.isis.proofs.isis_check.Lts as lts
-use Rattle.soundness.proofs.check.check.Reads as check-reads
-use Rattle.store.proofs.answer.number.Reads as number-reads
 
 check-requires : tie.Need-check-requires
 check-requires c κs = search needs

@@ -4,10 +4,6 @@ use Rattle.store.specs.declared.create.Created.{Created}
 use borrow.Author.Needs.{needs}
 use Rattle.isis.proofs.isis_create.Statement.{statement}
 use Rattle.isis.proofs.isis_create.Tie as tie
-use Rattle.isis.proofs.isis_create.Reads as reads
-use Rattle.isis.proofs.isis_create.Lts as lts
-use Rattle.store.proofs.answer.number.Reads as number-reads
-use Rattle.store.proofs.create.create.Reads as create-reads
 
 create-requires : tie.Need-create-requires
 create-requires c κs = search needs

@@ -3,10 +3,6 @@ use Rattle.store.specs.Answer.{numberOf}
 use borrow.Author.Needs.{needs}
 use Rattle.isis.proofs.isis_delete.Statement.{statement}
 use Rattle.isis.proofs.isis_delete.Tie as tie
-use Rattle.isis.proofs.isis_delete.Reads as reads
-use Rattle.isis.proofs.isis_delete.Lts as lts
-use Rattle.store.proofs.answer.number.Reads as number-reads
-use Rattle.store.proofs.versions.delete.Reads as delete-reads
 
 delete-requires : tie.Need-delete-requires
 delete-requires c κs = search needs

@@ -3,10 +3,6 @@ use Rattle.store.specs.Answer.{numberOf}
 use borrow.Author.Needs.{needs}
 use Rattle.isis.proofs.isis_format.Statement.{statement}
 use Rattle.isis.proofs.isis_format.Tie as tie
-use Rattle.isis.proofs.isis_format.Reads as reads
-use Rattle.isis.proofs.isis_format.Lts as lts
-use Rattle.store.proofs.answer.number.Reads as number-reads
-use Rattle.store.proofs.format.format.Reads as format-reads
 
 format-requires : tie.Need-format-requires
 format-requires c κs = search needs

@@ -3,10 +3,6 @@ use Rattle.store.specs.Answer.{numberOf}
 use borrow.Author.Needs.{needs}
 use Rattle.isis.proofs.isis_revert.Statement.{statement}
 use Rattle.isis.proofs.isis_revert.Tie as tie
-use Rattle.isis.proofs.isis_revert.Reads as reads
-use Rattle.isis.proofs.isis_revert.Lts as lts
-use Rattle.store.proofs.answer.number.Reads as number-reads
-use Rattle.store.proofs.settling.revert.Reads as revert-reads
 
 revert-requires : tie.Need-revert-requires
 revert-requires c κs = search needs

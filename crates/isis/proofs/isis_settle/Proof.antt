@@ -3,10 +3,6 @@ use Rattle.store.specs.Answer.{numberOf}
 use borrow.Author.Needs.{needs}
 use Rattle.isis.proofs.isis_settle.Statement.{statement}
 use Rattle.isis.proofs.isis_settle.Tie as tie
-use Rattle.isis.proofs.isis_settle.Reads as reads
-use Rattle.isis.proofs.isis_settle.Lts as lts
-use Rattle.store.proofs.answer.number.Reads as number-reads
-use Rattle.store.proofs.settling.settle.Reads as settle-reads
 
 settle-requires : tie.Need-settle-requires
 settle-requires c κs = search needs

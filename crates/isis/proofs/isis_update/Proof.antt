@@ -3,10 +3,6 @@ use Rattle.store.specs.Answer.{numberOf}
 use borrow.Author.Needs.{needs}
 use Rattle.isis.proofs.isis_update.Statement.{statement}
 use Rattle.isis.proofs.isis_update.Tie as tie
-use Rattle.isis.proofs.isis_update.Reads as reads
-use Rattle.isis.proofs.isis_update.Lts as lts
-use Rattle.store.proofs.answer.number.Reads as number-reads
-use Rattle.store.proofs.versions.update.Reads as update-reads
 
 update-requires : tie.Need-update-requires
 update-requires c κs = search needs

@@ -4,10 +4,6 @@ use Rattle.store.specs.declared.views.Shown.{Shown}
 use borrow.Author.Needs.{needs}
 use Rattle.isis.proofs.isis_view.Statement.{statement}
 use Rattle.isis.proofs.isis_view.Tie as tie
-use Rattle.isis.proofs.isis_view.Reads as reads
-use Rattle.isis.proofs.isis_view.Lts as lts
-use Rattle.store.proofs.answer.number.Reads as number-reads
-use Rattle.store.proofs.views.view.Reads as view-reads
 
 view-requires : tie.Need-view-requires
 view-requires c κs = search needs

@@ -4,10 +4,6 @@ use Rattle.store.specs.declared.views.Shown.{Shown}
 use borrow.Author.Needs.{needs}
 use Rattle.isis.proofs.isis_view_settled.Statement.{statement}
 use Rattle.isis.proofs.isis_view_settled.Tie as tie
-use Rattle.isis.proofs.isis_view_settled.Reads as reads
-use Rattle.isis.proofs.isis_view_settled.Lts as lts
-use Rattle.store.proofs.answer.number.Reads as number-reads
-use Rattle.store.proofs.views.view_settled.Reads as view-settled-reads
 
 view-settled-requires : tie.Need-view-settled-requires
 view-settled-requires c κs = search needs

@@ -1,15 +1,10 @@
+-- `number_from`: the place looked at is within the text.
 use Prim.Native.Nat.{_≤_, _-_}
 use native.Mathlib.Omega.{arith}
 use lib.ListN.{length}
 use borrow.Author.Needs.{needs}
 use Rattle.replay_run.proofs.number_from.Statement.{statement}
 use Rattle.replay_run.proofs.number_from.Tie as tie
-use Rattle.replay_run.proofs.number_from.Reads as reads
-use Rattle.replay_run.proofs.number_from.Lts as lts
-use Rattle.replay_run.proofs.digit.Reads as digit-reads
-use Rattle.replay_run.proofs.digit_from.Reads as digit-from-reads
-use Rattle.replay_run.proofs.low_u32.Reads as low-u32-reads
-use Rattle.replay_run.proofs.with_digit.Reads as with-digit-reads
 
 abbrev Inv-loop : tie.InvT-loop
 Inv-loop text from i₀ value₀ i value = i ≤ length text
@@ -17,51 +12,39 @@ Inv-loop text from i₀ value₀ i value = i ≤ length text
 abbrev μ-loop : tie.MeasureT-loop
 μ-loop text from i₀ value₀ i value = length text - i
 
--- src/main.rt:75:9
 digit-from-requires : tie.Need-digit-from-requires Inv-loop μ-loop
 digit-from-requires c κs = search needs
 
--- src/main.rt:77:5
 loop-holds : tie.Need-loop-holds Inv-loop μ-loop
 loop-holds c = omega arith
 
--- src/main.rt:78:23
 shared-slice-read-digit : tie.Need-shared-slice-read-digit Inv-loop μ-loop
 shared-slice-read-digit c = omega arith
 
--- src/main.rt:78:13
 digit-requires : tie.Need-digit-requires Inv-loop μ-loop
 digit-requires c κs = search needs
 
--- src/main.rt:81:24
 low-u32-requires : tie.Need-low-u32-requires Inv-loop μ-loop
 low-u32-requires c κs = search needs
 
--- src/main.rt:80:13
 returns : tie.Need-returns Inv-loop μ-loop
 returns c = omega arith
 
--- src/main.rt:85:9
 with-digit-requires : tie.Need-with-digit-requires Inv-loop μ-loop
 with-digit-requires c κs = search needs
 
--- src/main.rt:86:9
 add-i : tie.Need-add-i Inv-loop μ-loop
 add-i c = omega arith
 
--- src/main.rt:77:5
 loop-less : tie.Need-loop-less Inv-loop μ-loop
 loop-less c = omega arith
 
--- src/main.rt:77:5
 loop-again : tie.Need-loop-again Inv-loop μ-loop
 loop-again c = omega arith
 
--- src/main.rt:89:16
 low-u32-requires-2 : tie.Need-low-u32-requires-2 Inv-loop μ-loop
 low-u32-requires-2 c κs = search needs
 
--- src/main.rt:71:1
 returns-2 : tie.Need-returns-2 Inv-loop μ-loop
 returns-2 c = omega arith
 

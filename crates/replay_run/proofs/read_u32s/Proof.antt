@@ -1,3 +1,4 @@
+-- `read_u32s`: the place read from is within the text, and the length of `out` stays.
 use Prim.Native.Nat.{_≤_, _-_}
 use native.Mathlib.Omega.{arith}
 use mathlib.Core.Path.{_≡_, refl}
@@ -5,9 +6,6 @@ use lib.ListN.{length, length-set}
 use borrow.Author.Needs.{needs}
 use Rattle.replay_run.proofs.read_u32s.Statement.{statement}
 use Rattle.replay_run.proofs.read_u32s.Tie as tie
-use Rattle.replay_run.proofs.read_u32s.Reads as reads
-use Rattle.replay_run.proofs.read_u32s.Lts as lts
-use Rattle.replay_run.proofs.number_from.Reads as number-from-reads
 
 abbrev Inv-loop : tie.InvT-loop
 Inv-loop text from out₀ at₀ i₀ out at i = (at ≤ length text) × (length out ≡ length out₀)
@@ -15,39 +13,30 @@ Inv-loop text from out₀ at₀ i₀ out at i = (at ≤ length text) × (length 
 abbrev μ-loop : tie.MeasureT-loop
 μ-loop text from out₀ at₀ i₀ out at i = length out₀ - i
 
--- src/main.rt:72:5
 loop-holds : tie.Need-loop-holds Inv-loop μ-loop
 loop-holds c = (omega arith, refl)
 
--- src/main.rt:73:13
 number-from-requires : tie.Need-number-from-requires Inv-loop μ-loop
 number-from-requires c κs = search needs
 
--- src/main.rt:74:9
 mul-out : tie.Need-mul-out Inv-loop μ-loop
 mul-out c = omega arith
 
--- src/main.rt:74:9
 slice-write-out : tie.Need-slice-write-out Inv-loop μ-loop
 slice-write-out c = omega arith
 
--- src/main.rt:76:9
 add-i : tie.Need-add-i Inv-loop μ-loop
 add-i c = omega arith
 
--- src/main.rt:72:5
 loop-less : tie.Need-loop-less Inv-loop μ-loop
 loop-less c = omega arith
 
--- src/main.rt:72:5
 loop-again : tie.Need-loop-again Inv-loop μ-loop
 loop-again c = (omega arith, simp length-set (omega arith))
 
--- src/main.rt:66:1
 same-length : tie.Need-same-length Inv-loop μ-loop
 same-length c = omega arith
 
--- src/main.rt:66:1
 returns : tie.Need-returns Inv-loop μ-loop
 returns c = omega arith
 

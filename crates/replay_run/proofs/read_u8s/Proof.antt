@@ -1,3 +1,4 @@
+-- `read_u8s`: the place read from is within the text, and the length of `out` stays.
 use Prim.Native.Nat.{_≤_, _-_}
 use native.Mathlib.Omega.{arith}
 use mathlib.Core.Path.{_≡_, refl}
@@ -5,10 +6,6 @@ use lib.ListN.{length, length-set}
 use borrow.Author.Needs.{needs}
 use Rattle.replay_run.proofs.read_u8s.Statement.{statement}
 use Rattle.replay_run.proofs.read_u8s.Tie as tie
-use Rattle.replay_run.proofs.read_u8s.Reads as reads
-use Rattle.replay_run.proofs.read_u8s.Lts as lts
-use Rattle.replay_run.proofs.low_u8.Reads as low-u8-reads
-use Rattle.replay_run.proofs.number_from.Reads as number-from-reads
 
 abbrev Inv-loop : tie.InvT-loop
 Inv-loop text from out₀ at₀ i₀ out at i = (at ≤ length text) × (length out ≡ length out₀)
@@ -16,39 +13,30 @@ Inv-loop text from out₀ at₀ i₀ out at i = (at ≤ length text) × (length 
 abbrev μ-loop : tie.MeasureT-loop
 μ-loop text from out₀ at₀ i₀ out at i = length out₀ - i
 
--- src/main.rt:120:5
 loop-holds : tie.Need-loop-holds Inv-loop μ-loop
 loop-holds c = (omega arith, refl)
 
--- src/main.rt:121:13
 number-from-requires : tie.Need-number-from-requires Inv-loop μ-loop
 number-from-requires c κs = search needs
 
--- src/main.rt:122:18
 low-u8-requires : tie.Need-low-u8-requires Inv-loop μ-loop
 low-u8-requires c κs = search needs
 
--- src/main.rt:122:9
 slice-write-out : tie.Need-slice-write-out Inv-loop μ-loop
 slice-write-out c = omega arith
 
--- src/main.rt:124:9
 add-i : tie.Need-add-i Inv-loop μ-loop
 add-i c = omega arith
 
--- src/main.rt:120:5
 loop-less : tie.Need-loop-less Inv-loop μ-loop
 loop-less c = omega arith
 
--- src/main.rt:120:5
 loop-again : tie.Need-loop-again Inv-loop μ-loop
 loop-again c = (omega arith, simp length-set (omega arith))
 
--- src/main.rt:114:1
 same-length : tie.Need-same-length Inv-loop μ-loop
 same-length c = omega arith
 
--- src/main.rt:114:1
 returns : tie.Need-returns Inv-loop μ-loop
 returns c = omega arith
 

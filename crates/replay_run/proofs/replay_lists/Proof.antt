@@ -1,13 +1,10 @@
+-- `replay_lists`: the next list starts within the text.
 use Prim.Native.Nat.{_≤_, _-_}
 use native.Mathlib.Omega.{arith}
 use lib.ListN.{length}
 use borrow.Author.Needs.{needs}
 use Rattle.replay_run.proofs.replay_lists.Statement.{statement}
 use Rattle.replay_run.proofs.replay_lists.Tie as tie
-use Rattle.replay_run.proofs.replay_lists.Reads as reads
-use Rattle.replay_run.proofs.replay_lists.Lts as lts
-use Rattle.replay_run.proofs.digit_from.Reads as digit-from-reads
-use Rattle.replay_run.proofs.replay_afresh.Reads as replay-afresh-reads
 
 abbrev Inv-loop : tie.InvT-loop
 Inv-loop text at₀ at = at ≤ length text
@@ -15,35 +12,27 @@ Inv-loop text at₀ at = at ≤ length text
 abbrev μ-loop : tie.MeasureT-loop
 μ-loop text at₀ at = length text - at
 
--- src/main.rt:280:9
 digit-from-requires : tie.Need-digit-from-requires Inv-loop μ-loop
 digit-from-requires c κs = search needs
 
--- src/main.rt:281:5
 loop-holds : tie.Need-loop-holds Inv-loop μ-loop
 loop-holds c = omega arith
 
--- src/main.rt:282:13
 replay-afresh-requires : tie.Need-replay-afresh-requires Inv-loop μ-loop
 replay-afresh-requires c κs = search needs
 
--- src/main.rt:284:13
 returns : tie.Need-returns Inv-loop μ-loop
 returns c = omega arith
 
--- src/main.rt:286:9
 digit-from-requires-2 : tie.Need-digit-from-requires-2 Inv-loop μ-loop
 digit-from-requires-2 c κs = search needs
 
--- src/main.rt:281:5
 loop-less : tie.Need-loop-less Inv-loop μ-loop
 loop-less c = omega arith
 
--- src/main.rt:281:5
 loop-again : tie.Need-loop-again Inv-loop μ-loop
 loop-again c = omega arith
 
--- src/main.rt:279:1
 returns-2 : tie.Need-returns-2 Inv-loop μ-loop
 returns-2 c = omega arith
 

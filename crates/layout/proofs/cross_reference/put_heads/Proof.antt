@@ -1,3 +1,4 @@
+-- `put_heads`: after k turns the first integers of the first k blocks are written.
 use mathlib.Core.Path.{_≡_, refl}
 use Prim.Native.Nat.{_≤_, _-_, _/_}
 use native.Mathlib.Omega.{arith}

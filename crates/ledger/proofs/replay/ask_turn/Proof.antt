@@ -1,85 +1,67 @@
 use Rattle.ledger.proofs.Turning.{asked-turns}
-use Rattle.ledger.proofs.Turning.{no-numbers, no-bytes, asked-next}
 use borrow.Author.Needs.{needs}
 use Rattle.ledger.proofs.replay.ask_turn.Statement.{statement}
 use Rattle.ledger.proofs.replay.ask_turn.Tie as tie
-use Rattle.ledger.proofs.replay.ask_turn.Reads as reads
-use Rattle.ledger.proofs.replay.ask_turn.Lts as lts
-use Rattle.ledger.proofs.replay.ask.Reads as ask-reads
-use Rattle.ledger.proofs.replay.move_cursor.Reads as move-cursor-reads
-use Rattle.ledger.proofs.replay.no_draft.Reads as no-draft-reads
-use Rattle.ledger.proofs.replay.put_numbers.Reads as put-numbers-reads
-use Rattle.word.proofs.bytes.copy_to.Reads as copy-to-reads
 
--- src/replay.rt:267:13
 mul-i : tie.Need-mul-i
 mul-i c = search needs
 
--- src/replay.rt:268:8
 sub-if1 : tie.Need-sub-if1
 sub-if1 c = search needs
 
--- src/replay.rt:269:9
 returns : tie.Need-returns
 returns c = search asked-turns
 
--- src/replay.rt:271:9
 ask-requires : tie.Need-ask-requires
 ask-requires c κs = search needs
 
--- src/replay.rt:274:8
 sub-if2 : tie.Need-sub-if2
 sub-if2 c = search needs
 
--- src/replay.rt:275:9
 returns-2 : tie.Need-returns-2
 returns-2 c = search asked-turns
 
--- src/replay.rt:278:35
 cast-put-numbers : tie.Need-cast-put-numbers
 cast-put-numbers c = search needs
 
--- src/replay.rt:278:5
 put-numbers-requires : tie.Need-put-numbers-requires
 put-numbers-requires c κs = search needs
 
--- src/replay.rt:280:15
 add-end : tie.Need-add-end
 add-end c = search needs
 
--- src/replay.rt:281:36
 sub-copy-to : tie.Need-sub-copy-to
 sub-copy-to c = search needs
 
--- src/replay.rt:281:36
 part-copy-to-start : tie.Need-part-copy-to-start
 part-copy-to-start c = search needs
 
--- src/replay.rt:281:36
 part-copy-to-end : tie.Need-part-copy-to-end
 part-copy-to-end c = search needs
 
--- src/replay.rt:281:5
 copy-to-requires : tie.Need-copy-to-requires
 copy-to-requires c κs = search needs
 
--- src/replay.rt:282:32
 no-draft-requires : tie.Need-no-draft-requires
 no-draft-requires c κs = search needs
 
--- src/replay.rt:282:16
 move-cursor-requires : tie.Need-move-cursor-requires
-move-cursor-requires c κs = record { calls-fit = search needs; tags-fit = rw (c .no-draft .ensures) (search needs); lens-fit = rw (c .no-draft .ensures) (search needs); bytes-fit = rw (c .no-draft .ensures) (search needs); shown-fit = search needs }
+move-cursor-requires c κs =
+    let draft = c .no-draft .ensures in
+    record {
+      calls-fit = search needs;
+      tags-fit = rw draft (search needs);
+      lens-fit = rw draft (search needs);
+      bytes-fit = rw draft (search needs);
+      shown-fit = search needs;
+    }
 
--- src/replay.rt:262:1
 same-length : tie.Need-same-length
 same-length c = search needs
 
--- src/replay.rt:262:1
 same-length-2 : tie.Need-same-length-2
 same-length-2 c = search needs
 
--- src/replay.rt:262:1
 returns-3 : tie.Need-returns-3
 returns-3 c = search asked-turns
 

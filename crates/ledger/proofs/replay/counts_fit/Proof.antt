@@ -1,18 +1,13 @@
 use Rattle.ledger.proofs.Decoding.{count-answers}
 use Rattle.ledger.proofs.replay.counts_fit.Statement.{statement}
 use Rattle.ledger.proofs.replay.counts_fit.Tie as tie
-use Rattle.ledger.proofs.replay.counts_fit.Reads as reads
-use Rattle.ledger.proofs.replay.counts_fit.Lts as lts
 
--- src/replay.rt:84:9
 returns : tie.Need-returns
 returns c = search count-answers
 
--- src/replay.rt:87:9
 returns-2 : tie.Need-returns-2
 returns-2 c = search count-answers
 
--- src/replay.rt:80:1
 returns-3 : tie.Need-returns-3
 returns-3 c = search count-answers
 

@@ -1,96 +1,72 @@
-use Rattle.ledger.proofs.Turning.{draft-within}
-use Rattle.ledger.proofs.Turning.{turns}
+use Rattle.ledger.proofs.Turning.{draft-within, turns}
 use borrow.Author.Needs.{needs}
 use Rattle.ledger.proofs.replay.one_turn.Statement.{statement}
 use Rattle.ledger.proofs.replay.one_turn.Tie as tie
-use Rattle.ledger.proofs.replay.one_turn.Reads as reads
-use Rattle.ledger.proofs.replay.one_turn.Lts as lts
-use Rattle.ledger.proofs.replay.ask_turn.Reads as ask-turn-reads
-use Rattle.ledger.proofs.replay.left_at.Reads as left-at-reads
-use Rattle.ledger.proofs.replay.read_op.Reads as read-op-reads
-use Rattle.ledger.proofs.replay.write_turn.Reads as write-turn-reads
 
--- src/replay.rt:339:13
 mul-i : tie.Need-mul-i
 mul-i c = search needs
 
--- src/replay.rt:341:9
 returns : tie.Need-returns
 returns c = search turns
 
--- src/replay.rt:343:8
 sub-if2 : tie.Need-sub-if2
 sub-if2 c = search needs
 
--- src/replay.rt:344:9
 returns-2 : tie.Need-returns-2
 returns-2 c = search turns
 
--- src/replay.rt:346:30
 left-at-requires : tie.Need-left-at-requires
 left-at-requires c κs = search needs
 
--- src/replay.rt:346:9
 read-op-requires : tie.Need-read-op-requires
 read-op-requires c κs = search needs
 
--- src/replay.rt:348:18
 enum-known-op : tie.Need-enum-known-op
 enum-known-op c = search needs
 
--- src/replay.rt:348:24
 ask-turn-requires : tie.Need-ask-turn-requires
 ask-turn-requires c κs = search needs
 
--- src/replay.rt:349:20
 enum-known-op-2 : tie.Need-enum-known-op-2
 enum-known-op-2 c = search needs
 
--- src/replay.rt:349:26
 write-turn-requires : tie.Need-write-turn-requires
-write-turn-requires c κs = (draft-within _ _ _ _ _ _ _ _ _ _ (c .before .before .before .before .before .before .before .before .if2 .left) (c .before .before .before .before .before .before .before .left-at .ensures) (c .before .before .before .before .before .before .read-op .ensures) (c .before .before .before .before .op2 .given .1) (c .before .before .before .before .before .before .before .before .before .before .before .before .before .before .before .before .before .before .before .pre .0), search needs)
+write-turn-requires c κs =
+    let known = c .before .before .before .before in
+    let read = known .before .before in
+    let within = read .before .before .before .before .before .before .before .before .before .before .before .before .before .pre .0 in
+    (draft-within _ _ _ _ _ _ _ _ _ _ (read .before .before .if2 .left) (read .before .left-at .ensures) (read .read-op .ensures) (known .op2 .given .1) within, search needs)
 
--- src/replay.rt:350:40
 enum-told : tie.Need-enum-told
 enum-told c = search needs
 
--- src/replay.rt:324:1
 same-length : tie.Need-same-length
 same-length c = search needs
 
--- src/replay.rt:324:1
 same-length-2 : tie.Need-same-length-2
 same-length-2 c = search needs
 
--- src/replay.rt:324:1
 same-length-3 : tie.Need-same-length-3
 same-length-3 c = search needs
 
--- src/replay.rt:324:1
 same-length-4 : tie.Need-same-length-4
 same-length-4 c = search needs
 
--- src/replay.rt:324:1
 returns-3 : tie.Need-returns-3
 returns-3 c = search turns
 
--- src/replay.rt:324:1
 same-length-5 : tie.Need-same-length-5
 same-length-5 c = search needs
 
--- src/replay.rt:324:1
 same-length-6 : tie.Need-same-length-6
 same-length-6 c = search needs
 
--- src/replay.rt:324:1
 same-length-7 : tie.Need-same-length-7
 same-length-7 c = search needs
 
--- src/replay.rt:324:1
 returns-4 : tie.Need-returns-4
 returns-4 c = search turns
 
--- src/replay.rt:324:1
 returns-5 : tie.Need-returns-5
 returns-5 c = search turns
 

@@ -2,51 +2,37 @@ use Rattle.ledger.proofs.Telling.{replays}
 use borrow.Author.Needs.{needs}
 use Rattle.ledger.proofs.replay.replay.Statement.{statement}
 use Rattle.ledger.proofs.replay.replay.Tie as tie
-use Rattle.ledger.proofs.replay.replay.Reads as reads
-use Rattle.ledger.proofs.replay.replay.Lts as lts
-use Rattle.ledger.proofs.replay.run.Reads as run-reads
-use Rattle.store.proofs.format.format.Reads as format-reads
 
--- src/replay.rt:410:9
 format-requires : tie.Need-format-requires
 format-requires c κs = search needs
 
 enum-told : tie.Need-enum-told
 enum-told c = search needs
 
--- src/replay.rt:412:9
 same-length : tie.Need-same-length
 same-length c = search needs
 
--- src/replay.rt:412:9
 same-length-2 : tie.Need-same-length-2
 same-length-2 c = search needs
 
--- src/replay.rt:412:9
 returns : tie.Need-returns
 returns c = search replays
 
--- src/replay.rt:417:5
 run-requires : tie.Need-run-requires
 run-requires c κs = search replays
 
--- src/replay.rt:398:1
 same-length-3 : tie.Need-same-length-3
 same-length-3 c = search needs
 
--- src/replay.rt:398:1
 same-length-4 : tie.Need-same-length-4
 same-length-4 c = search needs
 
--- src/replay.rt:398:1
 same-length-5 : tie.Need-same-length-5
 same-length-5 c = search needs
 
--- src/replay.rt:398:1
 same-length-6 : tie.Need-same-length-6
 same-length-6 c = search needs
 
--- src/replay.rt:398:1
 returns-2 : tie.Need-returns-2
 returns-2 c = search replays
 

@@ -1,15 +1,13 @@
+-- `run`: what is reported and left so far is the first part of what the whole list gives (`Going`), and the lengths stay.
 use Prim.Native.Nat.{_-_}
 use native.Mathlib.Omega.{arith}
-use mathlib.Core.Path.{_≡_, refl, _∙_}
+use mathlib.Core.Path.{_≡_, refl}
 use lib.ListN.{length}
 use borrow.Author.Needs.{needs}
 use Rattle.ledger.specs.StoreRun.{store}
-use Rattle.ledger.proofs.Running.{Going, going-start, going-next, going-less, going-stop}
+use Rattle.ledger.proofs.Running.{Going, going-start, goings}
 use Rattle.ledger.proofs.replay.run.Statement.{statement}
 use Rattle.ledger.proofs.replay.run.Tie as tie
-use Rattle.ledger.proofs.replay.run.Reads as reads
-use Rattle.ledger.proofs.replay.run.Lts as lts
-use Rattle.ledger.proofs.replay.one_turn.Reads as one-turn-reads
 
 abbrev Inv-loop : tie.InvT-loop
 Inv-loop mst₀ xrf₀ ops tags lens «data» answers₀ shown₀ at₀ mst xrf answers shown at =
@@ -18,49 +16,38 @@ Inv-loop mst₀ xrf₀ ops tags lens «data» answers₀ shown₀ at₀ mst xrf 
 abbrev μ-loop : tie.MeasureT-loop
 μ-loop mst₀ xrf₀ ops tags lens «data» answers₀ shown₀ at₀ mst xrf answers shown at = length ops - at .calls
 
--- src/replay.rt:375:5
 loop-holds : tie.Need-loop-holds Inv-loop μ-loop
 loop-holds c = (going-start _ _ _ _ _ _ _ _ refl, refl, refl)
 
--- src/replay.rt:376:13
 one-turn-requires : tie.Need-one-turn-requires Inv-loop μ-loop
-one-turn-requires c κs = (c .before .before .before .before .loop .inv .0 .within, omega (arith, c .before .before .before .before .loop .inv .1, c .before .before .before .before .before .before .before .before .before .before .before .before .before .pre))
+one-turn-requires c κs = (c .before .before .before .before .loop .inv .0 .within, omega arith)
 
--- src/replay.rt:378:24
 enum-known-t : tie.Need-enum-known-t Inv-loop μ-loop
 enum-known-t c = search needs
 
--- src/replay.rt:375:5
 loop-less : tie.Need-loop-less Inv-loop μ-loop
-loop-less c = going-less _ _ _ _ _ _ _ _ _ _ _ (c .before .before .before .before .before .before .before .before .before .before .before .before .before .before .before .before .loop .inv .0) _ _ _ _ (c .before .before .before .before .before .before .before .before .before .before .before .one-turn .ensures) _ (c .before .t .given .1)
+loop-less c = search goings
 
--- src/replay.rt:375:5
 loop-again : tie.Need-loop-again Inv-loop μ-loop
-loop-again c = (going-next _ _ _ _ _ _ _ _ _ _ _ (c .before .before .before .before .before .before .before .before .before .before .before .before .before .before .before .before .loop .inv .0) _ _ _ _ (c .before .before .before .before .before .before .before .before .before .before .before .one-turn .ensures) _ (c .before .t .given .1), c .before .before .before .before .before .before .before .before .before .before .before .one-turn .kept .0 ∙ c .before .before .before .before .before .before .before .before .before .before .before .before .before .before .before .before .loop .inv .1, c .before .before .before .before .before .before .before .before .before .before .before .one-turn .kept .1 .0 ∙ c .before .before .before .before .before .before .before .before .before .before .before .before .before .before .before .before .loop .inv .2)
+loop-again c = (search goings, omega arith, omega arith)
 
--- src/replay.rt:381:27
 enum-known-t-2 : tie.Need-enum-known-t-2 Inv-loop μ-loop
 enum-known-t-2 c = search needs
 
--- src/replay.rt:382:17
 same-length : tie.Need-same-length Inv-loop μ-loop
-same-length c = c .before .before .before .before .before .before .before .before .before .before .before .one-turn .kept .0 ∙ c .before .before .before .before .before .before .before .before .before .before .before .before .before .before .before .before .loop .inv .1
+same-length c = omega arith
 
--- src/replay.rt:382:17
 same-length-2 : tie.Need-same-length-2 Inv-loop μ-loop
-same-length-2 c = c .before .before .before .before .before .before .before .before .before .before .before .one-turn .kept .1 .0 ∙ c .before .before .before .before .before .before .before .before .before .before .before .before .before .before .before .before .loop .inv .2
+same-length-2 c = omega arith
 
--- src/replay.rt:382:17
 same-length-3 : tie.Need-same-length-3 Inv-loop μ-loop
-same-length-3 c = c .before .before .before .before .before .before .before .before .before .before .before .one-turn .kept .1 .1 .1 .1 .1 .1 .0 ∙ c .before .before .before .before .before .before .before .before .before .before .before .before .before .before .before .before .loop .inv .0 .answers-long
+same-length-3 c = omega arith
 
--- src/replay.rt:382:17
 same-length-4 : tie.Need-same-length-4 Inv-loop μ-loop
-same-length-4 c = c .before .before .before .before .before .before .before .before .before .before .before .one-turn .kept .1 .1 .1 .1 .1 .1 .1 .0 ∙ c .before .before .before .before .before .before .before .before .before .before .before .before .before .before .before .before .loop .inv .0 .shown-long
+same-length-4 c = omega arith
 
--- src/replay.rt:382:17
 returns : tie.Need-returns Inv-loop μ-loop
-returns c = going-stop _ _ _ _ _ _ _ _ _ _ _ (c .before .before .before .before .before .before .before .before .before .before .before .before .before .before .before .before .loop .inv .0) _ _ _ _ (c .before .before .before .before .before .before .before .before .before .before .before .one-turn .ensures) _ (c .before .t2 .given .1)
+returns c = search goings
 
 pub run-spec : {M : Type 1} → statement M
 run-spec =

@@ -2,153 +2,109 @@ use Rattle.ledger.proofs.Turning.{written-answers}
 use borrow.Author.Needs.{needs}
 use Rattle.ledger.proofs.replay.write.Statement.{statement}
 use Rattle.ledger.proofs.replay.write.Tie as tie
-use Rattle.ledger.proofs.replay.write.Reads as reads
-use Rattle.ledger.proofs.replay.write.Lts as lts
-use Rattle.ledger.proofs.replay.create_next.Reads as create-next-reads
-use Rattle.ledger.proofs.replay.update_next.Reads as update-next-reads
-use Rattle.ledger.proofs.replay.without_mfn.Reads as without-mfn-reads
-use Rattle.store.proofs.format.format.Reads as format-reads
-use Rattle.store.proofs.settling.revert.Reads as revert-reads
-use Rattle.store.proofs.settling.settle.Reads as settle-reads
-use Rattle.store.proofs.versions.delete.Reads as delete-reads
 
--- src/replay.rt:205:62
 enum-told : tie.Need-enum-told
 enum-told c = search needs
 
--- src/replay.rt:205:40
 format-requires : tie.Need-format-requires
 format-requires c κs = search needs
 
--- src/replay.rt:205:28
 without-mfn-requires : tie.Need-without-mfn-requires
 without-mfn-requires c κs = search needs
 
--- src/replay.rt:206:25
 enum-known-w : tie.Need-enum-known-w
 enum-known-w c = search needs
 
--- src/replay.rt:206:31
 create-next-requires : tie.Need-create-next-requires
 create-next-requires c κs = search written-answers
 
--- src/replay.rt:207:25
 enum-known-w-2 : tie.Need-enum-known-w-2
 enum-known-w-2 c = search needs
 
--- src/replay.rt:207:46
 update-next-requires : tie.Need-update-next-requires
 update-next-requires c κs = search written-answers
 
--- src/replay.rt:207:34
 without-mfn-requires-2 : tie.Need-without-mfn-requires-2
 without-mfn-requires-2 c κs = search needs
 
--- src/replay.rt:208:25
 enum-known-w-3 : tie.Need-enum-known-w-3
 enum-known-w-3 c = search needs
 
--- src/replay.rt:208:43
 delete-requires : tie.Need-delete-requires
 delete-requires c κs = search needs
 
--- src/replay.rt:208:31
 without-mfn-requires-3 : tie.Need-without-mfn-requires-3
 without-mfn-requires-3 c κs = search needs
 
--- src/replay.rt:209:25
 enum-known-w-4 : tie.Need-enum-known-w-4
 enum-known-w-4 c = search needs
 
--- src/replay.rt:209:43
 settle-requires : tie.Need-settle-requires
 settle-requires c κs = search needs
 
--- src/replay.rt:209:31
 without-mfn-requires-4 : tie.Need-without-mfn-requires-4
 without-mfn-requires-4 c κs = search needs
 
--- src/replay.rt:210:25
 enum-known-w-5 : tie.Need-enum-known-w-5
 enum-known-w-5 c = search needs
 
--- src/replay.rt:210:43
 revert-requires : tie.Need-revert-requires
 revert-requires c κs = search needs
 
--- src/replay.rt:210:31
 without-mfn-requires-5 : tie.Need-without-mfn-requires-5
 without-mfn-requires-5 c κs = search needs
 
--- src/replay.rt:200:1
 same-length : tie.Need-same-length
 same-length c = search needs
 
--- src/replay.rt:200:1
 same-length-2 : tie.Need-same-length-2
 same-length-2 c = search needs
 
--- src/replay.rt:200:1
 returns : tie.Need-returns
 returns c = search written-answers
 
--- src/replay.rt:200:1
 same-length-3 : tie.Need-same-length-3
 same-length-3 c = search needs
 
--- src/replay.rt:200:1
 same-length-4 : tie.Need-same-length-4
 same-length-4 c = search needs
 
--- src/replay.rt:200:1
 returns-2 : tie.Need-returns-2
 returns-2 c = search written-answers
 
--- src/replay.rt:200:1
 same-length-5 : tie.Need-same-length-5
 same-length-5 c = search needs
 
--- src/replay.rt:200:1
 same-length-6 : tie.Need-same-length-6
 same-length-6 c = search needs
 
--- src/replay.rt:200:1
 returns-3 : tie.Need-returns-3
 returns-3 c = search written-answers
 
--- src/replay.rt:200:1
 same-length-7 : tie.Need-same-length-7
 same-length-7 c = search needs
 
--- src/replay.rt:200:1
 same-length-8 : tie.Need-same-length-8
 same-length-8 c = search needs
 
--- src/replay.rt:200:1
 returns-4 : tie.Need-returns-4
 returns-4 c = search written-answers
 
--- src/replay.rt:200:1
 same-length-9 : tie.Need-same-length-9
 same-length-9 c = search needs
 
--- src/replay.rt:200:1
 same-length-10 : tie.Need-same-length-10
 same-length-10 c = search needs
 
--- src/replay.rt:200:1
 returns-5 : tie.Need-returns-5
 returns-5 c = search written-answers
 
--- src/replay.rt:200:1
 same-length-11 : tie.Need-same-length-11
 same-length-11 c = search needs
 
--- src/replay.rt:200:1
 same-length-12 : tie.Need-same-length-12
 same-length-12 c = search needs
 
--- src/replay.rt:200:1
 returns-6 : tie.Need-returns-6
 returns-6 c = search written-answers
 

@@ -1,3 +1,4 @@
+-- `heads_right`: the first integers of the blocks before k are right.
 use Prim.Native.Nat.{_+_, _-_, _≤_}
 use native.Mathlib.Omega.{arith}
 use borrow.Author.Needs.{needs}

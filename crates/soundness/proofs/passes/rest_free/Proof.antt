@@ -1,3 +1,4 @@
+-- `rest_free`: the slots before m are free, from the next MFN on.
 use Prim.Native.Nat.{_+_, _-_, _≤_}
 use borrow.Author.Needs.{needs}
 use Rattle.soundness.proofs.PassAnswers.{FreeBefore, free-answers}

@@ -1,3 +1,4 @@
+-- `tally_entries`: the entries before m are fine, and the places that they name are counted.
 use Prim.Native.Nat.{_-_, _≤_}
 use native.Mathlib.Omega.{arith}
 use borrow.Author.Needs.{needs}

@@ -1,7 +1,9 @@
+-- `walk_steps`: the steps before the address are walked, and the hits among them are counted.
 use Prim.Native.Nat.{_-_}
 use native.Mathlib.Omega.{arith}
 use borrow.Author.Needs.{needs}
-use Rattle.soundness.proofs.PassAnswers.{Walked, walk-rises, walk-answers, bit-small, open-end-in, open-mst}
+use Rattle.soundness.proofs.PassAnswers.{Walked, walk-rises, walk-answers, bit-small, open-mst}
+use Rattle.store.proofs.Gates.{open-end-in}
 use Rattle.soundness.proofs.passes.walk_steps.Statement.{statement}
 use Rattle.soundness.proofs.passes.walk_steps.Tie as tie
 

@@ -2,11 +2,6 @@ use Rattle.store.proofs.Writes.{draft-writes}
 use borrow.Author.Needs.{needs}
 use Rattle.store.proofs.create.append_draft.Statement.{statement}
 use Rattle.store.proofs.create.append_draft.Tie as tie
-use Rattle.store.proofs.create.append_draft.Reads as reads
-use Rattle.store.proofs.create.append_draft.Lts as lts
-use Rattle.layout.proofs.control.put_end.Reads as put-end-reads
-use Rattle.layout.proofs.sizes.end_moved.Reads as end-moved-reads
-use Rattle.record.proofs.writer.write_record.Reads as write-record-reads
 
 cast-stop : tie.Need-cast-stop
 cast-stop c = search needs

@@ -2,11 +2,6 @@ use Rattle.store.proofs.Results.{create-refused, create-asks, create-do
 use borrow.Author.Needs.{needs}
 use Rattle.store.proofs.create.create.Statement.{statement}
 use Rattle.store.proofs.create.create.Tie as tie
-use Rattle.store.proofs.create.create.Reads as reads
-use Rattle.store.proofs.create.create.Lts as lts
-use Rattle.store.proofs.create.create_at_end.Reads as create-at-end-reads
-use Rattle.store.proofs.create.creating_answer.Reads as creating-answer-reads
-use Rattle.store.proofs.create.plan_create.Reads as plan-create-reads
 
 plan-create-requires : tie.Need-plan-create-requires
 plan-create-requires c κs = search needs
@@ -30,7 +25,10 @@ returns : tie.Need-returns
 returns c = create-refused _ _ _ _ _ _ (c .before .before .before .plan-create .ensures) _ _ (c .before .enum-told .given .1) (c .creating-answer .ensures)
 
 create-at-end-requires : tie.Need-create-at-end-requires
-create-at-end-requires c κs = create-asks _ _ _ _ _ _ (c .before .before .before .before .before .plan-create .ensures) _ _ _ (c .before .before .before .plan .given .1)
+create-at-end-requires c κs =
+    let plan-create = c .before .before .before .before .before .plan-create in
+    let plan = c .before .before .before .plan in
+    create-asks _ _ _ _ _ _ (plan-create .ensures) _ _ _ (plan .given .1)
 
 same-length-3 : tie.Need-same-length-3
 same-length-3 c = search needs
@@ -39,7 +37,11 @@ same-length-4 : tie.Need-same-length-4
 same-length-4 c = search needs
 
 returns-2 : tie.Need-returns-2
-returns-2 c = create-done _ _ _ _ _ _ (c .before .before .before .before .before .before .before .before .before .before .plan-create .ensures) _ _ _ (c .before .before .before .before .before .before .before .before .plan .given .1) _ _ (c .before .before .before .before .create-at-end .ensures .0) (c .before .before .before .before .create-at-end .ensures .1)
+returns-2 c =
+    let plan-create = c .before .before .before .before .before .before .before .before .before .before .plan-create in
+    let plan = c .before .before .before .before .before .before .before .before .plan in
+    let create-at-end = c .before .before .before .before .create-at-end in
+    create-done _ _ _ _ _ _ (plan-create .ensures) _ _ _ (plan .given .1) _ _ (create-at-end .ensures .0) (create-at-end .ensures .1)
 
 pub create-spec : {M : Type 1} → statement M
 create-spec =

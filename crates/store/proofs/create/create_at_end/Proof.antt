@@ -2,13 +2,6 @@ use Rattle.store.proofs.Writes.{end-asked, at-end-created, size-created
 use borrow.Author.Needs.{needs}
 use Rattle.store.proofs.create.create_at_end.Statement.{statement}
 use Rattle.store.proofs.create.create_at_end.Tie as tie
-use Rattle.store.proofs.create.create_at_end.Reads as reads
-use Rattle.store.proofs.create.create_at_end.Lts as lts
-use Rattle.layout.proofs.control.put_next.Reads as put-next-reads
-use Rattle.layout.proofs.cross_reference.put_entry.Reads as put-entry-reads
-use Rattle.record.proofs.writer.leader_for.Reads as leader-for-reads
-use Rattle.store.proofs.create.append_draft.Reads as append-draft-reads
-use Rattle.store.proofs.create.end_place.Reads as end-place-reads
 
 cast-leader-for : tie.Need-cast-leader-for
 cast-leader-for c = search needs
@@ -41,7 +34,14 @@ same-length-2 : tie.Need-same-length-2
 same-length-2 c = search needs
 
 returns : tie.Need-returns
-returns c = (record-created _ _ _ _ _ _ _ _ _ (c .before .before .before .before .before .before .before .before .before .before .before .before .before .before .before .before .before .before .before .before .pre .1 .1) (c .before .before .before .before .before .before .before .before .before .before .before .before .before .before .before .before .before .before .before .before .pre .0 .1) (c .before .before .before .before .before .before .before .before .before .before .before .before .before .before .before .before .before .before .before .before .pre .1 .0 .1) (c .before .before .before .before .before .before .before .before .before .before .before .before .before .before .leader-for .ensures) (c .before .before .before .before .before .before .before .before .before .before .before .before .append-draft .ensures) (c .before .before .before .before .before .before .before .put-next .ensures), entry-created _ _ _ _ _ _ _ (c .before .before .before .before .before .before .before .before .before .before .before .before .before .before .before .before .before .before .before .before .pre .1 .0 .0) (c .before .before .before .before .before .before .before .before .before .before .before .before .before .before .before .before .before .before .before .before .pre .0 .1) (c .before .before .before .end-place .ensures .0) (c .before .before .put-entry .ensures))
+returns c =
+    let pre = c .before .before .before .before .before .before .before .before .before .before .before .before .before .before .before .before .before .before .before .before .pre in
+    let leader-for = c .before .before .before .before .before .before .before .before .before .before .before .before .before .before .leader-for in
+    let append-draft = c .before .before .before .before .before .before .before .before .before .before .before .before .append-draft in
+    let put-next = c .before .before .before .before .before .before .before .put-next in
+    let end-place = c .before .before .before .end-place in
+    let put-entry = c .before .before .put-entry in
+    (record-created _ _ _ _ _ _ _ _ _ (pre .1 .1) (pre .0 .1) (pre .1 .0 .1) (leader-for .ensures) (append-draft .ensures) (put-next .ensures), entry-created _ _ _ _ _ _ _ (pre .1 .0 .0) (pre .0 .1) (end-place .ensures .0) (put-entry .ensures))
 
 pub create-at-end-spec : {M : Type 1} → statement M
 create-at-end-spec =

@@ -2,11 +2,6 @@ use Rattle.store.proofs.Plans.{slot-answers}
 use borrow.Author.Needs.{needs}
 use Rattle.store.proofs.create.create_slot.Statement.{statement}
 use Rattle.store.proofs.create.create_slot.Tie as tie
-use Rattle.store.proofs.create.create_slot.Reads as reads
-use Rattle.store.proofs.create.create_slot.Lts as lts
-use Rattle.layout.proofs.cross_reference.head_right.Reads as head-right-reads
-use Rattle.layout.proofs.cross_reference.slot_free.Reads as slot-free-reads
-use Rattle.layout.proofs.sizes.capacity.Reads as capacity-reads
 
 cast-k : tie.Need-cast-k
 cast-k c = search needs

@@ -2,10 +2,6 @@ use Rattle.store.proofs.Writes.{end-placed}
 use borrow.Author.Needs.{needs}
 use Rattle.store.proofs.create.end_place.Statement.{statement}
 use Rattle.store.proofs.create.end_place.Tie as tie
-use Rattle.store.proofs.create.end_place.Reads as reads
-use Rattle.store.proofs.create.end_place.Lts as lts
-use Rattle.layout.proofs.sizes.block_at.Reads as block-at-reads
-use Rattle.layout.proofs.sizes.offset_at.Reads as offset-at-reads
 
 block-at-requires : tie.Need-block-at-requires
 block-at-requires c κs = search needs

@@ -3,13 +3,6 @@ use Rattle.store.proofs.Plans.{create-plans}
 use borrow.Author.Needs.{needs}
 use Rattle.store.proofs.create.plan_create.Statement.{statement}
 use Rattle.store.proofs.create.plan_create.Tie as tie
-use Rattle.store.proofs.create.plan_create.Reads as reads
-use Rattle.store.proofs.create.plan_create.Lts as lts
-use Rattle.record.proofs.draft.draft_right.Reads as draft-right-reads
-use Rattle.record.proofs.draft.need.Reads as need-reads
-use Rattle.store.proofs.create.create_slot.Reads as create-slot-reads
-use Rattle.store.proofs.gate.open_gate.Reads as open-gate-reads
-use Rattle.store.proofs.views.gate_answer.Reads as gate-answer-reads
 
 open-gate-requires : tie.Need-open-gate-requires
 open-gate-requires c κs = search needs

@@ -2,11 +2,6 @@ use Rattle.store.proofs.Results.{format-refused, format-asks-mst, forma
 use borrow.Author.Needs.{needs}
 use Rattle.store.proofs.format.format.Statement.{statement}
 use Rattle.store.proofs.format.format.Tie as tie
-use Rattle.store.proofs.format.format.Reads as reads
-use Rattle.store.proofs.format.format.Lts as lts
-use Rattle.layout.proofs.control.format_mst.Reads as format-mst-reads
-use Rattle.layout.proofs.cross_reference.format_xrf.Reads as format-xrf-reads
-use Rattle.store.proofs.gate.lengths_permitted.Reads as lengths-permitted-reads
 
 lengths-permitted-requires : tie.Need-lengths-permitted-requires
 lengths-permitted-requires c κs = search needs
@@ -33,7 +28,12 @@ same-length-4 : tie.Need-same-length-4
 same-length-4 c = search needs
 
 returns-2 : tie.Need-returns-2
-returns-2 c = format-done _ _ _ (c .before .before .before .before .before .before .before .before .before .lengths-permitted .ensures) (c .before .before .before .before .before .before .before .before .if1 .left) _ _ (c .before .before .before .before .before .before .format-mst .ensures) (c .before .before .format-xrf .ensures)
+returns-2 c =
+    let lengths-permitted = c .before .before .before .before .before .before .before .before .before .lengths-permitted in
+    let if1 = c .before .before .before .before .before .before .before .before .if1 in
+    let format-mst = c .before .before .before .before .before .before .format-mst in
+    let format-xrf = c .before .before .format-xrf in
+    format-done _ _ _ (lengths-permitted .ensures) (if1 .left) _ _ (format-mst .ensures) (format-xrf .ensures)
 
 pub format-spec : {M : Type 1} → statement M
 format-spec =

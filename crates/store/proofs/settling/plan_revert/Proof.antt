@@ -2,11 +2,6 @@ use Rattle.store.proofs.Plans.{revert-plans}
 use borrow.Author.Needs.{needs}
 use Rattle.store.proofs.settling.plan_revert.Statement.{statement}
 use Rattle.store.proofs.settling.plan_revert.Tie as tie
-use Rattle.store.proofs.settling.plan_revert.Reads as reads
-use Rattle.store.proofs.settling.plan_revert.Lts as lts
-use Rattle.store.proofs.gate.find_both.Reads as find-both-reads
-use Rattle.store.proofs.gate.open_gate.Reads as open-gate-reads
-use Rattle.store.proofs.views.gate_answer.Reads as gate-answer-reads
 
 open-gate-requires : tie.Need-open-gate-requires
 open-gate-requires c κs = search needs

@@ -2,11 +2,6 @@ use Rattle.store.proofs.Results.{revert-refused, revert-asks, revert-do
 use borrow.Author.Needs.{needs}
 use Rattle.store.proofs.settling.revert.Statement.{statement}
 use Rattle.store.proofs.settling.revert.Tie as tie
-use Rattle.store.proofs.settling.revert.Reads as reads
-use Rattle.store.proofs.settling.revert.Lts as lts
-use Rattle.layout.proofs.cross_reference.put_entry.Reads as put-entry-reads
-use Rattle.store.proofs.settling.plan_revert.Reads as plan-revert-reads
-use Rattle.store.proofs.views.known_answer.Reads as known-answer-reads
 
 plan-revert-requires : tie.Need-plan-revert-requires
 plan-revert-requires c κs = search needs
@@ -33,7 +28,11 @@ same-length-2 : tie.Need-same-length-2
 same-length-2 c = search needs
 
 returns-2 : tie.Need-returns-2
-returns-2 c = revert-done _ _ _ _ (c .before .before .before .before .before .before .before .before .plan-revert .ensures) _ _ (c .before .before .before .before .before .before .k .given .1) _ (c .before .before .put-entry .ensures)
+returns-2 c =
+    let plan-revert = c .before .before .before .before .before .before .before .before .plan-revert in
+    let the-k = c .before .before .before .before .before .before .k in
+    let put-entry = c .before .before .put-entry in
+    revert-done _ _ _ _ (plan-revert .ensures) _ _ (the-k .given .1) _ (put-entry .ensures)
 
 pub revert-spec : {M : Type 1} → statement M
 revert-spec =

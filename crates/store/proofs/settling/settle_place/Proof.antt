@@ -2,11 +2,6 @@ use Rattle.store.proofs.Writes.{back-cleared, mark-removed}
 use borrow.Author.Needs.{needs}
 use Rattle.store.proofs.settling.settle_place.Statement.{statement}
 use Rattle.store.proofs.settling.settle_place.Tie as tie
-use Rattle.store.proofs.settling.settle_place.Reads as reads
-use Rattle.store.proofs.settling.settle_place.Lts as lts
-use Rattle.layout.proofs.cross_reference.put_entry.Reads as put-entry-reads
-use Rattle.layout.proofs.entry.place_address.Reads as place-address-reads
-use Rattle.record.proofs.writer.clear_back.Reads as clear-back-reads
 
 place-address-requires : tie.Need-place-address-requires
 place-address-requires c κs = search needs
@@ -33,7 +28,12 @@ same-length-2 : tie.Need-same-length-2
 same-length-2 c = search needs
 
 returns : tie.Need-returns
-returns c = (back-cleared _ _ _ _ (c .before .before .before .before .before .before .before .before .before .before .before .before .pre .1) _ (c .before .before .before .before .before .before .before .before .before .place-address .ensures) _ (c .before .before .before .before .before .before .before .clear-back .ensures), mark-removed _ _ _ _ (c .before .before .put-entry .ensures))
+returns c =
+    let pre = c .before .before .before .before .before .before .before .before .before .before .before .before .pre in
+    let place-address = c .before .before .before .before .before .before .before .before .before .place-address in
+    let clear-back = c .before .before .before .before .before .before .before .clear-back in
+    let put-entry = c .before .before .put-entry in
+    (back-cleared _ _ _ _ (pre .1) _ (place-address .ensures) _ (clear-back .ensures), mark-removed _ _ _ _ (put-entry .ensures))
 
 pub settle-place-spec : {M : Type 1} → statement M
 settle-place-spec =

@@ -2,12 +2,6 @@ use Rattle.store.proofs.Writes.{copy-writes}
 use borrow.Author.Needs.{needs}
 use Rattle.store.proofs.versions.append_copy.Statement.{statement}
 use Rattle.store.proofs.versions.append_copy.Tie as tie
-use Rattle.store.proofs.versions.append_copy.Reads as reads
-use Rattle.store.proofs.versions.append_copy.Lts as lts
-use Rattle.layout.proofs.control.put_end.Reads as put-end-reads
-use Rattle.layout.proofs.entry.place_address.Reads as place-address-reads
-use Rattle.layout.proofs.sizes.end_moved.Reads as end-moved-reads
-use Rattle.record.proofs.writer.copy_record.Reads as copy-record-reads
 
 cast-stop : tie.Need-cast-stop
 cast-stop c = search needs

@@ -2,11 +2,6 @@ use Rattle.store.proofs.Results.{delete-refused, delete-append-asks, de
 use borrow.Author.Needs.{needs}
 use Rattle.store.proofs.versions.delete.Statement.{statement}
 use Rattle.store.proofs.versions.delete.Tie as tie
-use Rattle.store.proofs.versions.delete.Reads as reads
-use Rattle.store.proofs.versions.delete.Lts as lts
-use Rattle.store.proofs.versions.delete_at_end.Reads as delete-at-end-reads
-use Rattle.store.proofs.versions.delete_in_place.Reads as delete-in-place-reads
-use Rattle.store.proofs.versions.plan_delete.Reads as plan-delete-reads
 
 plan-delete-requires : tie.Need-plan-delete-requires
 plan-delete-requires c κs = search needs
@@ -15,13 +10,19 @@ enum-known-plan : tie.Need-enum-known-plan
 enum-known-plan c = search needs
 
 delete-at-end-requires : tie.Need-delete-at-end-requires
-delete-at-end-requires c κs = delete-append-asks _ _ _ _ (c .before .before .before .before .before .plan-delete .ensures) _ _ _ (c .before .before .before .plan .given .1)
+delete-at-end-requires c κs =
+    let plan-delete = c .before .before .before .before .before .plan-delete in
+    let plan = c .before .before .before .plan in
+    delete-append-asks _ _ _ _ (plan-delete .ensures) _ _ _ (plan .given .1)
 
 enum-known-plan-2 : tie.Need-enum-known-plan-2
 enum-known-plan-2 c = search needs
 
 delete-in-place-requires : tie.Need-delete-in-place-requires
-delete-in-place-requires c κs = delete-in-place-asks _ _ _ _ (c .before .before .before .before .before .plan-delete .ensures) _ _ (c .before .before .before .plan2 .given .1)
+delete-in-place-requires c κs =
+    let plan-delete = c .before .before .before .before .before .plan-delete in
+    let plan2 = c .before .before .before .plan2 in
+    delete-in-place-asks _ _ _ _ (plan-delete .ensures) _ _ (plan2 .given .1)
 
 enum-known-plan-3 : tie.Need-enum-known-plan-3
 enum-known-plan-3 c = search needs
@@ -33,7 +34,11 @@ same-length-2 : tie.Need-same-length-2
 same-length-2 c = search needs
 
 returns : tie.Need-returns
-returns c = delete-copied _ _ _ _ (c .before .before .before .before .before .before .before .before .before .before .plan-delete .ensures) _ _ _ (c .before .before .before .before .before .before .before .before .plan .given .1) _ _ (c .before .before .before .before .delete-at-end .ensures .0) (c .before .before .before .before .delete-at-end .ensures .1)
+returns c =
+    let plan-delete = c .before .before .before .before .before .before .before .before .before .before .plan-delete in
+    let plan = c .before .before .before .before .before .before .before .before .plan in
+    let delete-at-end = c .before .before .before .before .delete-at-end in
+    delete-copied _ _ _ _ (plan-delete .ensures) _ _ _ (plan .given .1) _ _ (delete-at-end .ensures .0) (delete-at-end .ensures .1)
 
 same-length-3 : tie.Need-same-length-3
 same-length-3 c = search needs
@@ -42,7 +47,11 @@ same-length-4 : tie.Need-same-length-4
 same-length-4 c = search needs
 
 returns-2 : tie.Need-returns-2
-returns-2 c = delete-marked _ _ _ _ (c .before .before .before .before .before .before .before .before .before .before .plan-delete .ensures) _ _ (c .before .before .before .before .before .before .before .before .plan2 .given .1) _ _ (c .before .before .before .before .delete-in-place .ensures .0) (c .before .before .before .before .delete-in-place .ensures .1)
+returns-2 c =
+    let plan-delete = c .before .before .before .before .before .before .before .before .before .before .plan-delete in
+    let plan2 = c .before .before .before .before .before .before .before .before .plan2 in
+    let delete-in-place = c .before .before .before .before .delete-in-place in
+    delete-marked _ _ _ _ (plan-delete .ensures) _ _ (plan2 .given .1) _ _ (delete-in-place .ensures .0) (delete-in-place .ensures .1)
 
 same-length-5 : tie.Need-same-length-5
 same-length-5 c = search needs

@@ -4,13 +4,6 @@ use Rattle.store.proofs.Writes.{at-end-version, size-version, copy-vers
 use borrow.Author.Needs.{needs}
 use Rattle.store.proofs.versions.delete_at_end.Statement.{statement}
 use Rattle.store.proofs.versions.delete_at_end.Tie as tie
-use Rattle.store.proofs.versions.delete_at_end.Reads as reads
-use Rattle.store.proofs.versions.delete_at_end.Lts as lts
-use Rattle.layout.proofs.cross_reference.put_entry.Reads as put-entry-reads
-use Rattle.store.proofs.create.end_place.Reads as end-place-reads
-use Rattle.store.proofs.versions.append_copy.Reads as append-copy-reads
-use Rattle.store.proofs.versions.own_need.Reads as own-need-reads
-use Rattle.store.proofs.versions.version_leader.Reads as version-leader-reads
 
 own-need-requires : tie.Need-own-need-requires
 own-need-requires c κs = search needs
@@ -37,7 +30,14 @@ same-length-2 : tie.Need-same-length-2
 same-length-2 c = search needs
 
 returns : tie.Need-returns
-returns c = (copy-versioned _ _ _ _ _ _ _ _ _ (c .before .before .before .before .before .before .before .before .before .before .before .before .before .before .pre .1 .0) (c .before .before .before .before .before .before .before .before .before .before .own-need .ensures .0) (c .before .before .before .before .before .before .before .before .before .version-leader .ensures .0) (c .before .before .before .before .before .before .before .append-copy .ensures), entered _ _ _ _ _ _ _ _ _ _ (c .before .before .before .before .before .before .before .before .before .before .before .before .before .before .pre .1 .1) refl (c .before .before .before .before .end-place .ensures .0) (c .before .before .put-entry .ensures))
+returns c =
+    let pre = c .before .before .before .before .before .before .before .before .before .before .before .before .before .before .pre in
+    let own-need = c .before .before .before .before .before .before .before .before .before .before .own-need in
+    let version-leader = c .before .before .before .before .before .before .before .before .before .version-leader in
+    let append-copy = c .before .before .before .before .before .before .before .append-copy in
+    let end-place = c .before .before .before .before .end-place in
+    let put-entry = c .before .before .put-entry in
+    (copy-versioned _ _ _ _ _ _ _ _ _ (pre .1 .0) (own-need .ensures .0) (version-leader .ensures .0) (append-copy .ensures), entered _ _ _ _ _ _ _ _ _ _ (pre .1 .1) refl (end-place .ensures .0) (put-entry .ensures))
 
 pub delete-at-end-spec : {M : Type 1} → statement M
 delete-at-end-spec =

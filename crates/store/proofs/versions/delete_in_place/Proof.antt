@@ -2,12 +2,6 @@ use Rattle.store.proofs.Writes.{tail-readable, same-mfrl, rewritten}
 use borrow.Author.Needs.{needs}
 use Rattle.store.proofs.versions.delete_in_place.Statement.{statement}
 use Rattle.store.proofs.versions.delete_in_place.Tie as tie
-use Rattle.store.proofs.versions.delete_in_place.Reads as reads
-use Rattle.store.proofs.versions.delete_in_place.Lts as lts
-use Rattle.layout.proofs.cross_reference.put_entry.Reads as put-entry-reads
-use Rattle.layout.proofs.entry.place_address.Reads as place-address-reads
-use Rattle.record.proofs.writer.rewrite_record.Reads as rewrite-record-reads
-use Rattle.store.proofs.versions.version_leader.Reads as version-leader-reads
 
 version-leader-requires : tie.Need-version-leader-requires
 version-leader-requires c κs = search needs

@@ -2,11 +2,6 @@ use Rattle.store.proofs.Writes.{own-lent-readable, own-counted, own-nee
 use borrow.Author.Needs.{needs}
 use Rattle.store.proofs.versions.own_need.Statement.{statement}
 use Rattle.store.proofs.versions.own_need.Tie as tie
-use Rattle.store.proofs.versions.own_need.Reads as reads
-use Rattle.store.proofs.versions.own_need.Lts as lts
-use Rattle.layout.proofs.entry.place_address.Reads as place-address-reads
-use Rattle.record.proofs.draft.need.Reads as need-reads
-use Rattle.record.proofs.fields.data_length.Reads as data-length-reads
 
 place-address-requires : tie.Need-place-address-requires
 place-address-requires c κs = search needs
@@ -27,10 +22,16 @@ data-length-requires : tie.Need-data-length-requires
 data-length-requires c κs = search own-lent-readable
 
 need-requires : tie.Need-need-requires
-need-requires c κs = own-counted _ _ _ _ (c .before .before .before .before .before .pre) _ (c .before .before .before .place-address .ensures) _ (c .data-length .ensures)
+need-requires c κs =
+    let pre = c .before .before .before .before .before .pre in
+    let place-address = c .before .before .before .place-address in
+    own-counted _ _ _ _ (pre) _ (place-address .ensures) _ (c .data-length .ensures)
 
 returns : tie.Need-returns
-returns c = own-need _ _ _ _ (c .before .before .before .before .before .before .pre) _ (c .before .before .before .before .place-address .ensures) _ (c .before .data-length .ensures) _ (c .need .ensures)
+returns c =
+    let pre = c .before .before .before .before .before .before .pre in
+    let place-address = c .before .before .before .before .place-address in
+    own-need _ _ _ _ (pre) _ (place-address .ensures) _ (c .before .data-length .ensures) _ (c .need .ensures)
 
 pub own-need-spec : {M : Type 1} → statement M
 own-need-spec =

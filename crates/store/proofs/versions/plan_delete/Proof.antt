@@ -2,14 +2,6 @@ use Rattle.store.proofs.Plans.{room-asked, delete-plans}
 use borrow.Author.Needs.{needs}
 use Rattle.store.proofs.versions.plan_delete.Statement.{statement}
 use Rattle.store.proofs.versions.plan_delete.Tie as tie
-use Rattle.store.proofs.versions.plan_delete.Reads as reads
-use Rattle.store.proofs.versions.plan_delete.Lts as lts
-use Rattle.store.proofs.gate.find_record.Reads as find-record-reads
-use Rattle.store.proofs.gate.open_gate.Reads as open-gate-reads
-use Rattle.store.proofs.versions.own_need.Reads as own-need-reads
-use Rattle.store.proofs.versions.plan_room.Reads as plan-room-reads
-use Rattle.store.proofs.views.gate_answer.Reads as gate-answer-reads
-use Rattle.store.proofs.views.known_answer.Reads as known-answer-reads
 
 open-gate-requires : tie.Need-open-gate-requires
 open-gate-requires c κs = search needs
@@ -54,7 +46,10 @@ own-need-requires : tie.Need-own-need-requires
 own-need-requires c κs = search delete-plans
 
 plan-room-requires : tie.Need-plan-room-requires
-plan-room-requires c κs = room-asked _ _ _ (c .before .before .before .before .before .before .before .before .before .before .before .open-gate .ensures) _ _ (c .before .before .before .before .before .before .before .before .before .g .given .1) _ (c .own-need .ensures .2)
+plan-room-requires c κs =
+    let open-gate = c .before .before .before .before .before .before .before .before .before .before .before .open-gate in
+    let the-g = c .before .before .before .before .before .before .before .before .before .g in
+    room-asked _ _ _ (open-gate .ensures) _ _ (the-g .given .1) _ (c .own-need .ensures .2)
 
 returns-5 : tie.Need-returns-5
 returns-5 c = search delete-plans

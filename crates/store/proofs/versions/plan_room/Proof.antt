@@ -2,8 +2,6 @@ use Rattle.store.proofs.Plans.{room-plans}
 use borrow.Author.Needs.{needs}
 use Rattle.store.proofs.versions.plan_room.Statement.{statement}
 use Rattle.store.proofs.versions.plan_room.Tie as tie
-use Rattle.store.proofs.versions.plan_room.Reads as reads
-use Rattle.store.proofs.versions.plan_room.Lts as lts
 
 returns : tie.Need-returns
 returns c = search room-plans

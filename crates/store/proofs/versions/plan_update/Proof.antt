@@ -3,16 +3,6 @@ use Rattle.store.proofs.Plans.{draft-room-asked, update-plans}
 use borrow.Author.Needs.{needs}
 use Rattle.store.proofs.versions.plan_update.Statement.{statement}
 use Rattle.store.proofs.versions.plan_update.Tie as tie
-use Rattle.store.proofs.versions.plan_update.Reads as reads
-use Rattle.store.proofs.versions.plan_update.Lts as lts
-use Rattle.record.proofs.draft.draft_right.Reads as draft-right-reads
-use Rattle.record.proofs.draft.need.Reads as need-reads
-use Rattle.store.proofs.gate.find_record.Reads as find-record-reads
-use Rattle.store.proofs.gate.open_gate.Reads as open-gate-reads
-use Rattle.store.proofs.versions.plan_room.Reads as plan-room-reads
-use Rattle.store.proofs.versions.update_appends.Reads as update-appends-reads
-use Rattle.store.proofs.views.gate_answer.Reads as gate-answer-reads
-use Rattle.store.proofs.views.known_answer.Reads as known-answer-reads
 
 open-gate-requires : tie.Need-open-gate-requires
 open-gate-requires c κs = search needs
@@ -54,13 +44,21 @@ returns-4 : tie.Need-returns-4
 returns-4 c = search update-plans
 
 need-requires : tie.Need-need-requires
-need-requires c κs = draft-counted _ _ _ _ (c .before .before .before .before .before .before .draft-right .ensures) (c .before .before .before .before .before .if1 .left)
+need-requires c κs =
+    let draft-right = c .before .before .before .before .before .before .draft-right in
+    let if1 = c .before .before .before .before .before .if1 in
+    draft-counted _ _ _ _ (draft-right .ensures) (if1 .left)
 
 update-appends-requires : tie.Need-update-appends-requires
 update-appends-requires c κs = search needs
 
 plan-room-requires : tie.Need-plan-room-requires
-plan-room-requires c κs = draft-room-asked _ _ _ (c .before .before .before .before .before .before .before .before .before .before .before .before .open-gate .ensures) _ _ (c .before .before .before .before .before .before .before .before .before .before .g .given .1) _ _ _ _ _ (c .before .before .before .before .before .before .before .before .draft-right .ensures) (c .before .before .before .before .before .before .before .if1 .left) (c .before .need .ensures)
+plan-room-requires c κs =
+    let open-gate = c .before .before .before .before .before .before .before .before .before .before .before .before .open-gate in
+    let the-g = c .before .before .before .before .before .before .before .before .before .before .g in
+    let draft-right = c .before .before .before .before .before .before .before .before .draft-right in
+    let if1 = c .before .before .before .before .before .before .before .if1 in
+    draft-room-asked _ _ _ (open-gate .ensures) _ _ (the-g .given .1) _ _ _ _ _ (draft-right .ensures) (if1 .left) (c .before .need .ensures)
 
 returns-5 : tie.Need-returns-5
 returns-5 c = search update-plans

@@ -2,11 +2,6 @@ use Rattle.store.proofs.Results.{update-refused, update-append-asks, up
 use borrow.Author.Needs.{needs}
 use Rattle.store.proofs.versions.update.Statement.{statement}
 use Rattle.store.proofs.versions.update.Tie as tie
-use Rattle.store.proofs.versions.update.Reads as reads
-use Rattle.store.proofs.versions.update.Lts as lts
-use Rattle.store.proofs.versions.plan_update.Reads as plan-update-reads
-use Rattle.store.proofs.versions.update_at_end.Reads as update-at-end-reads
-use Rattle.store.proofs.versions.update_in_place.Reads as update-in-place-reads
 
 plan-update-requires : tie.Need-plan-update-requires
 plan-update-requires c κs = search needs
@@ -15,7 +10,10 @@ enum-known-plan : tie.Need-enum-known-plan
 enum-known-plan c = search needs
 
 update-at-end-requires : tie.Need-update-at-end-requires
-update-at-end-requires c κs = update-append-asks _ _ _ _ _ _ _ (c .before .before .before .before .before .plan-update .ensures) _ _ _ (c .before .before .before .plan .given .1)
+update-at-end-requires c κs =
+    let plan-update = c .before .before .before .before .before .plan-update in
+    let plan = c .before .before .before .plan in
+    update-append-asks _ _ _ _ _ _ _ (plan-update .ensures) _ _ _ (plan .given .1)
 
 enum-known-plan-2 : tie.Need-enum-known-plan-2
 enum-known-plan-2 c = search needs
@@ -33,7 +31,11 @@ same-length-2 : tie.Need-same-length-2
 same-length-2 c = search needs
 
 returns : tie.Need-returns
-returns c = update-appended _ _ _ _ _ _ _ (c .before .before .before .before .before .before .before .before .before .before .plan-update .ensures) _ _ _ (c .before .before .before .before .before .before .before .before .plan .given .1) _ _ (c .before .before .before .before .update-at-end .ensures .0) (c .before .before .before .before .update-at-end .ensures .1)
+returns c =
+    let plan-update = c .before .before .before .before .before .before .before .before .before .before .plan-update in
+    let plan = c .before .before .before .before .before .before .before .before .plan in
+    let update-at-end = c .before .before .before .before .update-at-end in
+    update-appended _ _ _ _ _ _ _ (plan-update .ensures) _ _ _ (plan .given .1) _ _ (update-at-end .ensures .0) (update-at-end .ensures .1)
 
 same-length-3 : tie.Need-same-length-3
 same-length-3 c = search needs
@@ -42,7 +44,11 @@ same-length-4 : tie.Need-same-length-4
 same-length-4 c = search needs
 
 returns-2 : tie.Need-returns-2
-returns-2 c = update-replaced _ _ _ _ _ _ _ (c .before .before .before .before .before .before .before .plan-update .ensures) _ _ (c .before .before .before .before .before .plan2 .given .1) _ (c .before .before .update-in-place .ensures)
+returns-2 c =
+    let plan-update = c .before .before .before .before .before .before .before .plan-update in
+    let plan2 = c .before .before .before .before .before .plan2 in
+    let update-in-place = c .before .before .update-in-place in
+    update-replaced _ _ _ _ _ _ _ (plan-update .ensures) _ _ (plan2 .given .1) _ (update-in-place .ensures)
 
 same-length-5 : tie.Need-same-length-5
 same-length-5 c = search needs

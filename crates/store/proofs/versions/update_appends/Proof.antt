@@ -2,8 +2,6 @@ use Rattle.store.proofs.Plans.{append-tests}
 use borrow.Author.Needs.{needs}
 use Rattle.store.proofs.versions.update_appends.Statement.{statement}
 use Rattle.store.proofs.versions.update_appends.Tie as tie
-use Rattle.store.proofs.versions.update_appends.Reads as reads
-use Rattle.store.proofs.versions.update_appends.Lts as lts
 
 enum-told : tie.Need-enum-told
 enum-told c = search needs

@@ -2,14 +2,6 @@ use Rattle.store.proofs.Writes.{at-end-version, size-version, draft-ver
 use borrow.Author.Needs.{needs}
 use Rattle.store.proofs.versions.update_at_end.Statement.{statement}
 use Rattle.store.proofs.versions.update_at_end.Tie as tie
-use Rattle.store.proofs.versions.update_at_end.Reads as reads
-use Rattle.store.proofs.versions.update_at_end.Lts as lts
-use Rattle.layout.proofs.cross_reference.put_entry.Reads as put-entry-reads
-use Rattle.record.proofs.draft.need.Reads as need-reads
-use Rattle.store.proofs.create.append_draft.Reads as append-draft-reads
-use Rattle.store.proofs.create.end_place.Reads as end-place-reads
-use Rattle.store.proofs.versions.pending_mark.Reads as pending-mark-reads
-use Rattle.store.proofs.versions.version_leader.Reads as version-leader-reads
 
 need-requires : tie.Need-need-requires
 need-requires c κs = search needs
@@ -42,7 +34,15 @@ same-length-2 : tie.Need-same-length-2
 same-length-2 c = search needs
 
 returns : tie.Need-returns
-returns c = (draft-versioned _ _ _ _ _ _ _ _ _ _ _ (c .before .before .before .before .before .before .before .before .before .before .before .before .before .before .before .before .before .pre .1 .0) (c .before .before .before .before .before .before .before .before .before .before .before .need .ensures) (c .before .before .before .before .before .before .before .before .before .before .version-leader .ensures .0) (c .before .before .before .before .before .before .before .before .append-draft .ensures), entered _ _ _ _ _ _ _ _ _ _ (c .before .before .before .before .before .before .before .before .before .before .before .before .before .before .before .before .before .pre .1 .1) (c .before .before .before .before .before .pending-mark .ensures) (c .before .before .before .before .end-place .ensures .0) (c .before .before .put-entry .ensures))
+returns c =
+    let pre = c .before .before .before .before .before .before .before .before .before .before .before .before .before .before .before .before .before .pre in
+    let need = c .before .before .before .before .before .before .before .before .before .before .before .need in
+    let version-leader = c .before .before .before .before .before .before .before .before .before .before .version-leader in
+    let append-draft = c .before .before .before .before .before .before .before .before .append-draft in
+    let pending-mark = c .before .before .before .before .before .pending-mark in
+    let end-place = c .before .before .before .before .end-place in
+    let put-entry = c .before .before .put-entry in
+    (draft-versioned _ _ _ _ _ _ _ _ _ _ _ (pre .1 .0) (need .ensures) (version-leader .ensures .0) (append-draft .ensures), entered _ _ _ _ _ _ _ _ _ _ (pre .1 .1) (pending-mark .ensures) (end-place .ensures .0) (put-entry .ensures))
 
 pub update-at-end-spec : {M : Type 1} → statement M
 update-at-end-spec =

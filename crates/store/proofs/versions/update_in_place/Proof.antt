@@ -2,11 +2,6 @@ use Rattle.store.proofs.Writes.{in-place-asked, draft-in-place}
 use borrow.Author.Needs.{needs}
 use Rattle.store.proofs.versions.update_in_place.Statement.{statement}
 use Rattle.store.proofs.versions.update_in_place.Tie as tie
-use Rattle.store.proofs.versions.update_in_place.Reads as reads
-use Rattle.store.proofs.versions.update_in_place.Lts as lts
-use Rattle.layout.proofs.entry.place_address.Reads as place-address-reads
-use Rattle.record.proofs.writer.write_record.Reads as write-record-reads
-use Rattle.store.proofs.versions.version_leader.Reads as version-leader-reads
 
 cast-version-leader : tie.Need-cast-version-leader
 cast-version-leader c = search needs
@@ -27,13 +22,22 @@ part-write-record-end : tie.Need-part-write-record-end
 part-write-record-end c = search needs
 
 write-record-requires : tie.Need-write-record-requires
-write-record-requires c κs = in-place-asked (c .before .before .before .before .before .before .before .args .mst .now) (c .before .before .before .before .before .before .before .args .place) (c .before .before .before .before .before .before .before .args .leader) (c .before .before .version-leader .result) _ _ _ _ (c .before .before .before .before .before .before .before .pre .1 .0) (c .before .place-address .ensures) (c .before .before .before .before .before .before .before .pre .1 .1) (c .before .before .version-leader .ensures .1) (c .before .before .before .before .before .before .before .pre .0 .1)
+write-record-requires c κs =
+    let args = c .before .before .before .before .before .before .before .args in
+    let pre = c .before .before .before .before .before .before .before .pre in
+    let version-leader = c .before .before .version-leader in
+    in-place-asked (args .mst .now) (args .place) (args .leader) (version-leader .result) _ _ _ _ (pre .1 .0) (c .before .place-address .ensures) (pre .1 .1) (version-leader .ensures .1) (pre .0 .1)
 
 same-length : tie.Need-same-length
 same-length c = search needs
 
 returns : tie.Need-returns
-returns c = draft-in-place _ _ _ _ _ _ _ _ (c .before .before .before .before .before .before .before .before .before .before .pre .1 .0) (c .before .before .before .before .place-address .ensures) _ _ _ (c .before .before .before .before .before .version-leader .ensures .0) (c .before .before .write-record .ensures)
+returns c =
+    let pre = c .before .before .before .before .before .before .before .before .before .before .pre in
+    let version-leader = c .before .before .before .before .before .version-leader in
+    let place-address = c .before .before .before .before .place-address in
+    let write-record = c .before .before .write-record in
+    draft-in-place _ _ _ _ _ _ _ _ (pre .1 .0) (place-address .ensures) _ _ _ (version-leader .ensures .0) (write-record .ensures)
 
 pub update-in-place-spec : {M : Type 1} → statement M
 update-in-place-spec =

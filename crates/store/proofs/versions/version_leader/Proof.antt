@@ -3,9 +3,6 @@ use Rattle.store.proofs.Writes.{leader-settled, leader-pending}
 use borrow.Author.Needs.{needs}
 use Rattle.store.proofs.versions.version_leader.Statement.{statement}
 use Rattle.store.proofs.versions.version_leader.Tie as tie
-use Rattle.store.proofs.versions.version_leader.Reads as reads
-use Rattle.store.proofs.versions.version_leader.Lts as lts
-use Rattle.record.proofs.writer.leader_for.Reads as leader-for-reads
 
 enum-told : tie.Need-enum-told
 enum-told c = search needs
