@@ -1,4 +1,5 @@
-//! The whole check at doubling sizes, on cards full of records of about a kilobyte.
+//! The whole check at doubling sizes: on cards full of records of about a kilobyte, and on
+//! cards of small records, most of them versions that were settled long ago.
 
 use crate::cards::{Buffers, draft};
 use crate::clock::{both, row, time};
@@ -9,23 +10,30 @@ use std::hint::black_box;
 
 /// From 1 MB to `most` MB.
 pub fn run(most: usize) {
-    let mut megabytes = 1;
-    while megabytes <= most {
-        one(megabytes);
-        megabytes *= 2;
+    let sizes = || (0..).map(|power| 1 << power).take_while(|mb| *mb <= most);
+    for megabytes in sizes() {
+        one(&format!("check, {megabytes} MB"), megabytes, filled);
+    }
+    for megabytes in sizes() {
+        let name = format!("check, {megabytes} MB of small records");
+        one(&name, megabytes, grown);
     }
 }
 
-/// A card of so many megabytes, filled up; every third record has a change pending.
-fn filled(megabytes: usize) -> Buffers {
-    let draft = draft(12, 80);
-    let bytes = (megabytes << 20).min(1_048_575 * 512);
-    let records = bytes / 1_050;
+/// An empty card of so many megabytes with so many MFNs.
+fn empty(megabytes: usize, mfns: usize) -> Buffers {
     let mut card = Buffers {
-        mst: vec![0; bytes],
-        xrf: vec![0; records.div_ceil(127) * 512],
+        mst: vec![0; (megabytes << 20).min(1_048_575 * 512)],
+        xrf: vec![0; mfns.div_ceil(127) * 512],
     };
     store::format(&mut card.mst, &mut card.xrf).expect("a permitted size");
+    card
+}
+
+/// A card filled up with records of a kilobyte; every third has a change pending.
+fn filled(megabytes: usize) -> Buffers {
+    let draft = draft(12, 80);
+    let mut card = empty(megabytes, (megabytes << 20) / 1_050);
     while let Ok(mfn) = store::create(&mut card.mst, &mut card.xrf, &draft.lent()) {
         store::settle(&mut card.mst, &mut card.xrf, mfn).expect("a new record");
         if mfn % 3 == 0 {
@@ -36,8 +44,28 @@ fn filled(megabytes: usize) -> Buffers {
     card
 }
 
-fn one(megabytes: usize) {
-    let mut card = filled(megabytes);
+/// A card of 46-byte records: 1,016 MFNs to a megabyte (520,192 to 512 MB, all that an XRF
+/// has), each updated and settled in turn until the card is full.
+fn grown(megabytes: usize) -> Buffers {
+    let draft = draft(2, 8);
+    let mfns = 1_016 * megabytes;
+    let mut card = empty(megabytes, mfns);
+    for _ in 0..mfns {
+        let made = store::create(&mut card.mst, &mut card.xrf, &draft.lent());
+        let mfn = made.expect("room for every MFN");
+        store::settle(&mut card.mst, &mut card.xrf, mfn).expect("a new record");
+    }
+    for mfn in (1..=mfns as u32).cycle() {
+        if store::update(&mut card.mst, &mut card.xrf, mfn, &draft.lent()).is_err() {
+            return card;
+        }
+        store::settle(&mut card.mst, &mut card.xrf, mfn).expect("a changed record");
+    }
+    card
+}
+
+fn one(name: &str, megabytes: usize, make: fn(usize) -> Buffers) {
+    let mut card = make(megabytes);
     let rounds = if megabytes <= 64 { 11 } else { 5 };
     let checked = Card::over(&mut card.mst, &mut card.xrf);
     let times = both(
@@ -45,5 +73,5 @@ fn one(megabytes: usize) {
         || time(|| assert_eq!(checked.check(), Ok(()))),
         || time(|| assert_eq!(plain::check(black_box(checked.mst()), checked.xrf()), 0)),
     );
-    row(&format!("check, {megabytes} MB"), times, 1);
+    row(name, times, 1);
 }
