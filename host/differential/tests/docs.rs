@@ -1,5 +1,5 @@
-//! What docs/TRACE.md and docs/PROMISES.md name is there: definitions, laws, functions,
-//! tests and must-fail edits. A trace that points nowhere would be worse than none.
+//! What the pages of docs/ name is there: definitions, laws, functions, tests, must-fail
+//! edits and files. A trace that points nowhere would be worse than none.
 
 use std::collections::BTreeSet;
 use std::fs;
@@ -78,8 +78,11 @@ fn missing(word: &str) -> Option<String> {
                 begins(line, test)
             }),
         },
-        [_, _, ..] if !word.contains(['…', ' ']) => (!root().join(word).exists())
-            .then(|| format!("{word}: there is no such file or folder")),
+        [_, _, ..] if !word.contains(['…', ' ']) => {
+            let there = |folder: &str| root().join(folder).join(word).exists();
+            (!there("") && !there("crates"))
+                .then(|| format!("{word}: there is no such file or folder"))
+        }
         [one] => match one.split("::").collect::<Vec<_>>()[..] {
             [krate, module, name] => has(format!("crates/{krate}/src/{module}.rt"), &|line| {
                 begins(line, name)
@@ -106,6 +109,12 @@ fn every_name_of_the_trace_is_there() {
 #[test]
 fn every_name_of_the_promises_is_there() {
     all_are_there("docs/PROMISES.md", 40);
+}
+
+#[test]
+fn every_name_of_the_other_pages_is_there() {
+    all_are_there("docs/ARCHITECTURE.md", 20);
+    all_are_there("docs/DECISIONS.md", 5);
 }
 
 #[test]
