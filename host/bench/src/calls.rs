@@ -7,9 +7,27 @@ use crate::plain;
 use isis::{Card, Lists};
 use model::OwnedDraft;
 use std::hint::black_box;
+use std::time::Duration;
 
 const ROUNDS: usize = 15;
 const RECORDS: usize = 1_000;
+
+/// The time of a call of the library on every record of a card that is copied first.
+fn afresh(
+    card: &mut Buffers,
+    base: &Buffers,
+    calls: usize,
+    wanted: u32,
+    library: &impl Fn(&mut Card, u32) -> u32,
+) -> Duration {
+    card.copy_from(base);
+    let mut card = Card::over(&mut card.mst, &mut card.xrf);
+    time(|| {
+        for mfn in 1..=calls as u32 {
+            assert_eq!(library(&mut card, black_box(mfn)), wanted);
+        }
+    })
+}
 
 /// Times a call on every record of a card, both ways; all must answer `wanted`.
 fn measure(
@@ -24,15 +42,7 @@ fn measure(
     let mut second = base.clone();
     let times = both(
         ROUNDS,
-        || {
-            first.copy_from(base);
-            let mut card = Card::over(&mut first.mst, &mut first.xrf);
-            time(|| {
-                for mfn in 1..=calls as u32 {
-                    assert_eq!(library(&mut card, black_box(mfn)), wanted);
-                }
-            })
-        },
+        || afresh(&mut first, base, calls, wanted, &library),
         || {
             second.copy_from(base);
             let (mst, xrf) = (&mut second.mst, &mut second.xrf);
@@ -276,15 +286,7 @@ fn against(
     let (mut first, mut second) = (base.clone(), base.clone());
     let times = both(
         ROUNDS,
-        || {
-            first.copy_from(base);
-            let mut card = Card::over(&mut first.mst, &mut first.xrf);
-            time(|| {
-                for mfn in 1..=calls as u32 {
-                    assert_eq!(library(&mut card, black_box(mfn)), 0);
-                }
-            })
-        },
+        || afresh(&mut first, base, calls, 0, &library),
         || {
             second.copy_from(base);
             time(|| {

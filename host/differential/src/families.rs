@@ -199,16 +199,8 @@ impl Family for Hostile {
         Some(Step::Call(match random.below(10) {
             0..=1 => Call::Create(lists::hostile_draft(random, Taste::SHORT)),
             2..=3 => Call::Update(mfn, lists::hostile_draft(random, Taste::SHORT)),
-            4 => Call::View {
-                mfn,
-                tag,
-                occurrence: random.next() as u32,
-            },
-            5 => Call::ViewSettled {
-                mfn,
-                tag: random.next() as u16,
-                occurrence,
-            },
+            4 => Call::view(mfn, tag, random.next() as u32),
+            5 => Call::view_settled(mfn, random.next() as u16, occurrence),
             6 => Call::Field {
                 mfn,
                 index: random.next() as usize,

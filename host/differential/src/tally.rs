@@ -5,22 +5,7 @@ use model::call::Call;
 use std::fmt;
 
 /// How many calls there are.
-const COUNT: usize = 11;
-
-/// The calls, in the order of the paper's list; then the fields by their index.
-pub const CALLS: [&str; COUNT] = [
-    "format",
-    "view",
-    "view settled",
-    "create",
-    "update",
-    "delete",
-    "settle",
-    "revert",
-    "check",
-    "field",
-    "field settled",
-];
+const COUNT: usize = Call::NAMES.len();
 
 /// The answers that the table of document 01 has for each call; a field by its index
 /// is answered as a view.
@@ -44,27 +29,10 @@ pub struct Tally {
     counts: [[usize; 15]; COUNT],
 }
 
-/// The place of a call in `CALLS`.
-fn index(call: &Call) -> usize {
-    match call {
-        Call::Format => 0,
-        Call::View { .. } => 1,
-        Call::ViewSettled { .. } => 2,
-        Call::Create(_) => 3,
-        Call::Update(..) => 4,
-        Call::Delete(_) => 5,
-        Call::Settle(_) => 6,
-        Call::Revert(_) => 7,
-        Call::Check => 8,
-        Call::Field { .. } => 9,
-        Call::FieldSettled { .. } => 10,
-    }
-}
-
 impl Tally {
     /// Counts an answer.
     pub fn add(&mut self, call: &Call, number: u32) {
-        self.counts[index(call)][number as usize] += 1;
+        self.counts[call.kind()][number as usize] += 1;
     }
 
     /// Adds another tally.
@@ -93,7 +61,7 @@ impl fmt::Display for Tally {
         for number in 0..15 {
             write!(f, "{number:>8}")?;
         }
-        for (name, counts) in CALLS.iter().zip(&self.counts) {
+        for (name, counts) in Call::NAMES.iter().zip(&self.counts) {
             write!(f, "\n{name:<13}")?;
             for count in counts {
                 match count {

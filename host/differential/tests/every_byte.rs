@@ -44,16 +44,8 @@ fn calls() -> Vec<Call> {
     ];
     for mfn in 1..=8 {
         calls.extend([
-            Call::View {
-                mfn,
-                tag: 70,
-                occurrence: 1,
-            },
-            Call::ViewSettled {
-                mfn,
-                tag: 70,
-                occurrence: 1,
-            },
+            Call::view(mfn, 70, 1),
+            Call::view_settled(mfn, 70, 1),
             Call::Field { mfn, index: 0 },
             Call::Field { mfn, index: 1 },
             Call::Field { mfn, index: 2 },

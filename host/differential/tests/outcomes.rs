@@ -68,11 +68,7 @@ mod subject {
         tag: u16,
         occurrence: u32,
     ) -> Answer<Range<usize>> {
-        let call = Call::View {
-            mfn,
-            tag,
-            occurrence,
-        };
+        let call = Call::view(mfn, tag, occurrence);
         read(mst, xrf, call).map(|given| given.part)
     }
 
@@ -83,11 +79,7 @@ mod subject {
         tag: u16,
         occurrence: u32,
     ) -> Answer<Range<usize>> {
-        let call = Call::ViewSettled {
-            mfn,
-            tag,
-            occurrence,
-        };
+        let call = Call::view_settled(mfn, tag, occurrence);
         read(mst, xrf, call).map(|given| given.part)
     }
 

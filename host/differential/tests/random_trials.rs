@@ -4,7 +4,8 @@
 use differential::damage::Damaged;
 use differential::families::{Family, FromFormat, Hostile, calls, drive};
 use differential::random_cards::RandomCards;
-use differential::tally::{ANSWERS, CALLS, Tally};
+use differential::tally::{ANSWERS, Tally};
+use model::Call;
 
 const FROM_FORMAT: usize = 600_000;
 const DAMAGED: usize = 500_000;
@@ -26,7 +27,7 @@ fn all_came(tally: &Tally, left_out: &[usize], times: usize) {
             assert!(
                 count >= times,
                 "{} answered {number} {count} times",
-                CALLS[call]
+                Call::NAMES[call]
             );
         }
     }
@@ -36,7 +37,7 @@ fn all_came(tally: &Tally, left_out: &[usize], times: usize) {
 fn lists_from_format() {
     let tally = run("lists from format", &mut FromFormat::new(), FROM_FORMAT);
     all_came(&tally, &[1, 2, 6, 7, 8, 14], calls(60));
-    for (call, name) in CALLS.iter().enumerate() {
+    for (call, name) in Call::NAMES.iter().enumerate() {
         for number in [1, 2, 6, 7, 8, 14] {
             assert_eq!(tally.count(call, number), 0, "{name} {number}");
         }
@@ -52,7 +53,7 @@ fn damaged_cards() {
 #[test]
 fn random_cards() {
     let tally = run("random cards", &mut RandomCards, RANDOM);
-    for (call, name) in CALLS.iter().enumerate() {
+    for (call, name) in Call::NAMES.iter().enumerate() {
         assert!(tally.count(call, 1) >= 10, "{name}");
     }
 }
@@ -62,6 +63,10 @@ fn hostile_arguments() {
     let tally = run("hostile arguments", &mut Hostile, HOSTILE);
     for (call, number) in [(3, 3), (4, 3), (9, 12), (10, 12)] {
         let count = tally.count(call, number);
-        assert!(count > calls(100), "{} {number}: {count}", CALLS[call]);
+        assert!(
+            count > calls(100),
+            "{} {number}: {count}",
+            Call::NAMES[call]
+        );
     }
 }

@@ -56,6 +56,58 @@ pub enum Call {
     FieldSettled { mfn: u32, index: usize },
 }
 
+impl Call {
+    /// What the calls are called, by their kind.
+    pub const NAMES: [&str; 11] = [
+        "format",
+        "view",
+        "settled view",
+        "create",
+        "update",
+        "delete",
+        "settle",
+        "revert",
+        "check",
+        "field",
+        "settled field",
+    ];
+
+    /// Which call it is: the nine in the order of document 01, then the two by index.
+    pub fn kind(&self) -> usize {
+        match self {
+            Call::Format => 0,
+            Call::View { .. } => 1,
+            Call::ViewSettled { .. } => 2,
+            Call::Create(_) => 3,
+            Call::Update(..) => 4,
+            Call::Delete(_) => 5,
+            Call::Settle(_) => 6,
+            Call::Revert(_) => 7,
+            Call::Check => 8,
+            Call::Field { .. } => 9,
+            Call::FieldSettled { .. } => 10,
+        }
+    }
+
+    /// A view of the current version.
+    pub fn view(mfn: u32, tag: u16, occurrence: u32) -> Call {
+        Call::View {
+            mfn,
+            tag,
+            occurrence,
+        }
+    }
+
+    /// A view of the settled version.
+    pub fn view_settled(mfn: u32, tag: u16, occurrence: u32) -> Call {
+        Call::ViewSettled {
+            mfn,
+            tag,
+            occurrence,
+        }
+    }
+}
+
 /// What a call gave: its answer number, the MFN of a create, the field that is shown,
 /// and its tag where the call names none.
 #[derive(Clone, Debug, PartialEq, Eq, Default)]

@@ -60,16 +60,8 @@ pub fn call(random: &mut Random, taste: Taste, next: usize) -> Call {
         8 => Call::Delete(mfn(random, next)),
         9..=11 => Call::Settle(mfn(random, next)),
         12..=13 => Call::Revert(mfn(random, next)),
-        14..=16 => Call::View {
-            mfn: mfn(random, next),
-            tag: tag(random),
-            occurrence: occurrence(random),
-        },
-        17..=18 => Call::ViewSettled {
-            mfn: mfn(random, next),
-            tag: tag(random),
-            occurrence: occurrence(random),
-        },
+        14..=16 => Call::view(mfn(random, next), tag(random), occurrence(random)),
+        17..=18 => Call::view_settled(mfn(random, next), tag(random), occurrence(random)),
         _ => Call::Check,
     }
 }

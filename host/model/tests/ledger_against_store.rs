@@ -30,7 +30,7 @@ fn run(seed: u64, blocks: (usize, usize), taste: Taste, calls: usize) -> BTreeSe
         assert_eq!(control.next_mfn, ledger.next_mfn(), "seed {seed}, call {i}");
         assert_eq!(control.end, ledger.end(), "seed {seed}, call {i}");
         assert!(sound::is_sound(&mst, &xrf), "seed {seed}, call {i}");
-        came.insert((kind(&call), outcome.number));
+        came.insert((call.kind() as u32, outcome.number));
     }
     every_field_is_shown(seed, &mut mst, &mut xrf, &mut ledger);
     came
@@ -43,16 +43,8 @@ fn every_field_is_shown(seed: u64, mst: &mut [u8], xrf: &mut [u8], ledger: &mut 
         for tag in [1, 24, 70, 32_767] {
             for occurrence in 1..4 {
                 for call in [
-                    Call::View {
-                        mfn,
-                        tag,
-                        occurrence,
-                    },
-                    Call::ViewSettled {
-                        mfn,
-                        tag,
-                        occurrence,
-                    },
+                    Call::view(mfn, tag, occurrence),
+                    Call::view_settled(mfn, tag, occurrence),
                 ] {
                     let (outcome, _) = on_bytes(mst, xrf, &call);
                     assert_eq!(outcome, on_ledger(ledger, &call), "seed {seed}: {call:?}");
@@ -68,22 +60,6 @@ fn every_field_is_shown(seed: u64, mst: &mut [u8], xrf: &mut [u8], ledger: &mut 
                 assert_eq!(outcome, on_ledger(ledger, &call), "seed {seed}: {call:?}");
             }
         }
-    }
-}
-
-fn kind(call: &Call) -> u32 {
-    match call {
-        Call::Format => 0,
-        Call::View { .. } => 1,
-        Call::ViewSettled { .. } => 2,
-        Call::Create(_) => 3,
-        Call::Update(..) => 4,
-        Call::Delete(_) => 5,
-        Call::Settle(_) => 6,
-        Call::Revert(_) => 7,
-        Call::Check => 8,
-        Call::Field { .. } => 9,
-        Call::FieldSettled { .. } => 10,
     }
 }
 

@@ -3,7 +3,6 @@
 //! of both versions, reverts after other records changed, every refusal, the MST full,
 //! and then a second catalogue over the first.
 
-use super::lists::{view, view_settled};
 use crate::call::{Call, OwnedDraft};
 
 /// MFNs that are given out before the changes begin.
@@ -59,7 +58,7 @@ fn creates(calls: &mut Vec<Call>) {
     for mfn in 1..=FIRST {
         calls.push(Call::Create(draft(mfn, 0)));
         if mfn % 5 == 0 {
-            calls.push(view(mfn, 24, 1 + mfn % 2));
+            calls.push(Call::view(mfn, 24, 1 + mfn % 2));
         }
     }
     calls.push(Call::Check);
@@ -110,11 +109,15 @@ fn looks(calls: &mut Vec<Call>) {
     for mfn in (1..=FIRST).step_by(3) {
         let tag = if mfn % 9 == 0 { 32_767 } else { 24 };
         let occurrence = 1 + mfn / 3 % 2;
-        calls.push(view(mfn, tag, occurrence));
-        calls.push(view_settled(mfn, tag, occurrence));
+        calls.push(Call::view(mfn, tag, occurrence));
+        calls.push(Call::view_settled(mfn, tag, occurrence));
     }
-    calls.extend((2..=FIRST).step_by(14).map(|mfn| view(mfn, 24, 1)));
-    calls.extend((2..=FIRST).step_by(14).map(|mfn| view_settled(mfn, 24, 1)));
+    calls.extend((2..=FIRST).step_by(14).map(|mfn| Call::view(mfn, 24, 1)));
+    calls.extend(
+        (2..=FIRST)
+            .step_by(14)
+            .map(|mfn| Call::view_settled(mfn, 24, 1)),
+    );
 }
 
 /// Reverts, with many records changed since; each is looked at. Some changes are
@@ -122,12 +125,12 @@ fn looks(calls: &mut Vec<Call>) {
 fn reverts(calls: &mut Vec<Call>) {
     for mfn in (1..=FIRST).step_by(5) {
         calls.push(Call::Revert(mfn));
-        calls.push(view(mfn, 24, 1));
+        calls.push(Call::view(mfn, 24, 1));
     }
     calls.extend((9..=FIRST).step_by(14).map(Call::Revert));
-    calls.extend((9..=FIRST).step_by(14).map(|mfn| view(mfn, 24, 1)));
+    calls.extend((9..=FIRST).step_by(14).map(|mfn| Call::view(mfn, 24, 1)));
     for mfn in (7..=FIRST).step_by(30) {
-        calls.extend([Call::Settle(mfn), view_settled(mfn, 24, 1)]);
+        calls.extend([Call::Settle(mfn), Call::view_settled(mfn, 24, 1)]);
         calls.push(Call::Revert(mfn));
     }
     calls.push(Call::Check);
@@ -161,13 +164,13 @@ fn bad_arguments(calls: &mut Vec<Call>) {
         calls.push(Call::Update(3, draft));
     }
     for mfn in [0, LAST + 1, 0x8000_0000, u32::MAX] {
-        calls.extend([view(mfn, 24, 1), view_settled(mfn, 24, 1)]);
+        calls.extend([Call::view(mfn, 24, 1), Call::view_settled(mfn, 24, 1)]);
         calls.extend([Call::Update(mfn, draft(2, 0)), Call::Delete(mfn)]);
         calls.extend([Call::Settle(mfn), Call::Revert(mfn)]);
     }
     let edges = [(0, 1), (65_535, 1), (24, 0), (24, u32::MAX), (70, 2)];
-    calls.extend(edges.map(|(tag, occurrence)| view(3, tag, occurrence)));
-    calls.extend(edges.map(|(tag, occurrence)| view_settled(3, tag, occurrence)));
+    calls.extend(edges.map(|(tag, occurrence)| Call::view(3, tag, occurrence)));
+    calls.extend(edges.map(|(tag, occurrence)| Call::view_settled(3, tag, occurrence)));
 }
 
 /// A long record deleted and taken back until the MST is full: each deletion is
@@ -181,23 +184,23 @@ fn until_full(calls: &mut Vec<Call>, mfn: u32, letters: usize, rounds: usize) {
     calls.extend([
         Call::Update(mfn, long(letters)),
         Call::Create(long(letters)),
-        view(mfn, 24, 1),
-        view_settled(mfn, 24, 1),
+        Call::view(mfn, 24, 1),
+        Call::view_settled(mfn, 24, 1),
         Call::Update(6, OwnedDraft::default()),
-        view(6, 24, 1),
+        Call::view(6, 24, 1),
         Call::Check,
     ]);
 }
 
 /// A second catalogue over the first, of which nothing is left.
 fn second_catalogue(calls: &mut Vec<Call>) {
-    calls.extend([Call::Format, Call::Check, view(1, 24, 1)]);
+    calls.extend([Call::Format, Call::Check, Call::view(1, 24, 1)]);
     for mfn in 1..=12 {
         calls.push(Call::Create(draft(mfn, 3)));
-        calls.push(view(mfn, 24, 1));
+        calls.push(Call::view(mfn, 24, 1));
     }
     calls.extend([Call::Settle(1), Call::Settle(2), Call::Delete(2)]);
-    calls.extend([view(2, 24, 1), view_settled(2, 24, 1)]);
+    calls.extend([Call::view(2, 24, 1), Call::view_settled(2, 24, 1)]);
     until_full(calls, 7, 700, 14);
-    calls.extend([Call::Revert(2), view(2, 24, 1), Call::Check]);
+    calls.extend([Call::Revert(2), Call::view(2, 24, 1), Call::Check]);
 }

@@ -24,22 +24,6 @@ fn title(text: &str) -> OwnedDraft {
     OwnedDraft::of(&[(24, text.as_bytes())])
 }
 
-pub(super) fn view(mfn: u32, tag: u16, occurrence: u32) -> Call {
-    Call::View {
-        mfn,
-        tag,
-        occurrence,
-    }
-}
-
-pub(super) fn view_settled(mfn: u32, tag: u16, occurrence: u32) -> Call {
-    Call::ViewSettled {
-        mfn,
-        tag,
-        occurrence,
-    }
-}
-
 /// A list on a store of one block and one block.
 fn small(title: &'static str, calls: &[Call]) -> List {
     List::of(title, (BLOCK, BLOCK), calls).room(30, 30)
@@ -52,10 +36,10 @@ pub fn worked_run() -> List {
         Call::Update(1, title("Kit")),
         Call::Settle(1),
         Call::Update(1, title("Kites")),
-        view(1, 24, 1),
-        view_settled(1, 24, 1),
+        Call::view(1, 24, 1),
+        Call::view_settled(1, 24, 1),
         Call::Revert(1),
-        view(1, 24, 1),
+        Call::view(1, 24, 1),
         Call::Check,
     ];
     small("the worked run", &calls)
@@ -102,8 +86,8 @@ fn ends() -> Vec<List> {
         two_blocks.extend([
             Call::Settle(mfn),
             Call::Update(mfn, title("Kite")),
-            view(mfn, 24, 1),
-            view_settled(mfn, 24, 1),
+            Call::view(mfn, 24, 1),
+            Call::view_settled(mfn, 24, 1),
             Call::Revert(mfn),
         ]);
     }
@@ -143,16 +127,16 @@ fn stops() -> Vec<List> {
         Call::Create(title("Kite")),
         Call::Update(1, bad),
         Call::Update(7, title("Seven")),
-        view(1, 24, 1),
+        Call::view(1, 24, 1),
         Call::Update(1, title("Kit")),
-        view(1, 24, 1),
+        Call::view(1, 24, 1),
     ];
     let again = [
         Call::Create(title("Kite")),
         Call::Format,
-        view(1, 24, 1),
+        Call::view(1, 24, 1),
         Call::Create(title("Kit")),
-        view(1, 24, 1),
+        Call::view(1, 24, 1),
     ];
     vec![
         small("an empty list", &[]).room(0, 0),
@@ -161,7 +145,7 @@ fn stops() -> Vec<List> {
         small("drafts left over", &taken[1..]).without_calls(5),
         small(
             "the highest tag of a view",
-            &[view(1, 65535, 1), view_settled(1, 65535, 1)],
+            &[Call::view(1, 65535, 1), Call::view_settled(1, 65535, 1)],
         ),
     ]
 }
@@ -215,12 +199,12 @@ fn malformed() -> Vec<List> {
 fn rooms() -> Vec<List> {
     let calls = [
         Call::Create(title("Kite")),
-        view(1, 24, 1),
-        view(1, 70, 1),
+        Call::view(1, 24, 1),
+        Call::view(1, 70, 1),
         Call::Create(title("Kites")),
-        view(2, 24, 1),
+        Call::view(2, 24, 1),
         Call::Create(title("")),
-        view(3, 24, 1),
+        Call::view(3, 24, 1),
     ];
     let list = |title_of_list, answers, shown| small(title_of_list, &calls).room(answers, shown);
     vec![

@@ -200,16 +200,8 @@ impl<'a> Left<'a> {
         let (&[call, mfn, second, third, fourth], rest) = self.numbers.split_first_chunk()?;
         let call = match call {
             0 => Call::Format,
-            1 => Call::View {
-                mfn,
-                tag: u16::try_from(second).ok()?,
-                occurrence: third,
-            },
-            2 => Call::ViewSettled {
-                mfn,
-                tag: u16::try_from(second).ok()?,
-                occurrence: third,
-            },
+            1 => Call::view(mfn, u16::try_from(second).ok()?, third),
+            2 => Call::view_settled(mfn, u16::try_from(second).ok()?, third),
             3 => Call::Create(self.next_draft(second, third, fourth)?),
             4 => Call::Update(mfn, self.next_draft(second, third, fourth)?),
             5 => Call::Delete(mfn),

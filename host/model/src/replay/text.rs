@@ -4,21 +4,12 @@
 //! them for the reader: a title, and the name of each call in front of its numbers.
 
 use super::{CALL, List, Replay, Stop};
+use crate::call::Call;
 use crate::layout::block_and_offset;
 use std::fmt::{Display, Write};
 
-/// The calls by their numbers.
-const NAMES: [&str; 9] = [
-    "format",
-    "view",
-    "settled view",
-    "create",
-    "update",
-    "delete",
-    "settle",
-    "revert",
-    "check",
-];
+/// How many calls a list can have: the nine of document 01, by their kind.
+const LISTED: usize = 9;
 
 /// Numbers of the three draft lists on one line.
 const PER_LINE: usize = 20;
@@ -52,7 +43,7 @@ pub fn list(list: &List) -> String {
 
 /// The name of the call that some numbers are, or begin with.
 fn name(numbers: &[u32]) -> &'static str {
-    let known = NAMES.get(numbers[0] as usize);
+    let known = Call::NAMES[..LISTED].get(numbers[0] as usize);
     known.copied().unwrap_or("no call")
 }
 
