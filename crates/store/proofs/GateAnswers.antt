@@ -11,7 +11,7 @@ use lib.ListN.{length}
 use borrow.Author.Tests.{lt-leb, le-ltb, not-true, not-false}
 use types.Run.{OneOf}
 use denote.Enum.Declared.{tagOf}
-use Rattle.word.specs.Place.{part}
+use Rattle.word.specs.Overwrite.{part}
 use Rattle.layout.specs.Sizes.{mstPermitted, xrfPermitted, capacityOf, addressOf}
 use Rattle.layout.specs.Entry.{wellPlaced, placeAddress}
 use Rattle.layout.specs.CrossReference.{entryAt}

@@ -9,8 +9,8 @@ use mathlib.Core.List.{List}
 use lib.Dec.{eqb}
 use borrow.Author.Tests.{lt-ltb, le-leb, eqb-true, eqb-false, eq-eqb, ne-eqb, not-false}
 use lib.ListN.{length}
-use Rattle.word.specs.Place.{part}
-use Rattle.word.proofs.Place.{part-short}
+use Rattle.word.specs.Overwrite.{part}
+use Rattle.word.proofs.Overwrite.{part-short}
 use Rattle.layout.specs.Sizes.{mstPermitted, xrfPermitted, capacityOf}
 use Rattle.layout.specs.Entry.{wellPlaced, placeAddress}
 use Rattle.layout.specs.Control.{nextOf, endOf}

@@ -7,7 +7,7 @@ use mathlib.Core.List.{List, []}
 use mir.Syntax.{w64}
 use mir.Val.{Fits}
 use lib.ListN.{length}
-use Rattle.word.specs.Place.{part}
+use Rattle.word.specs.Overwrite.{part}
 use Rattle.layout.specs.Entry.{placeAddress}
 use Rattle.layout.specs.Control.{endOf}
 use Rattle.layout.specs.declared.entry.Place.{Place}

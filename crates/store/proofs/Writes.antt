@@ -8,8 +8,8 @@ use mathlib.Core.Bool.{Bool, true, false}
 use mathlib.Core.List.{List}
 use lib.ListN.{length, replicate, length-take, length-drop, length-append}
 use borrow.Rule.Slice.PartMut.{midOf, putMid}
-use Rattle.word.specs.Place.{place}
-use Rattle.word.proofs.Place.{returned-front, returned-tail, tail-back}
+use Rattle.word.specs.Overwrite.{overwrite}
+use Rattle.word.proofs.Overwrite.{returned-front, returned-tail, tail-back}
 use Rattle.layout.specs.Sizes.{capacityOf, blockAt, offsetAt, endMoved}
 use Rattle.layout.specs.Entry.{placed, placeAddress}
 use Rattle.layout.specs.Control.{nextOf, endOf, withNext, withEnd}
@@ -58,7 +58,7 @@ module _ (mst : List ℕ) (end : ℕ) (l : Leader) (a : AtEnd mst end (l .mfrl))
   pub end-small : (moved : ℕ) → moved ≡ endMoved (end + l .mfrl) → moved < 2199023255040
   end-small moved e = omega (arith, end-moved-facts (end + l .mfrl))
 
-  pub draft-appended : (tail last : List ℕ) (moved : ℕ) (fs : List Field) → tail ≡ place (midOf end (length mst - end) mst) 0 (recordBytes l fs)
+  pub draft-appended : (tail last : List ℕ) (moved : ℕ) (fs : List Field) → tail ≡ overwrite (midOf end (length mst - end) mst) 0 (recordBytes l fs)
       → moved ≡ endMoved (end + l .mfrl) → last ≡ withEnd (putMid end (length mst - end) mst tail) moved → last ≡ appended mst l fs
   unfolding appended
   draft-appended tail last moved fs e n w = w ∙ rw (n, returned-front mst end (recordBytes l fs) e, a .end-is)
@@ -149,7 +149,7 @@ module _ (mst : List ℕ) (end : ℕ) (p : Place) (l : Leader) (r : RecordRead m
     same-mfrl k h = rw tail-leader h
 
     pub copy-appended : (k : Leader) (tail last : List ℕ) (moved : ℕ)
-        → tail ≡ place (midOf at (length mst - at) mst) (end - at) (recordBytes k (fieldsOf (midOf at (length mst - at) mst)))
+        → tail ≡ overwrite (midOf at (length mst - at) mst) (end - at) (recordBytes k (fieldsOf (midOf at (length mst - at) mst)))
         → moved ≡ endMoved (end + k .mfrl) → last ≡ withEnd (putMid at (length mst - at) mst tail) moved → last ≡ appended mst k (currentFields mst p)
     unfolding appended
     copy-appended k tail last moved t n w =
@@ -157,13 +157,13 @@ module _ (mst : List ℕ) (end : ℕ) (p : Place) (l : Leader) (r : RecordRead m
         w ∙ rw (n, returned-tail mst at (end - at) (recordBytes k (fieldsOf (midOf at (length mst - at) mst))) t, s, tail-fields, r .end-is)
 
     pub rewritten : (m : ℕ) (k : Leader) (tail : List ℕ) → k ≡ versionLeader m p l (l .mfrl) true (l .nvf)
-        → tail ≡ place (midOf at (length mst - at) mst) 0 (recordBytes k (fieldsOf (midOf at (length mst - at) mst)))
+        → tail ≡ overwrite (midOf at (length mst - at) mst) 0 (recordBytes k (fieldsOf (midOf at (length mst - at) mst)))
         → putMid at (length mst - at) mst tail ≡ versionInPlace mst m p l true (currentFields mst p)
     unfolding versionInPlace
     rewritten m k tail v t =
         returned-front mst at (recordBytes k (fieldsOf (midOf at (length mst - at) mst))) t ∙ rw (tail-fields, v, own-count, e)
 
-    pub back-cleared : (tail : List ℕ) → tail ≡ place (midOf at (length mst - at) mst) 6 (replicate 6 0)
+    pub back-cleared : (tail : List ℕ) → tail ≡ overwrite (midOf at (length mst - at) mst) 6 (replicate 6 0)
         → putMid at (length mst - at) mst tail ≡ settledMst mst p
     unfolding settledMst
     back-cleared tail t = returned-tail mst at 6 (replicate 6 0) t ∙ rw e
@@ -195,7 +195,7 @@ module _ (mst : List ℕ) (p : Place) (l k : Leader) (tags lens bytes : List ℕ
   in-place-asked h f i = (d .right, (omega arith, omega (arith, tail-length mst at)))
 
   pub draft-in-place : (m : ℕ) (deleted : Bool) (tail : List ℕ) → k ≡ versionLeader m p l (l .mfrl) deleted (length tags)
-      → tail ≡ place (midOf at (length mst - at) mst) 0 (recordBytes k (draftFields tags lens bytes))
+      → tail ≡ overwrite (midOf at (length mst - at) mst) 0 (recordBytes k (draftFields tags lens bytes))
       → putMid at (length mst - at) mst tail ≡ versionInPlace mst m p l deleted (draftFields tags lens bytes)
   unfolding versionInPlace
   draft-in-place m deleted tail v t =

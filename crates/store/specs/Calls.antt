@@ -3,7 +3,7 @@ use Prim.Native.Nat.{ℕ, _+_}
 use mathlib.Core.Bool.{Bool, true, false, cond}
 use mathlib.Core.List.{List}
 use lib.ListN.{length, replicate}
-use Rattle.word.specs.Place.{place, part}
+use Rattle.word.specs.Overwrite.{overwrite, part}
 use Rattle.layout.specs.Sizes.{blockAt, offsetAt, endMoved}
 use Rattle.layout.specs.Entry.{placed, placeAddress}
 use Rattle.layout.specs.CrossReference.{withEntry, formattedXrf}
@@ -93,7 +93,7 @@ settledFieldOf mst xrf m i =
 
 -- a record of the fields in the part of the MST that starts at an address
 abbrev pub withRecord : List ℕ → ℕ → Leader → List Field → List ℕ
-withRecord mst at l fs = place mst at (recordBytes l fs)
+withRecord mst at l fs = overwrite mst at (recordBytes l fs)
 
 -- a record at the end, which moves by MFRL
 unfoldable pub appended : List ℕ → Leader → List Field → List ℕ
@@ -193,7 +193,7 @@ deleteXrf mst xrf m = after (deleteAnswer mst xrf m) (deletedXrf mst xrf m (plac
 -- ---- settle: mark removed, back pointer 0/0. A deletion stays one
 
 unfoldable pub settledMst : List ℕ → Place → List ℕ
-settledMst mst p = place mst (placeAddress p + 6) (replicate 6 0)
+settledMst mst p = overwrite mst (placeAddress p + 6) (replicate 6 0)
 
 unfoldable pub settledXrf : List ℕ → ℕ → Place → List ℕ
 settledXrf xrf m p = withEntry xrf m (placed (p .block .0) (p .offset) (p .deleted) Settled)
