@@ -96,7 +96,7 @@ pub record UnreachedFacts (mst xrf : List ℕ) (m : ℕ) (ok : Bool) (a : Answer
 
 -- the answer behind what was returned
 module _ (b : Answer) (e : ℕ) (p : Place) (l : Leader) where
-  of-refusal : (a : Answer) → after b (There e p l) (Unreached b) ≡ Unreached a → (b ≡ a) × Refusing b
+  pub of-refusal : (a : Answer) → after b (There e p l) (Unreached b) ≡ Unreached a → (b ≡ a) × Refusing b
   of-refusal a h = ⊎-elim done refused (after-cases b (There e p l) (Unreached b))
     where
       done : (b ≡ Done) × (after b (There e p l) (Unreached b) ≡ There e p l) → (b ≡ a) × Refusing b
@@ -105,7 +105,7 @@ module _ (b : Answer) (e : ℕ) (p : Place) (l : Leader) where
       refused : Refusing b × (after b (There e p l) (Unreached b) ≡ Unreached b) → (b ≡ a) × Refusing b
       refused w = let s = sym (w .1) ∙ h in ((cc), w .0)
 
-  of-record : (f : ℕ) (q : Place) (k : Leader) → after b (There e p l) (Unreached b) ≡ There f q k → (b ≡ Done) × (e ≡ f) × (p ≡ q) × (l ≡ k)
+  pub of-record : (f : ℕ) (q : Place) (k : Leader) → after b (There e p l) (Unreached b) ≡ There f q k → (b ≡ Done) × (e ≡ f) × (p ≡ q) × (l ≡ k)
   of-record f q k h = ⊎-elim done refused (after-cases b (There e p l) (Unreached b))
     where
       done : (b ≡ Done) × (after b (There e p l) (Unreached b) ≡ There e p l) → (b ≡ Done) × (e ≡ f) × (p ≡ q) × (l ≡ k)
