@@ -1,0 +1,64 @@
+//! The model answers calls, and every call is written down with what it gave. What
+//! stands in a list is so the model's alone; the library is asked only on the board.
+
+use crate::list::List;
+use differential::archive::{Given, Subject};
+use differential::families::{Family, drive_subject, first_seed};
+use differential::guarded::Side;
+use differential::tally::Tally;
+use model::call::{Call, Outcome, on_bytes};
+use model::replay;
+
+/// The model, and the lists of what it was asked.
+#[derive(Debug, Default)]
+pub struct Recorder {
+    /// What was asked so far; each list has room in a board's memory.
+    pub lists: Vec<List>,
+    /// How often each answer of each call came.
+    pub tally: Tally,
+}
+
+impl Subject for Recorder {
+    fn run(&mut self, mst: &mut [u8], xrf: &mut [u8], call: &Call, _: Side) -> Given {
+        let before = (mst.to_vec(), xrf.to_vec());
+        let (outcome, part) = on_bytes(mst, xrf, call);
+        let given = Given::wanted(&outcome, part);
+        let after = (mst.to_vec(), xrf.to_vec());
+        if !self.lists.last().is_some_and(List::has_room) {
+            self.lists.push(List::default());
+        }
+        let list = self.lists.last_mut().expect("one was pushed");
+        list.push(&before, call, &given, &after);
+        self.tally.add(call, given.number);
+        given
+    }
+}
+
+/// The trials of a family, at least so many calls.
+pub fn of_family(family: &mut dyn Family, calls: usize) -> Recorder {
+    let mut recorder = Recorder::default();
+    drive_subject(&mut recorder, family, calls, first_seed())
+        .unwrap_or_else(|words| panic!("the model and its ledger disagree: {words}"));
+    recorder
+}
+
+/// The lists that the proved program `replay_run` is given, each on two buffers full of 255.
+pub fn of_replay_lists() -> Recorder {
+    let mut recorder = Recorder::default();
+    for list in replay::lists::all() {
+        let (mut mst, mut xrf) = (vec![255; list.mst_len], vec![255; list.xrf_len]);
+        let mut run = |call: &Call| {
+            let given = recorder.run(&mut mst, &mut xrf, call, Side::Back);
+            Outcome {
+                number: given.number,
+                mfn: given.mfn,
+                tag: given.tag,
+                field: mst[given.part].to_vec(),
+            }
+        };
+        if run(&Call::Format).number == 0 {
+            list.run(run);
+        }
+    }
+    recorder
+}
