@@ -28,9 +28,11 @@
  * cortex-m0, cortex-m3, cortex-m4 and 64-bit Arm, all from one proved module.
  * Lengths have 64 bits on every one of them, see isis_size. What it needs from
  * the program that it is linked into:
- *   x86-64, aarch64        memset
- *   cortex-m3, cortex-m4   __aeabi_memcpy, __aeabi_memclr, __aeabi_uldivmod
- *   cortex-m0              these three and __aeabi_lmul
+ *   x86-64     memset
+ *   aarch64    memset
+ *   cortex-m0  __aeabi_lmul __aeabi_memclr __aeabi_memcpy __aeabi_uldivmod
+ *   cortex-m3  __aeabi_memclr __aeabi_memcpy __aeabi_uldivmod
+ *   cortex-m4  __aeabi_memclr __aeabi_memcpy __aeabi_uldivmod
  * The C library and the compiler's own have them. The code for cortex-m3 and
  * cortex-m4 reads words at any address, so UNALIGN_TRP stays 0, as after reset.
  */

@@ -5,6 +5,7 @@ use board::core::{CORES, Core, root, run};
 use model::bytes::i32_at;
 use model::call::{Call, OwnedDraft, on_bytes};
 use model::layout::{Control, slot_at};
+use std::path::Path;
 use std::process::Command;
 
 /// Builds and runs a program as README says.
@@ -61,15 +62,13 @@ fn the_firmware_makes_the_worked_run_and_no_write_without_a_touch() {
 
 /// Builds a program for this machine and runs it.
 fn here(file: &str) -> String {
-    let program = std::env::temp_dir().join(format!("board-here-{}", std::process::id()));
+    let program = Path::new(env!("CARGO_TARGET_TMPDIR")).join("here");
     run(Command::new("cc")
         .current_dir(root())
         .args(["-std=c99", "-Wall", "-Wextra", "-Werror", "-Iinclude", file])
         .args(["target/staticlib/libisis.a", "-o"])
         .arg(&program));
-    let printed = run(&mut Command::new(&program));
-    std::fs::remove_file(&program).unwrap();
-    printed
+    run(&mut Command::new(&program))
 }
 
 #[test]
