@@ -21,6 +21,89 @@ const GAP: usize = 16;
 /// What the runner fills outputs with; a call that does not have an output leaves it.
 const RUBBISH: u64 = 0xEEEE_EEEE_EEEE_EEEE;
 
+/// Every argument that some call takes, in the runner's order.
+#[derive(Clone, Debug, Default)]
+struct Arguments {
+    kind: usize,
+    mfn: u32,
+    tag: u16,
+    occurrence: u32,
+    index: usize,
+    draft: OwnedDraft,
+}
+
+impl Arguments {
+    fn of(call: &Call) -> Arguments {
+        let mut of = Arguments {
+            kind: call.kind(),
+            ..Arguments::default()
+        };
+        match call {
+            Call::Format | Call::Check => {}
+            Call::Create(draft) => of.draft = draft.clone(),
+            Call::Update(mfn, draft) => (of.mfn, of.draft) = (*mfn, draft.clone()),
+            Call::Delete(mfn) | Call::Settle(mfn) | Call::Revert(mfn) => of.mfn = *mfn,
+            Call::View {
+                mfn,
+                tag,
+                occurrence,
+            }
+            | Call::ViewSettled {
+                mfn,
+                tag,
+                occurrence,
+            } => {
+                (of.mfn, of.tag, of.occurrence) = (*mfn, *tag, *occurrence);
+            }
+            Call::Field { mfn, index } | Call::FieldSettled { mfn, index } => {
+                (of.mfn, of.index) = (*mfn, *index);
+            }
+        }
+        of
+    }
+}
+
+/// The answer, and every output that some call has, in the runner's order.
+#[derive(Clone, Debug)]
+struct Outputs {
+    answer: u32,
+    mfn: u64,
+    tag: u64,
+    start: u64,
+    len: u64,
+}
+
+impl Outputs {
+    /// An answer alone.
+    fn none(answer: u32) -> Outputs {
+        Outputs {
+            answer,
+            mfn: RUBBISH >> 32,
+            tag: RUBBISH >> 48,
+            start: RUBBISH,
+            len: RUBBISH,
+        }
+    }
+
+    fn of(call: &Call, given: &Given) -> Outputs {
+        let mut of = Outputs::none(given.number);
+        if let Call::Create(_) = call {
+            of.mfn = u64::from(given.mfn);
+        }
+        if let Call::Field { .. } | Call::FieldSettled { .. } = call {
+            of.tag = u64::from(given.tag);
+        }
+        if let Call::View { .. }
+        | Call::ViewSettled { .. }
+        | Call::Field { .. }
+        | Call::FieldSettled { .. } = call
+        {
+            (of.start, of.len) = (given.part.start as u64, given.part.len() as u64);
+        }
+        of
+    }
+}
+
 /// A list as it grows.
 #[derive(Clone, Debug, Default)]
 pub struct List {
@@ -49,107 +132,81 @@ impl List {
 
     /// Adds a step: a call on a card, what it must give, and the card that it must leave.
     pub fn push(&mut self, before: &Card, call: &Call, wanted: &Given, after: &Card) {
+        self.step(
+            before,
+            &Arguments::of(call),
+            &Outputs::of(call, wanted),
+            after,
+        );
+    }
+
+    fn step(&mut self, before: &Card, arguments: &Arguments, outputs: &Outputs, after: &Card) {
         let place = self.steps / STEPS_IN_A_PLACE % PLACES;
         self.steps += 1;
-        self.words.push(place as u32);
-        self.words
-            .extend([before.0.len() as u32, before.1.len() as u32]);
-        self.changes_to(before);
-        self.call(call);
-        self.wanted(call, wanted);
-        self.changes_to(after);
+        self.put_all([place, before.0.len(), before.1.len()]);
+        self.put_changes_to(before);
+        self.put_arguments(arguments);
+        self.put_outputs(outputs);
+        self.put_changes_to(after);
     }
 
     /// What changes from the card as it was, which is this one then.
-    fn changes_to(&mut self, card: &Card) {
+    fn put_changes_to(&mut self, card: &Card) {
         let changes = [
             changes(&self.card.0, &card.0),
             changes(&self.card.1, &card.1),
         ];
-        self.words
-            .push((changes[0].len() + changes[1].len()) as u32);
+        self.put_all([changes[0].len() + changes[1].len()]);
         for (file, (changes, bytes)) in changes.iter().zip([&card.0, &card.1]).enumerate() {
             for change in changes {
-                self.words
-                    .extend([file, change.start, change.len()].map(|n| n as u32));
-                self.put(&bytes[change.clone()]);
+                self.put_all([file, change.start, change.len()]);
+                self.put_bytes(&bytes[change.clone()]);
             }
         }
         self.card = card.clone();
     }
 
-    /// Bytes, up to a whole word.
-    fn put(&mut self, bytes: &[u8]) {
-        self.words.extend(bytes.chunks(4).map(|chunk| {
-            let mut word = [0; 4];
-            word[..chunk.len()].copy_from_slice(chunk);
-            u32::from_le_bytes(word)
-        }));
+    fn put_arguments(&mut self, of: &Arguments) {
+        let OwnedDraft { tags, lens, data } = &of.draft;
+        self.words
+            .extend([of.kind as u32, of.mfn, u32::from(of.tag), of.occurrence]);
+        self.put_long(of.index as u64);
+        self.put_all([tags.len(), lens.len(), data.len()]);
+        for numbers in [tags, lens] {
+            let bytes: Vec<u8> = numbers.iter().flat_map(|n| n.to_le_bytes()).collect();
+            self.put_bytes(&bytes);
+        }
+        self.put_bytes(data);
+    }
+
+    fn put_outputs(&mut self, of: &Outputs) {
+        for output in [u64::from(of.answer), of.mfn, of.tag, of.start, of.len] {
+            self.put_long(output);
+        }
+    }
+
+    fn put_all<const N: usize>(&mut self, numbers: [usize; N]) {
+        self.words.extend(numbers.map(|number| number as u32));
     }
 
     fn put_long(&mut self, number: u64) {
         self.words.extend([number as u32, (number >> 32) as u32]);
     }
 
-    fn call(&mut self, call: &Call) {
-        let none = OwnedDraft::default();
-        let (mut mfn, mut tag, mut occurrence, mut index, mut draft) = (0, 0, 0, 0, &none);
-        match call {
-            Call::Format | Call::Check => {}
-            Call::Create(made) => draft = made,
-            Call::Update(named, made) => (mfn, draft) = (*named, made),
-            Call::Delete(named) | Call::Settle(named) | Call::Revert(named) => mfn = *named,
-            Call::View {
-                mfn: m,
-                tag: t,
-                occurrence: o,
-            }
-            | Call::ViewSettled {
-                mfn: m,
-                tag: t,
-                occurrence: o,
-            } => {
-                (mfn, tag, occurrence) = (*m, u32::from(*t), *o);
-            }
-            Call::Field { mfn: m, index: i } | Call::FieldSettled { mfn: m, index: i } => {
-                (mfn, index) = (*m, *i);
-            }
-        }
-        let OwnedDraft { tags, lens, data } = draft;
-        self.words
-            .extend([call.kind() as u32, mfn, tag, occurrence]);
-        self.put_long(index as u64);
-        self.words
-            .extend([tags.len(), lens.len(), data.len()].map(|n| n as u32));
-        for numbers in [tags, lens] {
-            let bytes: Vec<u8> = numbers.iter().flat_map(|n| n.to_le_bytes()).collect();
-            self.put(&bytes);
-        }
-        self.put(data);
-    }
-
-    /// The answer, and every output in the runner's order.
-    fn wanted(&mut self, call: &Call, wanted: &Given) {
-        let (mut mfn, mut tag, mut part) = (RUBBISH >> 32, RUBBISH >> 48, [RUBBISH; 2]);
-        let shown = [wanted.part.start as u64, wanted.part.len() as u64];
-        match call {
-            Call::Create(_) => mfn = u64::from(wanted.mfn),
-            Call::View { .. } | Call::ViewSettled { .. } => part = shown,
-            Call::Field { .. } | Call::FieldSettled { .. } => {
-                (tag, part) = (u64::from(wanted.tag), shown);
-            }
-            _ => {}
-        }
-        for output in [u64::from(wanted.number), mfn, tag, part[0], part[1]] {
-            self.put_long(output);
-        }
+    /// Bytes, up to a whole word.
+    fn put_bytes(&mut self, bytes: &[u8]) {
+        self.words.extend(bytes.chunks(4).map(|chunk| {
+            let mut word = [0; 4];
+            word[..chunk.len()].copy_from_slice(chunk);
+            u32::from_le_bytes(word)
+        }));
     }
 }
 
 /// Where two files differ; all of the second if they are not equally long.
 fn changes(old: &[u8], new: &[u8]) -> Vec<Range<usize>> {
     if old.len() != new.len() {
-        return vec![0..new.len()];
+        return std::iter::once(0..new.len()).collect();
     }
     let mut changes: Vec<Range<usize>> = Vec::new();
     for at in (0..new.len()).filter(|&at| old[at] != new[at]) {

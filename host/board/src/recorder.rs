@@ -8,6 +8,7 @@ use differential::guarded::Side;
 use differential::tally::Tally;
 use model::call::{Call, Outcome, on_bytes};
 use model::replay;
+use std::ops::Range;
 
 /// The model, and the lists of what it was asked.
 #[derive(Debug, Default)]
@@ -18,19 +19,31 @@ pub struct Recorder {
     pub tally: Tally,
 }
 
-impl Subject for Recorder {
-    fn run(&mut self, mst: &mut [u8], xrf: &mut [u8], call: &Call, _: Side) -> Given {
+impl Recorder {
+    /// The model's outcome of a call, with the part of the MST that it shows, written down.
+    fn record(&mut self, mst: &mut [u8], xrf: &mut [u8], call: &Call) -> (Outcome, Range<usize>) {
         let before = (mst.to_vec(), xrf.to_vec());
         let (outcome, part) = on_bytes(mst, xrf, call);
-        let given = Given::wanted(&outcome, part);
         let after = (mst.to_vec(), xrf.to_vec());
+        let wanted = Given::wanted(&outcome, part.clone());
+        self.list().push(&before, call, &wanted, &after);
+        self.tally.add(call, outcome.number);
+        (outcome, part)
+    }
+
+    /// A list that has room.
+    fn list(&mut self) -> &mut List {
         if !self.lists.last().is_some_and(List::has_room) {
             self.lists.push(List::default());
         }
-        let list = self.lists.last_mut().expect("one was pushed");
-        list.push(&before, call, &given, &after);
-        self.tally.add(call, given.number);
-        given
+        self.lists.last_mut().expect("there is one")
+    }
+}
+
+impl Subject for Recorder {
+    fn run(&mut self, mst: &mut [u8], xrf: &mut [u8], call: &Call, _: Side) -> Given {
+        let (outcome, part) = self.record(mst, xrf, call);
+        Given::wanted(&outcome, part)
     }
 }
 
@@ -47,15 +60,7 @@ pub fn of_replay_lists() -> Recorder {
     let mut recorder = Recorder::default();
     for list in replay::lists::all() {
         let (mut mst, mut xrf) = (vec![255; list.mst_len], vec![255; list.xrf_len]);
-        let mut run = |call: &Call| {
-            let given = recorder.run(&mut mst, &mut xrf, call, Side::Back);
-            Outcome {
-                number: given.number,
-                mfn: given.mfn,
-                tag: given.tag,
-                field: mst[given.part].to_vec(),
-            }
-        };
+        let mut run = |call: &Call| recorder.record(&mut mst, &mut xrf, call).0;
         if run(&Call::Format).number == 0 {
             list.run(run);
         }

@@ -34,27 +34,26 @@ fn kit(name: &str, programs: &[(&str, &str)]) -> PathBuf {
 }
 
 #[test]
-fn a_core_that_is_none_is_refused() {
-    let said = refused("cortex-m9", &kit("no-core", &[]));
-    assert!(
-        said.starts_with("key-archive: 'cortex-m9' is no core;"),
-        "{said}"
-    );
-}
-
-#[test]
-fn a_kit_without_clang_is_refused() {
-    let said = refused("cortex-m0", &kit("no-clang", &[]));
-    assert!(
-        said.starts_with("key-archive: the kit has no clang at "),
-        "{said}"
-    );
-}
-
-#[test]
-fn a_clang_without_the_target_is_refused() {
-    let programs = [("clang", "    x86-64     - 64-bit X86"), ("llvm-ar", "")];
-    let said = refused("cortex-m0", &kit("no-target", &programs));
-    let wanted = "key-archive: the kit's clang has no target 'thumb', which cortex-m0 needs\n";
-    assert_eq!(said, wanted);
+fn what_is_missing_is_said() {
+    let without_target = [("clang", "    x86-64     - 64-bit X86"), ("llvm-ar", "")];
+    for (core, kit, words) in [
+        (
+            "cortex-m9",
+            kit("no-core", &[]),
+            "'cortex-m9' is no core; there are ",
+        ),
+        (
+            "cortex-m0",
+            kit("no-clang", &[]),
+            "the kit has no clang at ",
+        ),
+        (
+            "cortex-m0",
+            kit("no-target", &without_target),
+            "the kit's clang has no target 'thumb', which cortex-m0 needs\n",
+        ),
+    ] {
+        let said = refused(core, &kit);
+        assert!(said.starts_with(&format!("key-archive: {words}")), "{said}");
+    }
 }

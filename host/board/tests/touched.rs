@@ -16,6 +16,11 @@ use std::ops::Range;
 /// Parts of a file.
 type Parts = Vec<Range<usize>>;
 
+/// One part.
+fn only(part: Range<usize>) -> Parts {
+    std::iter::once(part).collect()
+}
+
 /// A record as a call finds it.
 fn found(mst: &[u8], xrf: &[u8], mfn: u32) -> (Mark, Record) {
     let end = Control::read(mst, xrf.len()).unwrap().end;
@@ -36,24 +41,24 @@ fn may_touch(mst: &[u8], xrf: &[u8], call: &Call) -> (Parts, Parts) {
     let at_end = |length: usize| control().end..control().end + length;
     let own = |record: &Record| record.at..record.at + usize::from(record.leader.length);
     match call {
-        Call::Format => (vec![0..mst.len()], vec![0..xrf.len()]),
+        Call::Format => (only(0..mst.len()), only(0..xrf.len())),
         Call::Create(draft) => {
             let length = need(draft.tags.len(), draft.data.len());
-            (vec![4..14, at_end(length)], vec![entry(control().next_mfn)])
+            (vec![4..14, at_end(length)], only(entry(control().next_mfn)))
         }
         Call::Update(mfn, draft) => {
             let (mark, record) = found(mst, xrf, *mfn);
             let length = need(draft.tags.len(), draft.data.len());
             if mark != Mark::Settled && length <= usize::from(record.leader.length) {
-                return (vec![own(&record)], Vec::new());
+                return (only(own(&record)), Vec::new());
             }
-            (vec![8..14, at_end(length)], vec![entry(*mfn as usize)])
+            (vec![8..14, at_end(length)], only(entry(*mfn as usize)))
         }
         Call::Delete(mfn) => {
             let (mark, record) = found(mst, xrf, *mfn);
-            let entry = vec![entry(*mfn as usize)];
+            let entry = only(entry(*mfn as usize));
             if mark != Mark::Settled {
-                return (vec![own(&record)], entry);
+                return (only(own(&record)), entry);
             }
             let fields: usize = record.fields(mst).map(|(_, part)| part.len()).sum();
             let length = need(usize::from(record.leader.fields), fields);
@@ -61,9 +66,9 @@ fn may_touch(mst: &[u8], xrf: &[u8], call: &Call) -> (Parts, Parts) {
         }
         Call::Settle(mfn) => {
             let at = found(mst, xrf, *mfn).1.at;
-            (vec![at + 6..at + 12], vec![entry(*mfn as usize)])
+            (only(at + 6..at + 12), only(entry(*mfn as usize)))
         }
-        Call::Revert(mfn) => (Vec::new(), vec![entry(*mfn as usize)]),
+        Call::Revert(mfn) => (Vec::new(), only(entry(*mfn as usize))),
         _ => (Vec::new(), Vec::new()),
     }
 }
@@ -117,6 +122,6 @@ fn a_call_changes_only_the_bytes_that_the_header_names() {
 fn a_byte_too_many_is_seen() {
     let (before, mut after) = (vec![0; 512], vec![0; 512]);
     after[76] = 1;
-    assert_eq!(only_inside(&before, &after, &vec![70..76]), (false, 1));
-    assert_eq!(only_inside(&before, &after, &vec![70..77]), (true, 1));
+    assert_eq!(only_inside(&before, &after, &only(70..76)), (false, 1));
+    assert_eq!(only_inside(&before, &after, &only(70..77)), (true, 1));
 }
