@@ -34,7 +34,8 @@
  *   cortex-m3  __aeabi_memclr __aeabi_memcpy __aeabi_uldivmod
  *   cortex-m4  __aeabi_memclr __aeabi_memcpy __aeabi_uldivmod
  * The C library and the compiler's own have them. The code for cortex-m3 and
- * cortex-m4 reads words at any address, so UNALIGN_TRP stays 0, as after reset.
+ * cortex-m4 reads and writes words at any address, so UNALIGN_TRP stays 0, as it
+ * is after reset.
  */
 #ifndef ISIS_H
 #define ISIS_H
