@@ -59,6 +59,40 @@ static unsigned show_fields(field_call *field, uint32_t mfn)
     return index;
 }
 
+/* Hands out all fields at once: isis_fields or isis_fields_settled. */
+typedef uint32_t fields_call(const uint8_t *mst, isis_size mst_len, const uint8_t *xrf, isis_size xrf_len,
+                             uint32_t mfn, uint16_t *tags, isis_size tags_len, isis_size *starts,
+                             isis_size starts_len, isis_size *lens, isis_size lens_len, isis_size *count);
+
+/* Prints how many fields a record has and how long they are together, if it has four at most. */
+static uint32_t show_length(const char *which, fields_call *fields, uint32_t mfn)
+{
+    isis_size starts[4], lens[4], count, sum = 0;
+    uint16_t four_tags[4];
+    uint32_t answer = fields(mst, sizeof mst, xrf, sizeof xrf, mfn, four_tags, 4, starts, 4, lens, 4, &count);
+
+    for (unsigned i = 0; i < count; i++)
+        sum += lens[i];
+    if (answer == ISIS_DONE)
+        printf("    %s: %u fields, %u bytes\n", which, (unsigned)count, (unsigned)sum);
+    return answer;
+}
+
+/* Prints the mark of a record, and where the next one goes. */
+static uint32_t show_state(uint32_t mfn)
+{
+    static const char *const marks[] = { "settled", "changed", "new" };
+    uint32_t mark, deleted, next, answer;
+    isis_size end;
+
+    answer = isis_state(mst, sizeof mst, xrf, sizeof xrf, mfn, &mark, &deleted);
+    if (answer == ISIS_DONE)
+        printf("    MFN %u is %s%s\n", (unsigned)mfn, marks[mark], deleted ? " and deleted" : "");
+    answer |= isis_next(mst, sizeof mst, xrf, sizeof xrf, &next, &end);
+    printf("    the next MFN is %u, its record begins at %u\n", (unsigned)next, (unsigned)end);
+    return answer;
+}
+
 /* A draft: the tags, the length of each field, and the bytes one after the other. */
 static const uint16_t tags[] = { TITLE, AUTHOR };
 
@@ -95,6 +129,9 @@ int main(void)
     failed |= report("update it by mistake (touch 3)",
                      isis_update(mst, sizeof mst, xrf, sizeof xrf, mfn, tags, 2, lens, 2, data, size));
     show_title(mfn);
+    failed |= show_length("now", isis_fields, mfn);
+    failed |= show_length("settled", isis_fields_settled, mfn);
+    failed |= show_state(mfn);
 
     failed |= report("revert the update (touch 4)",
                      isis_revert(mst, sizeof mst, xrf, sizeof xrf, mfn));
@@ -109,6 +146,7 @@ int main(void)
     failed |= report("create an empty record (touch 5)",
                      isis_create(mst, sizeof mst, xrf, sizeof xrf, NULL, 0, NULL, 0, NULL, 0, &other));
     failed |= report("delete it (touch 6)", isis_delete(mst, sizeof mst, xrf, sizeof xrf, other));
+    failed |= show_state(other);
     if (show_fields(isis_field_settled, other) != 0)
         failed = 1;
 

@@ -97,13 +97,15 @@ static uint32_t number_at(const uint8_t *bytes)
     return bytes[0] | (uint32_t)bytes[1] << 8 | (uint32_t)bytes[2] << 16 | (uint32_t)bytes[3] << 24;
 }
 
-/* Prints where the next record goes (block and offset), MFN 1's entry, and its title. */
+/* Prints where the next record goes, MFN 1's entry, and its title. */
 static void show_card(void)
 {
-    isis_size start, len;
+    isis_size start, len, end;
+    uint32_t next;
 
+    isis_next(mst, sizeof mst, xrf, sizeof xrf, &next, &end);
     say("    end ");
-    say_number((number_at(mst + 8) - 1) * ISIS_BLOCK + (mst[12] | (uint32_t)mst[13] << 8));
+    say_number((uint32_t)end);
     say(", entry ");
     say_number(number_at(xrf + ISIS_ENTRY_AT(1)));
     if (isis_view(mst, sizeof mst, xrf, sizeof xrf, 1, TITLE, 1, &start, &len) == ISIS_DONE) {

@@ -15,8 +15,8 @@
  *   - every pointer is valid for its length, counted in elements;
  *   - a pointer may be NULL where its length is 0; an output's may not;
  *   - no area that is written overlaps another area.
- * A refused call (any answer but 0) changes no byte of the MST or the XRF and
- * sets its outputs to 0. A call that is done writes its outputs and the bytes that
+ * A refused call (any answer but 0) changes no byte of the MST, the XRF or a list
+ * that it is lent for its outputs, and sets its other outputs to 0. A call that is done writes its outputs and the bytes that
  * its paragraph names under "Touches", and no other; what is lent as const is
  * only read. So firmware needs to flush no more than these.
  *
@@ -49,7 +49,7 @@ extern "C" {
 
 /* The interface. The first number rises when a function that was here changes, the second when something is added. */
 #define ISIS_VERSION_MAJOR 1
-#define ISIS_VERSION_MINOR 0
+#define ISIS_VERSION_MINOR 1
 
 /* The format. */
 #define ISIS_BLOCK           512     /* bytes of a block, of either file */
@@ -82,23 +82,24 @@ typedef char isis_size_has_64_bits[sizeof(isis_size) == 8 && (isis_size)-1 > 0 ?
 
 /* The answers. Where more than one refusal applies, the lowest number is given. */
 enum isis_answer {
-    ISIS_DONE          = 0,  /* done */
-    ISIS_BAD_LENGTH    = 1,  /* a buffer is not 1 to 1048575 (MST) or 1 to 4096 (XRF) blocks of 512 bytes */
-    ISIS_BAD_CONTROL   = 2,  /* the control record (MST bytes 0 to 15) is not right */
-    ISIS_BAD_DRAFT     = 3,  /* the draft is not right, see isis_create */
-    ISIS_NO_MFN        = 4,  /* the MFN is 0 or was never given out */
-    ISIS_NO_SLOT       = 5,  /* create: every MFN of the XRF is given out */
-    ISIS_BAD_ENTRY     = 6,  /* the MFN's entry names no place that a record can have, holds both marks, or is 0;
-                                the first integer of its XRF block is wrong; create: the next MFN's entry is not 0 */
-    ISIS_GONE          = 7,  /* the record is physically deleted */
-    ISIS_BAD_RECORD    = 8,  /* the record, or the settled version that is needed, is not well formed */
-    ISIS_DELETED       = 9,  /* the record is deleted, pending or settled; where the settled version is asked for:
-                                deleted, and the deletion is settled */
-    ISIS_NOT_PENDING   = 10, /* settle, revert: nothing is pending */
-    ISIS_NEVER_SETTLED = 11, /* revert, a field of the settled version: the record was never settled */
-    ISIS_NO_FIELD      = 12, /* no field of that tag and occurrence, or of that index */
-    ISIS_NO_ROOM       = 13, /* the record does not fit before the end of the MST */
-    ISIS_NOT_SOUND     = 14  /* check: the store is not sound */
+    ISIS_DONE            = 0,  /* done */
+    ISIS_BAD_LENGTH      = 1,  /* a buffer is not 1 to 1048575 (MST) or 1 to 4096 (XRF) blocks of 512 bytes */
+    ISIS_BAD_CONTROL     = 2,  /* the control record (MST bytes 0 to 15) is not right */
+    ISIS_BAD_DRAFT       = 3,  /* the draft is not right, see isis_create */
+    ISIS_NO_MFN          = 4,  /* the MFN is 0 or was never given out */
+    ISIS_NO_SLOT         = 5,  /* create: every MFN of the XRF is given out */
+    ISIS_BAD_ENTRY       = 6,  /* the MFN's entry names no place that a record can have, holds both marks, or is 0;
+                                  the first integer of its XRF block is wrong; create: the next MFN's entry is not 0 */
+    ISIS_GONE            = 7,  /* the record is physically deleted */
+    ISIS_BAD_RECORD      = 8,  /* the record, or the settled version that is needed, is not well formed */
+    ISIS_DELETED         = 9,  /* the record is deleted, pending or settled; where the settled version is asked for:
+                                  deleted, and the deletion is settled */
+    ISIS_NOT_PENDING     = 10, /* settle, revert: nothing is pending */
+    ISIS_NEVER_SETTLED   = 11, /* revert, a field of the settled version: the record was never settled */
+    ISIS_NO_FIELD        = 12, /* no field of that tag and occurrence, or of that index */
+    ISIS_NO_ROOM         = 13, /* the record does not fit before the end of the MST */
+    ISIS_NOT_SOUND       = 14, /* check: the store is not sound */
+    ISIS_NO_ROOM_IN_LIST = 17  /* a list that is lent for outputs is too short for them */
 };
 
 /*
@@ -142,6 +143,44 @@ uint32_t isis_field(const uint8_t *mst, isis_size mst_len, const uint8_t *xrf, i
  */
 uint32_t isis_field_settled(const uint8_t *mst, isis_size mst_len, const uint8_t *xrf, isis_size xrf_len,
                             uint32_t mfn, isis_size index, uint16_t *tag, isis_size *start, isis_size *len);
+
+/*
+ * Hands out all fields of the current version of a record in one call, in the
+ * order of the record's directory: tags[i], and the part of the MST that begins
+ * at starts[i] and has lens[i] bytes. *count is the number of fields; the first so
+ * many elements of each list are written and the others kept. A record has at
+ * most ISIS_FIELDS_MAX fields.
+ * Answers 0, 1, 2, 4, 6, 7, 8, 9 or 17, the last where one of the three lists has
+ * fewer elements than the record has fields.
+ */
+uint32_t isis_fields(const uint8_t *mst, isis_size mst_len, const uint8_t *xrf, isis_size xrf_len,
+                     uint32_t mfn, uint16_t *tags, isis_size tags_len,
+                     isis_size *starts, isis_size starts_len,
+                     isis_size *lens, isis_size lens_len, isis_size *count);
+
+/*
+ * The same for the settled version, as in isis_view_settled.
+ * Answers 0, 1, 2, 4, 6, 7, 8, 9, 11 or 17.
+ */
+uint32_t isis_fields_settled(const uint8_t *mst, isis_size mst_len, const uint8_t *xrf, isis_size xrf_len,
+                             uint32_t mfn, uint16_t *tags, isis_size tags_len,
+                             isis_size *starts, isis_size starts_len,
+                             isis_size *lens, isis_size lens_len, isis_size *count);
+
+/*
+ * Tells what the next create is given: its MFN, and the end, where its record
+ * begins in the MST. Answers 0, 1 or 2.
+ */
+uint32_t isis_next(const uint8_t *mst, isis_size mst_len, const uint8_t *xrf, isis_size xrf_len,
+                   uint32_t *next, isis_size *end);
+
+/*
+ * Tells the state of a record: *mark is 0 if nothing is pending, 1 if a settled
+ * record was changed, 2 if the record was never settled; *deleted is 1 if it is
+ * deleted, pending or settled, and 0 if not. Answers 0, 1, 2, 4, 6, 7 or 8.
+ */
+uint32_t isis_state(const uint8_t *mst, isis_size mst_len, const uint8_t *xrf, isis_size xrf_len,
+                    uint32_t mfn, uint32_t *mark, uint32_t *deleted);
 
 /*
  * Writes a new record at the end of the MST, pending, and gives its MFN.

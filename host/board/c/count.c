@@ -16,13 +16,14 @@ enum { FIELDS = 8, FIELD = 20, RECORDS = 50, CLOCK_BITS = 24 };
 static uint8_t mst[64 * ISIS_BLOCK], xrf[ISIS_BLOCK];
 static uint16_t tags[FIELDS], lens[FIELDS];
 static uint8_t data[FIELDS * FIELD];
-static isis_size start, len;
-static uint32_t mfn, answer;
-static uint16_t tag;
+static isis_size start, len, end, count, starts[FIELDS], field_lens[FIELDS];
+static uint32_t mfn, answer, mark, deleted;
+static uint16_t tag, field_tags[FIELDS];
 
 static volatile uint32_t *const systick = (volatile uint32_t *)0xE000E010; /* control, reload, current */
 
 #define CARD mst, sizeof mst, xrf, sizeof xrf
+#define LISTS field_tags, FIELDS, starts, FIELDS, field_lens, FIELDS, &count
 #define DRAFT tags, FIELDS, lens, FIELDS, data, sizeof data
 
 static void nothing(void) {}
@@ -36,6 +37,10 @@ static void view_last(void) { answer = isis_view(CARD, 7, FIELDS, 1, &start, &le
 static void view_settled_last(void) { answer = isis_view_settled(CARD, 7, FIELDS, 1, &start, &len); }
 static void field_last(void) { answer = isis_field(CARD, 7, FIELDS - 1, &tag, &start, &len); }
 static void field_settled_last(void) { answer = isis_field_settled(CARD, 7, FIELDS - 1, &tag, &start, &len); }
+static void fields(void) { answer = isis_fields(CARD, 7, LISTS); }
+static void fields_settled(void) { answer = isis_fields_settled(CARD, 7, LISTS); }
+static void next(void) { answer = isis_next(CARD, &mfn, &end); }
+static void state(void) { answer = isis_state(CARD, 7, &mark, &deleted); }
 static void create(void) { answer = isis_create(CARD, DRAFT, &mfn); }
 static void update(void) { answer = isis_update(CARD, 7, DRAFT); }
 static void delete(void) { answer = isis_delete(CARD, 7); }
@@ -44,23 +49,23 @@ static void revert(void) { answer = isis_revert(CARD, 7); }
 static void check(void) { answer = isis_check(CARD); }
 
 /* A card of RECORDS records of FIELDS fields, in one of three states. */
-enum state { NEW, SETTLED, CHANGED };
+enum kind { NEW, SETTLED, CHANGED };
 
-static void make_card(enum state state)
+static void make_card(enum kind kind)
 {
     format();
     for (uint32_t i = 1; i <= RECORDS; i++) {
         create();
-        if (state != NEW)
+        if (kind != NEW)
             isis_settle(CARD, i);
     }
-    if (state == CHANGED)
+    if (kind == CHANGED)
         update();
 }
 
 static const struct {
     const char *name;
-    enum state state;
+    enum kind kind;
     void (*call)(void);
 } measured[] = {
     { "view, first of 8 fields", CHANGED, view_first },
@@ -68,6 +73,10 @@ static const struct {
     { "view settled, last of 8 fields", CHANGED, view_settled_last },
     { "field by index, last of 8", CHANGED, field_last },
     { "settled field by index, last of 8", CHANGED, field_settled_last },
+    { "all 8 fields in one call", CHANGED, fields },
+    { "all 8 settled fields in one call", CHANGED, fields_settled },
+    { "next MFN and end", CHANGED, next },
+    { "state of a record", CHANGED, state },
     { "create, 8 fields of 20 bytes", NEW, create },
     { "update in place, 8 fields of 20 bytes", NEW, update },
     { "update at the end, 8 fields of 20 bytes", SETTLED, update },
@@ -109,7 +118,7 @@ int main(void)
     none = ticks_of(nothing);
     thousand = ticks_of(a_thousand_more) - none;
     for (uint32_t i = 0; i < sizeof measured / sizeof *measured; i++) {
-        make_card(measured[i].state);
+        make_card(measured[i].kind);
         uint32_t ticks = ticks_of(measured[i].call) - none;
 
         if (answer != ISIS_DONE)

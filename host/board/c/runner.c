@@ -40,16 +40,18 @@ static uint8_t wanted_mst[MST_MAX], wanted_xrf[XRF_MAX];
 static uint8_t *mst, *xrf;
 static uint32_t mst_len, xrf_len;
 
-/* The call's arguments and outputs. */
+/* The call's arguments and outputs; the lists have one element more than is ever lent. */
+enum { LENT = 8 };
+
 static struct {
     uint32_t kind, mfn, tag, occurrence, tags_len, lens_len, data_len;
     isis_size index;
     const uint8_t *tags, *lens, *data;
 } call;
 static struct {
-    isis_size start, len;
-    uint32_t mfn;
-    uint16_t tag;
+    isis_size start, len, end, count, starts[LENT + 1], lens[LENT + 1];
+    uint32_t mfn, next, mark, deleted;
+    uint16_t tag, tags[LENT + 1];
 } out;
 
 static void say_with(const char *words, uint32_t number)
@@ -192,9 +194,10 @@ static uint32_t *stack_pointer(void)
 static uint32_t *door;
 
 #define CARD mst, mst_len, xrf, xrf_len
+#define LISTS out.tags, call.tag, out.starts, call.occurrence, out.lens, call.index, &out.count
 #define DRAFT (const uint16_t *)call.tags, call.tags_len, (const uint16_t *)call.lens, call.lens_len, call.data, call.data_len
 
-/* The calls, numbered as model::Call::kind does. */
+/* The calls, numbered as model::Call::kind and then board::ask::Ask::kind do. */
 __attribute__((noinline)) static uint32_t answer(void)
 {
     door = stack_pointer();
@@ -221,6 +224,14 @@ __attribute__((noinline)) static uint32_t answer(void)
         return isis_field(CARD, call.mfn, call.index, &out.tag, &out.start, &out.len);
     case 10:
         return isis_field_settled(CARD, call.mfn, call.index, &out.tag, &out.start, &out.len);
+    case 11:
+        return isis_next(CARD, &out.next, &out.end);
+    case 12:
+        return isis_state(CARD, call.mfn, &out.mark, &out.deleted);
+    case 13:
+        return isis_fields(CARD, call.mfn, LISTS);
+    case 14:
+        return isis_fields_settled(CARD, call.mfn, LISTS);
     }
     differs("the call", call.kind, 0);
     return 0;
@@ -260,6 +271,24 @@ static void file_is_wanted(const char *what, const uint8_t *given, const uint8_t
             byte_differs(what, i, given[i], wanted[i]);
 }
 
+static void outputs_are_wanted(void)
+{
+    is_wanted("the MFN", out.mfn);
+    is_wanted("the tag", out.tag);
+    is_wanted("the start", out.start);
+    is_wanted("the length", out.len);
+    is_wanted("the next MFN", out.next);
+    is_wanted("the end", out.end);
+    is_wanted("the mark", out.mark);
+    is_wanted("the deleted flag", out.deleted);
+    is_wanted("the count", out.count);
+    for (uint32_t i = 0; i <= LENT; i++) {
+        is_wanted("a tag of the list", out.tags[i]);
+        is_wanted("a start of the list", out.starts[i]);
+        is_wanted("a length of the list", out.lens[i]);
+    }
+}
+
 static void one_step(void)
 {
     static uint32_t stood = ~0u;
@@ -276,10 +305,7 @@ static void one_step(void)
     memset(&out, RUBBISH, sizeof out);
     given = measured_answer();
     is_wanted("the answer", given);
-    is_wanted("the MFN", out.mfn);
-    is_wanted("the tag", out.tag);
-    is_wanted("the start", out.start);
-    is_wanted("the length", out.len);
+    outputs_are_wanted();
     read_changes();
     file_is_wanted(" of the MST", mst, wanted_mst, mst_len);
     file_is_wanted(" of the XRF", xrf, wanted_xrf, xrf_len);

@@ -2,6 +2,7 @@
 //! each where the card stands, its two lengths, what somebody else changed, the call,
 //! what it must give, and what it must change.
 
+use crate::ask::{Ask, LENT, Numbers, Told};
 use crate::core::LIST_ROOM;
 use differential::archive::Given;
 use model::call::{Call, OwnedDraft};
@@ -61,6 +62,23 @@ impl Arguments {
         }
         of
     }
+
+    /// The lengths of the three lists stand where a call has tag, occurrence and index.
+    fn of_ask(ask: &Ask) -> Arguments {
+        let mut of = Arguments {
+            kind: ask.kind(),
+            ..Arguments::default()
+        };
+        match ask {
+            Ask::Next => {}
+            Ask::State(mfn) => of.mfn = *mfn,
+            Ask::Fields(mfn, room) | Ask::FieldsSettled(mfn, room) => {
+                (of.mfn, of.tag) = (*mfn, room[0] as u16);
+                (of.occurrence, of.index) = (room[1] as u32, room[2]);
+            }
+        }
+        of
+    }
 }
 
 /// The answer, and every output that some call has, in the runner's order.
@@ -71,6 +89,12 @@ struct Outputs {
     tag: u64,
     start: u64,
     len: u64,
+    next: u64,
+    end: u64,
+    mark: u64,
+    deleted: u64,
+    count: u64,
+    fields: [[u64; 3]; LENT + 1],
 }
 
 impl Outputs {
@@ -82,7 +106,28 @@ impl Outputs {
             tag: RUBBISH >> 48,
             start: RUBBISH,
             len: RUBBISH,
+            next: RUBBISH >> 32,
+            end: RUBBISH,
+            mark: RUBBISH >> 32,
+            deleted: RUBBISH >> 32,
+            count: RUBBISH,
+            fields: [[RUBBISH >> 48, RUBBISH, RUBBISH]; LENT + 1],
         }
+    }
+
+    fn of_told(told: &Told) -> Outputs {
+        let mut of = Outputs::none(told.number);
+        match &told.numbers {
+            Numbers::Next(next, end) => (of.next, of.end) = (*next as u64, *end as u64),
+            Numbers::State(mark, deleted) => (of.mark, of.deleted) = (*mark, *deleted),
+            Numbers::Fields(fields) => {
+                of.count = fields.len() as u64;
+                for (written, (tag, part)) in of.fields.iter_mut().zip(fields) {
+                    *written = [u64::from(*tag), part.start as u64, part.len() as u64];
+                }
+            }
+        }
+        of
     }
 
     fn of(call: &Call, given: &Given) -> Outputs {
@@ -140,6 +185,16 @@ impl List {
         );
     }
 
+    /// Adds a step: a call that asks something of a card, and what it must tell.
+    pub fn push_ask(&mut self, card: &Card, ask: &Ask, wanted: &Told) {
+        self.step(
+            card,
+            &Arguments::of_ask(ask),
+            &Outputs::of_told(wanted),
+            card,
+        );
+    }
+
     fn step(&mut self, before: &Card, arguments: &Arguments, outputs: &Outputs, after: &Card) {
         let place = self.steps / STEPS_IN_A_PLACE % PLACES;
         self.steps += 1;
@@ -180,8 +235,20 @@ impl List {
     }
 
     fn put_outputs(&mut self, of: &Outputs) {
-        for output in [u64::from(of.answer), of.mfn, of.tag, of.start, of.len] {
-            self.put_long(output);
+        let one_by_one = [
+            u64::from(of.answer),
+            of.mfn,
+            of.tag,
+            of.start,
+            of.len,
+            of.next,
+            of.end,
+            of.mark,
+            of.deleted,
+            of.count,
+        ];
+        for output in one_by_one.iter().chain(of.fields.as_flattened()) {
+            self.put_long(*output);
         }
     }
 

@@ -4,10 +4,10 @@
 //!   ./key-archive && cd host && cargo --offline run --release -p board
 
 use board::core::{CORES, Core, root, run};
+use board::list::List;
 use board::lists::ALL;
 use board::recorder::Recorder;
 use board::runner;
-use model::Call;
 use std::process::Command;
 
 fn main() {
@@ -64,10 +64,10 @@ fn instructions() {
 fn stack() {
     heading("stack of a call, bytes");
     let mut most = CORES.map(|_| runner::Stack::default());
-    let mut calls = 0;
+    let mut calls: usize = 0;
     for (name, make) in ALL {
         let recorder: Recorder = make();
-        calls += recorder.tally.calls();
+        calls += recorder.lists.iter().map(List::steps).sum::<usize>();
         for (core, most) in CORES.iter().zip(&mut most) {
             let used = runner::run(core, name, &recorder).unwrap_or_else(|words| panic!("{words}"));
             for (most, used) in most.iter_mut().zip(used) {
@@ -75,7 +75,7 @@ fn stack() {
             }
         }
     }
-    for (kind, name) in Call::NAMES.iter().enumerate() {
+    for (kind, name) in runner::names().enumerate() {
         let numbers: Vec<String> = most.iter().map(|of| of[kind].to_string()).collect();
         line(name, &numbers);
     }
