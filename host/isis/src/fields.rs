@@ -1,7 +1,20 @@
 //! The fields of a record in directory order.
 
-use crate::refusal::Answer;
-use crate::{FieldCall, Refusal, by_index};
+use crate::answer;
+use crate::refusal::{Answer, Refusal};
+
+/// A function of the C interface that shows a field by its index.
+pub(crate) type FieldCall = unsafe extern "C" fn(
+    *const u8,
+    usize,
+    *const u8,
+    usize,
+    u32,
+    usize,
+    *mut u16,
+    *mut usize,
+    *mut usize,
+) -> u32;
 
 /// A field: its tag and its bytes, which stand in the MST.
 #[derive(Clone, Copy, Debug, PartialEq, Eq)]
@@ -10,6 +23,36 @@ pub struct Field<'c> {
     pub tag: u16,
     /// The bytes; there may be none.
     pub bytes: &'c [u8],
+}
+
+/// The field at an index, as the part of the MST that the library names.
+pub(crate) fn by_index<'c>(
+    mst: &'c [u8],
+    xrf: &[u8],
+    call: FieldCall,
+    mfn: u32,
+    index: usize,
+) -> Answer<Field<'c>> {
+    let (mut tag, mut start, mut len) = (0, 0, 0);
+    // SAFETY: the buffers are borrowed for their whole length, the outputs are three
+    // variables of this function.
+    let number = unsafe {
+        call(
+            mst.as_ptr(),
+            mst.len(),
+            xrf.as_ptr(),
+            xrf.len(),
+            mfn,
+            index,
+            &mut tag,
+            &mut start,
+            &mut len,
+        )
+    };
+    answer(number).map(|()| Field {
+        tag,
+        bytes: &mst[start..start + len],
+    })
 }
 
 /// The fields of one version of a record, in directory order. The card is lent
