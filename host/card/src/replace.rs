@@ -99,9 +99,9 @@ impl<'a> Replacement<'a> {
         }
         let path = self.intent.path();
         let busy = "another card command writes this card; try again";
-        let file = File::create_new(&path).map_err(|why| match why.kind() {
+        let file = disk::make(&path, 0o666).map_err(|why| match why.kind() {
             io::ErrorKind::AlreadyExists => self.trouble(busy),
-            _ => disk::trouble(&path, "cannot be written", &why),
+            _ => disk::not_made(&self.intent.parts[0].path, &why),
         })?;
         // Another process may have met it before the lock and taken it for a cut write.
         if let Err(fs::TryLockError::WouldBlock) = file.try_lock() {
