@@ -17,9 +17,9 @@ pub struct Arguments {
     verb: &'static str,
 }
 
-/// Whether a word before `--` looks like a flag.
+/// Whether a word before `--` looks like a flag. A number below 0 does not.
 fn is_flag(word: &OsStr) -> bool {
-    word.len() > 1 && word.as_bytes()[0] == b'-'
+    matches!(word.as_bytes(), [b'-', next, ..] if !next.is_ascii_digit())
 }
 
 impl Arguments {
@@ -58,30 +58,17 @@ impl Arguments {
         Trouble::Usage(format!("{words}; see 'card help {}'", self.verb))
     }
 
-    /// A flag that this command does not have.
-    fn no_flag(&self, word: &OsStr) -> Trouble {
-        let (word, verb) = (quoted(word), self.verb);
-        self.usage(&format!("{word} is no flag of 'card {verb}'"))
-    }
-
-    /// The next word, which must be there.
+    /// The next word, which must be there and is no flag.
     pub fn wanted(&mut self, what: &str) -> Result<OsString, Trouble> {
-        self.word()
-            .ok_or_else(|| self.usage(&format!("{what} is missing")))
+        let word = self.unless_flag()?;
+        word.ok_or_else(|| self.usage(&format!("{what} is missing")))
     }
 
     /// The name of a file, which must be there. `-` names none.
     fn file(&mut self, which: &str) -> Result<PathBuf, Trouble> {
-        match self.words.peek() {
-            Some(word) if word == "-" => {
-                let words = "'-' is no file; './-' names one of that name";
-                return Err(self.usage(words));
-            }
-            Some(word) if is_flag(word) => {
-                let word = word.clone();
-                return Err(self.no_flag(&word));
-            }
-            _ => {}
+        if self.words.peek().is_some_and(|word| word == "-") {
+            let words = "'-' is no file; './-' names one of that name";
+            return Err(self.usage(words));
         }
         let name = self.wanted(&format!("the name of the {which} file"))?;
         Ok(name.into())
@@ -103,14 +90,6 @@ impl Arguments {
 
     /// An MFN, if there is another word.
     pub fn mfn_if_any(&mut self) -> Result<Option<u32>, Trouble> {
-        if let Some(word) = self
-            .words
-            .peek()
-            .filter(|word| word.len() > 2 && is_flag(word))
-        {
-            let word = word.clone();
-            return Err(self.no_flag(&word));
-        }
         match self.words.len() + self.plain.len() {
             0 => Ok(None),
             _ => self.mfn().map(Some),
@@ -133,12 +112,12 @@ impl Arguments {
 
     /// The next word, if there is one, which is no flag.
     pub fn unless_flag(&mut self) -> Result<Option<OsString>, Trouble> {
-        match self.words.peek() {
-            Some(word) if is_flag(word) => {
-                let word = word.clone();
-                Err(self.no_flag(&word))
+        match self.words.next_if(|word| is_flag(word)) {
+            None => Ok(self.word()),
+            Some(flag) => {
+                let (flag, verb) = (quoted(&flag), self.verb);
+                Err(self.usage(&format!("{flag} is no flag of 'card {verb}'")))
             }
-            _ => Ok(self.word()),
         }
     }
 

@@ -214,7 +214,7 @@ mod tests {
             let causes = causes(&store);
             assert_eq!(causes.is_empty(), card.check().is_ok(), "{causes:?}");
             for mfn in 1..store.next {
-                let answer = card.view_settled(mfn as u32, 1, 0);
+                let answer = card.fields_settled(mfn as u32).map(|_| ());
                 let wrong = matches!(answer, Err(Refusal::BadEntry | Refusal::BadRecord));
                 assert_eq!(of_mfn(&store, mfn).is_some(), wrong, "{mfn}: {answer:?}");
                 refused += usize::from(wrong);

@@ -31,6 +31,9 @@ unsafe extern "C" {
 /// No list of names and no value is longer.
 const LONGEST: usize = 65_536;
 
+/// The bits of a mode.
+const ALL: u32 = 0o7777;
+
 /// Gives a new file what the old one has; gives back what could not be kept, in words.
 pub fn take_over(new: &Path, file: &File, old: &Path, had: &Metadata) -> Vec<String> {
     let mut lost = Vec::new();
@@ -39,7 +42,9 @@ pub fn take_over(new: &Path, file: &File, old: &Path, had: &Metadata) -> Vec<Str
         lost.push("its extended attributes".into());
     }
     // The mode comes last: a new owner or access list changes it.
-    if file.set_permissions(Permissions::from_mode(mode)).is_err() {
+    let is = file.metadata().map(|is| is.mode() & ALL);
+    let set = || file.set_permissions(Permissions::from_mode(mode));
+    if is.ok() != Some(mode) && set().is_err() {
         lost.push("its mode".into());
     }
     if had.nlink() > 1 {
@@ -51,15 +56,16 @@ pub fn take_over(new: &Path, file: &File, old: &Path, had: &Metadata) -> Vec<Str
 /// Sets owner and group; gives the mode that goes with those it has then. The rights of a
 /// group that is lost go to no other group.
 fn owner_and_group(file: &File, had: &Metadata, lost: &mut Vec<String>) -> u32 {
-    let mode = had.mode() & 0o7777;
-    if fchown(file, Some(had.uid()), Some(had.gid())).is_ok() {
+    let mode = had.mode() & ALL;
+    let is = file.metadata().map(|is| (is.uid(), is.gid())).ok();
+    let (owner, group) = (had.uid(), had.gid());
+    if is == Some((owner, group)) || fchown(file, Some(owner), Some(group)).is_ok() {
         return mode;
     }
-    let is = file.metadata();
-    if is.as_ref().is_ok_and(|is| is.uid() != had.uid()) {
+    if is.is_none_or(|is| is.0 != owner) {
         lost.push("its owner".into());
     }
-    if fchown(file, None, Some(had.gid())).is_ok() {
+    if is.is_some_and(|is| is.1 == group) || fchown(file, None, Some(group)).is_ok() {
         return mode & 0o777;
     }
     lost.push("its group".into());

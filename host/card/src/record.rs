@@ -111,11 +111,11 @@ impl Record<'_> {
 
     /// What is wrong with its lengths and its directory.
     pub fn shape(&self, end: usize) -> Result<(), Flaw> {
-        let (bytes, length, base) = (self.bytes()?, self.length(), self.base());
-        let fields = short(self.mst, self.at + 14);
-        if bytes.end > end {
+        if self.bytes()?.end > end {
             return Err(self.past(end));
         }
+        let (length, base) = (self.length(), self.base());
+        let fields = short(self.mst, self.at + 14);
         if base != LEADER + ITEM * fields {
             let words = format!("its BASE is {base}, not 18 + 6 times its NVF of {fields}");
             return Err(other(words));

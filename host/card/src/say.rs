@@ -48,9 +48,9 @@ impl Lines {
     /// What became of the text. A reader that went away is no trouble.
     pub fn end(mut self) -> Result<(), Trouble> {
         match self.written.and_then(|()| self.out.flush()) {
-            Err(why) if why.kind() != io::ErrorKind::BrokenPipe => {
-                Err(Trouble::Output(format!("standard output: {why}")))
-            }
+            Err(why) if why.kind() != io::ErrorKind::BrokenPipe => Err(Trouble::Output(format!(
+                "standard output cannot be written: {why}"
+            ))),
             _ => Ok(()),
         }
     }

@@ -3,12 +3,11 @@
 
 mod folder;
 
-use folder::{Folder, NOBODY};
+use folder::{Folder, NOBODY, as_nobody};
 use std::ffi::{CString, c_char, c_int, c_void};
 use std::fs;
 use std::os::unix::ffi::OsStrExt;
 use std::os::unix::fs::{MetadataExt, chown};
-use std::os::unix::process::CommandExt;
 use std::path::Path;
 
 unsafe extern "C" {
@@ -21,12 +20,6 @@ unsafe extern "C" {
     ) -> c_int;
     fn getxattr(path: *const c_char, name: *const c_char, value: *mut c_void, size: usize)
     -> isize;
-    fn geteuid() -> u32;
-}
-
-fn is_root() -> bool {
-    // SAFETY: geteuid has no conditions.
-    unsafe { geteuid() == 0 }
 }
 
 fn terminated(bytes: &[u8]) -> CString {
@@ -152,11 +145,11 @@ fn no_access_list_stays_none() {
 
 #[test]
 fn owner_group_and_mode_are_kept() {
-    if !is_root() {
-        println!("not tried: only root gives files away");
+    let folder = with_record("keep-owner");
+    if let Err(why) = chown(folder.0.join("a.mst"), Some(1234), None) {
+        println!("not tried, since only root gives files away: {why}");
         return;
     }
-    let folder = with_record("keep-owner");
     let kept = |name: &str| {
         let meta = fs::metadata(folder.0.join(name)).unwrap();
         (meta.uid(), meta.gid(), meta.mode() & 0o7777)
@@ -203,14 +196,13 @@ fn a_finished_write_keeps_them() {
 /// The rights of a group that is lost go to no other group.
 #[test]
 fn what_cannot_be_kept_is_said() {
-    if !is_root() {
-        println!("not tried: only root can make a file of another owner");
-        return;
-    }
     let folder = with_record("keep-not");
     folder.permit_all();
     let mut create = folder.command("create a.mst a.xrf 24=Wind");
-    let output = create.uid(NOBODY).gid(NOBODY).output().unwrap();
+    if !as_nobody(&mut create) {
+        return;
+    }
+    let output = create.output().unwrap();
     let said = String::from_utf8(output.stderr).unwrap();
     assert_eq!(output.status.code(), Some(0), "{said}");
     let lines: Vec<&str> = said.lines().collect();
@@ -233,7 +225,8 @@ fn what_cannot_be_kept_is_said() {
         folder.permit(name, 0o664);
     }
     let mut create = folder.command("create a.mst a.xrf 24=Wind");
-    let output = create.uid(NOBODY).gid(NOBODY).output().unwrap();
+    assert!(as_nobody(&mut create));
+    let output = create.output().unwrap();
     assert_eq!(output.status.code(), Some(0));
     for name in FILES {
         let meta = fs::metadata(folder.0.join(name)).unwrap();

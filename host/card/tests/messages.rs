@@ -3,7 +3,7 @@
 
 mod folder;
 
-use folder::NOBODY;
+use folder::as_nobody;
 use folder::cut::{CALLS, HALF, before_and_after, card_in, cut, put, worked, write};
 use std::ffi::c_int;
 use std::fs::{File, OpenOptions};
@@ -172,7 +172,6 @@ fn closed_streams_do_the_card_no_harm() {
 
 unsafe extern "C" {
     fn setrlimit(resource: c_int, limit: *const [u64; 2]) -> c_int;
-    fn geteuid() -> u32;
 }
 
 const PROCESSES: c_int = 6;
@@ -183,12 +182,9 @@ fn a_write_needs_no_second_thread() {
     let folder = worked("thread");
     let (_, after) = before_and_after(&folder, CALLS[0]);
     let mut create = folder.command(CALLS[0]);
-    // SAFETY: geteuid has no conditions.
-    if unsafe { geteuid() } == 0 {
-        // The limit does not hold for root.
-        folder.permit_all();
-        create.uid(NOBODY);
-    }
+    // The limit does not hold for root.
+    folder.permit_all();
+    as_nobody(&mut create);
     // SAFETY: between fork and exec only this one system call is made.
     unsafe {
         create.pre_exec(|| match setrlimit(PROCESSES, &[0, 0]) {

@@ -3,10 +3,9 @@
 
 mod folder;
 
-use folder::{Folder, NOBODY};
+use folder::{Folder, as_nobody};
 use std::fs::{self, OpenOptions};
 use std::io::Write;
-use std::os::unix::process::CommandExt;
 use std::process::Command;
 use std::thread::JoinHandle;
 
@@ -158,11 +157,8 @@ fn a_folder_that_may_not_be_written() {
     let before = folder.files();
     let run = |words: &str| {
         let mut command = folder.command(words);
-        if fs::File::create(folder.0.join("try")).is_ok() {
-            // Root may write everywhere.
-            fs::remove_file(folder.0.join("try")).unwrap();
-            command.uid(NOBODY).gid(NOBODY);
-        }
+        // Root may write everywhere.
+        as_nobody(&mut command);
         let output = command.output().unwrap();
         let said = String::from_utf8(output.stderr).unwrap();
         (output.status.code().unwrap(), said)

@@ -7,11 +7,27 @@ pub mod cut;
 
 use std::fs;
 use std::os::unix::fs::PermissionsExt;
+use std::os::unix::process::CommandExt;
 use std::path::PathBuf;
 use std::process::Command;
 
 /// A user without rights, for tests that run as root.
 pub const NOBODY: u32 = 65_534;
+
+/// Has a command run as that user. Only root can, and only a program that is not shut to
+/// others; where it is not so, the test says so.
+pub fn as_nobody(command: &mut Command) -> bool {
+    let mut card = Command::new(env!("CARGO_BIN_EXE_card"));
+    let tried = card.arg("--version").uid(NOBODY).gid(NOBODY).output();
+    match tried {
+        Ok(_) => command.uid(NOBODY).gid(NOBODY),
+        Err(why) => {
+            println!("not tried as another user: {why}");
+            return false;
+        }
+    };
+    true
+}
 
 /// A folder of its own for one test, removed at the end.
 pub struct Folder(pub PathBuf);
