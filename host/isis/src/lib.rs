@@ -14,7 +14,8 @@
 //! card.update(mfn, [(24, "Kites")])?;
 //! assert_eq!(card.view(mfn, 24, 1)?, b"Kites");
 //! assert_eq!(card.view_settled(mfn, 24, 1)?, b"Kite");
-//! assert_eq!(card.fields_settled(mfn)?.count(), 2);
+//! assert_eq!(card.fields_settled(mfn)?.len(), 2);
+//! assert_eq!(card.state(mfn)?.mark, isis::Mark::Changed);
 //! card.revert(mfn)?;
 //! assert_eq!(card.view(mfn, 24, 1)?, b"Kite");
 //! card.check()?;
@@ -28,11 +29,13 @@ mod fields;
 pub mod raw;
 mod reader;
 mod refusal;
+mod state;
 
 pub use draft::{Draft, Lists};
 pub use fields::{Field, Fields};
 pub use reader::CardRef;
 pub use refusal::{Answer, Refusal};
+pub use state::{Mark, Next, State};
 use std::ops::Range;
 
 /// The file of the archive that this crate was built with, for tests and measurements.
@@ -217,6 +220,16 @@ impl Card<'_> {
     /// [`CardRef::fields_settled`].
     pub fn fields_settled(&self, mfn: u32) -> Answer<Fields<'_>> {
         self.reader().fields_settled(mfn)
+    }
+
+    /// [`CardRef::next`].
+    pub fn next(&self) -> Answer<Next> {
+        self.reader().next()
+    }
+
+    /// [`CardRef::state`].
+    pub fn state(&self, mfn: u32) -> Answer<State> {
+        self.reader().state(mfn)
     }
 
     /// [`CardRef::check`].

@@ -3,6 +3,7 @@
 
 use crate::fields::{Field, Fields, by_index};
 use crate::refusal::Answer;
+use crate::state::{Mark, Next, State};
 use crate::{answer, raw};
 use std::ops::Range;
 
@@ -106,12 +107,51 @@ impl<'a> CardRef<'a> {
 
     /// All fields of the current version, in directory order.
     pub fn fields(self, mfn: u32) -> Answer<Fields<'a>> {
-        Fields::of(self.mst, self.xrf, raw::isis_field, mfn)
+        Fields::of(self.mst, self.xrf, raw::isis_fields, mfn)
     }
 
     /// All fields of the settled version, in directory order.
     pub fn fields_settled(self, mfn: u32) -> Answer<Fields<'a>> {
-        Fields::of(self.mst, self.xrf, raw::isis_field_settled, mfn)
+        Fields::of(self.mst, self.xrf, raw::isis_fields_settled, mfn)
+    }
+
+    /// What the next create is given: how many MFNs there are, and where the records end.
+    pub fn next(self) -> Answer<Next> {
+        let (mut mfn, mut end) = (0, 0);
+        // SAFETY: the buffers are borrowed for their whole length, the outputs are two
+        // variables of this function.
+        let number = unsafe {
+            raw::isis_next(
+                self.mst.as_ptr(),
+                self.mst.len(),
+                self.xrf.as_ptr(),
+                self.xrf.len(),
+                &mut mfn,
+                &mut end,
+            )
+        };
+        answer(number).map(|()| Next { mfn, end })
+    }
+
+    /// The state of a record.
+    pub fn state(self, mfn: u32) -> Answer<State> {
+        let (mut mark, mut deleted) = (0, 0);
+        // SAFETY: as in `next`.
+        let number = unsafe {
+            raw::isis_state(
+                self.mst.as_ptr(),
+                self.mst.len(),
+                self.xrf.as_ptr(),
+                self.xrf.len(),
+                mfn,
+                &mut mark,
+                &mut deleted,
+            )
+        };
+        answer(number).map(|()| State {
+            mark: Mark::numbered(mark),
+            deleted: deleted != 0,
+        })
     }
 
     /// Checks the whole store: accepted exactly if it is sound.

@@ -40,6 +40,8 @@ pub enum Refusal {
     NoRoom = 13,
     /// 14: the store is not sound.
     NotSound = 14,
+    /// 17: a list that is lent for outputs is too short for them; given last of all.
+    NoRoomInList = 17,
 }
 
 impl Refusal {
@@ -59,6 +61,7 @@ impl Refusal {
         Refusal::NoField,
         Refusal::NoRoom,
         Refusal::NotSound,
+        Refusal::NoRoomInList,
     ];
 
     /// The number of the refusal.
@@ -95,6 +98,7 @@ impl Refusal {
             Refusal::NoField => "there is no field of this tag and occurrence",
             Refusal::NoRoom => "there is no room at the end of the MST",
             Refusal::NotSound => "the store is not sound",
+            Refusal::NoRoomInList => "a list is too short for what it is to hold",
         }
     }
 }
