@@ -6,11 +6,12 @@
 use crate::arguments::Arguments;
 use crate::check::opened;
 use crate::files::Files;
-use crate::layout::{BLOCK, Entry, FIRST, LEADER, Mark, Place, Store, block_and_offset};
+use crate::layout::{BLOCK, Entry, FIRST, LEADER, Place, Store, block_and_offset};
 use crate::picture;
 use crate::say::print;
 use crate::survey::{self, Part, Span};
 use crate::trouble::Trouble;
+use isis::Mark;
 
 /// At most so many blocks, and so many entries, are drawn.
 const MOST_BLOCKS: usize = 24;

@@ -2,9 +2,10 @@
 //! follows from one. The library has answered before that the store is not sound; here the
 //! bytes are read a second time to say why.
 
-use crate::layout::{BLOCK, Entry, Mark, Place, Store, long, slot_at, slots};
+use crate::layout::{BLOCK, Entry, Place, Store, long, slot_at, slots};
 use crate::record::{About, Flaw};
 use crate::steps::{Anchors, wrong_steps};
+use isis::Mark;
 use std::collections::BTreeMap;
 
 /// Every cause: of the XRF's blocks and free slots, of the MST by address, of the entries
@@ -210,7 +211,7 @@ mod tests {
                 Err(Refusal::NotSound) => not_sound += 1,
                 Err(_) => continue,
             }
-            let store = Store::read(&mst, &xrf);
+            let store = Store::open(card).unwrap();
             let causes = causes(&store);
             assert_eq!(causes.is_empty(), card.check().is_ok(), "{causes:?}");
             for mfn in 1..store.next {

@@ -125,11 +125,7 @@ impl Files {
 
     /// What stands where on the card, if its lengths and its control record are right.
     pub fn store(&self) -> Answer<Store<'_>> {
-        // MFN 0 is never there: answer 4 says that neither 1 nor 2 applies.
-        match self.card().view(0, 1, 1) {
-            Ok(_) | Err(Refusal::NoMfn) => Ok(Store::read(&self.mst, &self.xrf)),
-            Err(refusal) => Err(refusal),
-        }
+        Store::open(self.card())
     }
 
     /// Writes back the files whose bytes are not as they were read.

@@ -2,6 +2,8 @@
 //! with these only to say where something is and what is wrong with it; whether something
 //! is wrong is the library's to answer.
 
+use isis::{Answer, CardRef, Mark};
+
 /// Bytes of a block of either file.
 pub const BLOCK: usize = 512;
 /// The most blocks of an MST.
@@ -45,28 +47,6 @@ pub struct Store<'a> {
     pub next: usize,
     /// The address where the next record goes.
     pub end: usize,
-}
-
-/// The state that an entry gives its record.
-#[derive(Clone, Copy, Debug, PartialEq, Eq)]
-pub enum Mark {
-    /// Nothing is pending.
-    Settled,
-    /// A change of a settled record is pending.
-    Changed,
-    /// The record was never settled.
-    New,
-}
-
-impl Mark {
-    /// The mark in words.
-    pub fn words(self) -> &'static str {
-        match self {
-            Mark::Settled => "settled",
-            Mark::Changed => "changed, pending",
-            Mark::New => "new, pending",
-        }
-    }
 }
 
 /// Where a record stands, and in which state it is.
@@ -140,15 +120,20 @@ pub fn slots(xrf: &[u8]) -> usize {
 }
 
 impl<'a> Store<'a> {
-    /// A card whose lengths and control record are right.
-    pub fn read(mst: &'a [u8], xrf: &'a [u8]) -> Store<'a> {
-        let (block, offset) = (long(mst, 8) as usize, short(mst, 12));
-        Store {
-            mst,
-            xrf,
-            next: long(mst, 4) as usize,
-            end: (block - 1) * BLOCK + offset,
-        }
+    /// A card that may be looked at, or why it may not.
+    pub fn open(card: CardRef<'a>) -> Answer<Store<'a>> {
+        let next = card.next()?;
+        Ok(Store {
+            mst: card.mst(),
+            xrf: card.xrf(),
+            next: next.mfn as usize,
+            end: next.end,
+        })
+    }
+
+    /// The card itself.
+    pub fn card(&self) -> CardRef<'a> {
+        CardRef::over(self.mst, self.xrf)
     }
 
     /// An MFN's slot of the XRF, as it stands.

@@ -1,6 +1,7 @@
 //! What is wrong with a record, in words: its leader, its directory, its back pointer.
 
-use crate::layout::{Astray, ITEM, LEADER, LONGEST, Mark, Place, Store, long, place, short};
+use crate::layout::{Astray, ITEM, LEADER, LONGEST, Place, Store, long, place, short};
+use isis::Mark;
 use std::ops::Range;
 
 /// What a flaw is about.

@@ -5,11 +5,10 @@
 use crate::arguments::Arguments;
 use crate::check::{About, opened, reason};
 use crate::files::Files;
-use crate::layout::{Entry, Mark, Place};
 use crate::printable::printable;
 use crate::say::{Lines, tell};
 use crate::trouble::Trouble;
-use isis::{Answer, Fields, Refusal};
+use isis::{Answer, Fields, Mark, Refusal, State};
 
 /// `card show`.
 pub fn show(mut arguments: Arguments) -> Result<(), Trouble> {
@@ -34,7 +33,8 @@ pub fn show(mut arguments: Arguments) -> Result<(), Trouble> {
 /// One record. Its state is printed even if it is deleted or gone, and the exit
 /// status is that of the current view.
 fn show_one(files: &Files, mfn: u32, out: &mut Lines) -> Result<(), Trouble> {
-    let answer = state(files, mfn).and_then(|place| record(files, mfn, place, out));
+    let state = files.card().state(mfn);
+    let answer = state.and_then(|state| record(files, mfn, state, out));
     answer.map_err(|refusal| {
         let about = About {
             mfn: Some(mfn),
@@ -67,28 +67,16 @@ fn show_all(files: &Files, out: &mut Lines) -> Result<(), Trouble> {
     first
 }
 
-/// The place of a record that the library finds well formed.
-fn state(files: &Files, mfn: u32) -> Answer<Place> {
-    match files.card().view(mfn, 1, 0) {
-        Err(Refusal::NoField | Refusal::Deleted) | Ok(_) => {}
-        Err(refusal) => return Err(refusal),
-    }
-    match files.store()?.entry(mfn as usize) {
-        Entry::At(place) => Ok(place),
-        _ => Err(Refusal::BadEntry),
-    }
-}
-
 /// Prints a record that was found well formed.
-fn record(files: &Files, mfn: u32, place: Place, out: &mut Lines) -> Answer<()> {
-    out.add(format_args!("MFN {mfn}: {}\n", words(place)));
+fn record(files: &Files, mfn: u32, state: State, out: &mut Lines) -> Answer<()> {
+    out.add(format_args!("MFN {mfn}: {}\n", words(state)));
     let card = files.card();
-    let current = if place.deleted {
+    let current = if state.deleted {
         Err(Refusal::Deleted)
     } else {
         card.fields(mfn).map(|fields| print(fields, "  ", out))
     };
-    if place.mark == Mark::Changed {
+    if state.mark == Mark::Changed {
         out.add("  settled version:\n");
         print(card.fields_settled(mfn)?, "    ", out);
     }
@@ -96,9 +84,9 @@ fn record(files: &Files, mfn: u32, place: Place, out: &mut Lines) -> Answer<()> 
 }
 
 /// A record's state in words.
-fn words(place: Place) -> String {
-    let deleted = if place.deleted { "deleted" } else { "live" };
-    format!("{deleted}, {}", place.mark.words())
+fn words(state: State) -> String {
+    let deleted = if state.deleted { "deleted" } else { "live" };
+    format!("{deleted}, {}", state.mark.words())
 }
 
 /// Prints the fields of a version, a line each.

@@ -1,8 +1,9 @@
-//! What stands where on a card: the entries counted, and the MST walked step by step
+//! What stands where on a card: the records counted, and the MST walked step by step
 //! from address 64, each step with the part that it plays. Nothing is changed, and
 //! nothing is taken for granted: where stepping fails, the rest is unreadable.
 
-use crate::layout::{Entry, FIRST, Mark, Place, Store, step_over};
+use crate::layout::{Entry, FIRST, Place, Store, step_over};
+use isis::{Mark, Refusal, State};
 
 /// The part that some bytes of the MST play.
 #[derive(Clone, Copy, Debug, PartialEq, Eq)]
@@ -30,7 +31,7 @@ pub struct Span {
     pub part: Part,
 }
 
-/// How many entries are of which kind.
+/// How many records are of which kind.
 #[derive(Clone, Copy, Debug, Default, PartialEq, Eq)]
 #[allow(missing_docs)]
 pub struct Counts {
@@ -42,19 +43,19 @@ pub struct Counts {
     pub malformed: usize,
 }
 
-/// Counts the entries below NXTMFN.
+/// Counts the records, by the states that the library tells.
 pub fn count(store: &Store) -> Counts {
     let mut counts = Counts::default();
-    for mfn in 1..store.next {
-        match store.entry(mfn) {
-            Entry::Gone => counts.gone += 1,
-            Entry::At(place) => {
-                counts.live += usize::from(!place.deleted);
-                counts.deleted += usize::from(place.deleted);
-                counts.changed += usize::from(place.mark == Mark::Changed);
-                counts.new += usize::from(place.mark == Mark::New);
+    for mfn in 1..store.next as u32 {
+        match store.card().state(mfn) {
+            Ok(State { mark, deleted }) => {
+                counts.live += usize::from(!deleted);
+                counts.deleted += usize::from(deleted);
+                counts.changed += usize::from(mark == Mark::Changed);
+                counts.new += usize::from(mark == Mark::New);
             }
-            _ => counts.malformed += 1,
+            Err(Refusal::Gone) => counts.gone += 1,
+            Err(_) => counts.malformed += 1,
         }
     }
     counts
@@ -136,10 +137,9 @@ mod tests {
         for _ in 0..5_000 {
             let (mut mst, mut xrf) = card(&mut dice);
             damage(&mut dice, &mut mst, &mut xrf);
-            if CardRef::over(&mst, &xrf).check() == Err(isis::Refusal::BadControl) {
+            let Ok(store) = Store::open(CardRef::over(&mst, &xrf)) else {
                 continue;
-            }
-            let store = Store::read(&mst, &xrf);
+            };
             let space = space(&store, &spans(&store));
             let sum = space.used + space.kept + space.lost + space.free;
             assert_eq!(sum, mst.len());
