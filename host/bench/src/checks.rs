@@ -2,21 +2,20 @@
 //! cards of small records, most of them versions that were settled long ago.
 
 use crate::cards::{Buffers, draft};
-use crate::clock::{both, row, time};
-use crate::plain;
-use isis::Card;
+use crate::rows::Task;
 use model::store;
-use std::hint::black_box;
 
 /// From 1 MB to `most` MB.
-pub fn run(most: usize) {
-    let sizes = || (0..).map(|power| 1 << power).take_while(|mb| *mb <= most);
-    for megabytes in sizes() {
-        one(&format!("check, {megabytes} MB"), megabytes, filled);
-    }
-    for megabytes in sizes() {
-        let name = format!("check, {megabytes} MB of small records");
-        one(&name, megabytes, grown);
+pub fn run(task: &Task, most: usize) {
+    doubling(task, most, "", filled);
+    doubling(task, most, " of small records", grown);
+}
+
+fn doubling(task: &Task, most: usize, kind: &str, make: fn(usize) -> Buffers) {
+    for megabytes in (0..).map(|power| 1 << power).take_while(|mb| *mb <= most) {
+        let rounds = if megabytes <= 64 { 11 } else { 5 };
+        let name = format!("check, {megabytes} MB{kind}");
+        task.check(&name, rounds, &mut make(megabytes));
     }
 }
 
@@ -62,16 +61,4 @@ fn grown(megabytes: usize) -> Buffers {
         store::settle(&mut card.mst, &mut card.xrf, mfn).expect("a changed record");
     }
     card
-}
-
-fn one(name: &str, megabytes: usize, make: fn(usize) -> Buffers) {
-    let mut card = make(megabytes);
-    let rounds = if megabytes <= 64 { 11 } else { 5 };
-    let checked = Card::over(&mut card.mst, &mut card.xrf);
-    let times = both(
-        rounds,
-        || time(|| assert_eq!(checked.check(), Ok(()))),
-        || time(|| assert_eq!(plain::check(black_box(checked.mst()), checked.xrf()), 0)),
-    );
-    row(name, times, 1);
 }
