@@ -5,18 +5,32 @@ use crate::cards::{Buffers, draft};
 use crate::rows::Task;
 use model::store;
 
-/// From 1 MB to `most` MB.
-pub fn run(task: &Task, most: usize) {
-    doubling(task, most, "", filled);
-    doubling(task, most, " of small records", grown);
+/// From 1 MB to `most` MB. Gives a sentence on what a megabyte takes, where it was timed.
+pub fn run(task: &Task, most: usize) -> String {
+    let filled = doubling(task, most, "", filled);
+    let grown = doubling(task, most, " of small records", grown);
+    match (filled, grown) {
+        (Some(filled), Some(grown)) => format!(
+            "A megabyte takes `check` {filled} on records of a kilobyte, and {grown} on small ones."
+        ),
+        _ => String::new(),
+    }
 }
 
-fn doubling(task: &Task, most: usize, kind: &str, make: fn(usize) -> Buffers) {
+/// One kind of card at each size; gives the least and the most that a megabyte took.
+fn doubling(task: &Task, most: usize, kind: &str, make: fn(usize) -> Buffers) -> Option<String> {
+    let mut each = Vec::new();
     for megabytes in (0..).map(|power| 1 << power).take_while(|mb| *mb <= most) {
         let rounds = if megabytes <= 64 { 11 } else { 5 };
         let name = format!("check, {megabytes} MB{kind}");
-        task.check(&name, rounds, &mut make(megabytes));
+        let time = task.check(&name, rounds, &mut make(megabytes))?;
+        each.push(time.as_secs_f64() * 1e6 / megabytes as f64);
     }
+    let (least, most) = (
+        each.iter().copied().reduce(f64::min)?,
+        each.into_iter().reduce(f64::max)?,
+    );
+    Some(format!("{least:.0} to {most:.0} us"))
 }
 
 /// An empty card of so many megabytes with so many MFNs.

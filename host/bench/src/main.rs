@@ -54,9 +54,9 @@ fn times(most: usize) {
     ];
     clock::head("a call", &columns);
     calls::run(&Task::Time);
-    checks::run(&Task::Time, most);
+    let checks = checks::run(&Task::Time, most);
     calls::copies();
-    println!();
+    println!("\n{checks}\n");
     biblio::run();
     stack::run();
     println!();

@@ -133,9 +133,9 @@ impl Task {
         }
     }
 
-    /// Does what the task is with the check of a whole card that is sound. Timed, all sides
-    /// read the same bytes, which are copied for none.
-    pub fn check(&self, name: &str, rounds: usize, card: &mut Buffers) {
+    /// Does what the task is with the check of a whole card that is sound, and gives the
+    /// library's time if it was timed. All sides then read the same bytes, copied for none.
+    pub fn check(&self, name: &str, rounds: usize, card: &mut Buffers) -> Option<Duration> {
         let Task::Time = self else {
             let row = Row {
                 name,
@@ -145,7 +145,8 @@ impl Task {
                 wanted: 0,
             };
             let ways = both_ways!(|mst, xrf, _| plain::check(mst, xrf));
-            return self.measure(&row, |card, _| number(card.check()), ways);
+            self.measure(&row, |card, _| number(card.check()), ways);
+            return None;
         };
         let card = Card::over(&mut card.mst, &mut card.xrf);
         let (mst, xrf) = (card.mst(), card.xrf());
@@ -158,6 +159,7 @@ impl Task {
             ],
         );
         row(name, &cells(&times, 1));
+        Some(times[0])
     }
 }
 
