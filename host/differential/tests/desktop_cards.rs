@@ -5,8 +5,8 @@
 //! What document 01 makes of them: NXTMFP is odd in all, so every call is refused with 2.
 //! With NXTMFP one less, 61 of the 62 records are read, as Biblio::Isis reads them. The one
 //! left was deleted by WinISIS, which negates the whole entry where document 01 negates the
-//! block. Four of the five stores are not sound, since versions out of date have a negative
-//! MFRL; the fifth is empty.
+//! block. Four of the five stores are not sound: in three the first version, out of date, has
+//! a negative MFRL, in one a record was shortened in place; the fifth is empty.
 
 use differential::archive::Archive;
 use differential::biblio::{Asked, Fields, lines, read};
@@ -188,6 +188,40 @@ fn a_record_that_winisis_deleted_has_its_whole_entry_negated() {
     let ours = -6 * 2048 + 322i32;
     xrf[4 * mfn as usize..][..4].copy_from_slice(&ours.to_le_bytes());
     assert_eq!(view(&mut mst, &mut xrf), Some(9));
+}
+
+/// The first step from 64 whose MFRL, read as a signed number, is not positive or leads past
+/// the end; `None` if stepping arrives there.
+fn wrong_step(mst: &[u8]) -> Option<usize> {
+    let i16_at = |at: usize| i16::from_le_bytes([mst[at], mst[at + 1]]);
+    let end = (i16_at(8) as usize - 1) * 512 + i16_at(12) as usize;
+    let mut at = 64;
+    while at < end {
+        let mfrl = i16_at(at + 4);
+        if mfrl <= 0 || at + mfrl as usize > end {
+            return Some(at);
+        }
+        at += mfrl as usize;
+        if at % 512 > 498 {
+            at = (at / 512 + 1) * 512;
+        }
+    }
+    None
+}
+
+/// In fmt21 a record at 12,116 was made shorter in place, to 1,600 bytes, and its MFRL with
+/// it, so the step behind it lies in old data.
+#[test]
+fn stepping_fails_at_a_negative_mfrl_or_behind_a_shortened_record() {
+    let wrong = [Some(64), Some(64), Some(64), Some(12_116 + 1_600), None];
+    for (desktop, wrong) in DESKTOP.iter().zip(wrong) {
+        let Some((mst, _)) = desktop.evened() else {
+            return;
+        };
+        assert_eq!(wrong_step(&mst), wrong, "{}", desktop.files[0]);
+        let negative = mst[69] >= 0x80;
+        assert_eq!(negative, wrong == Some(64), "{}", desktop.files[0]);
+    }
 }
 
 #[test]
