@@ -79,10 +79,10 @@ module _ (mst xrf : List ℕ) (g : Gate) (e : g ≡ gateOf mst xrf) where
         module _ (t : Tally) (k : t ≡ tallyOf mst xrf) where
           pub check-wrong : t ≡ Wrong → Unsound ≡ checkAnswer mst xrf
           unfolding bodySound
-          check-wrong n = answered false (rw (entries-wrong mst xrf (not-fine mst xrf t k n) (steps mst (endOf mst) 64), and-false))
+          check-wrong n = answered false (rw (entries-wrong mst xrf (not-fine mst xrf t k n) (steps mst 64), and-false))
 
           module _ (named : ℕ) (c : t ≡ Named named) (r : Bool) (x : r ≡ walkOf mst xrf named) where
-            walked : (arrives mst (endOf mst) 64 && entriesSound mst xrf (steps mst (endOf mst) 64)) ≡ r
+            walked : (arrives mst 64 && entriesSound mst xrf (steps mst 64)) ≡ r
             walked =
                 let q = tally-both mst xrf t k named c in
                 sym (walk-decides mst xrf (opened mst xrf g e next end h .next-low) (q .0)) ∙ ap (walkOf mst xrf) (q .1) ∙ sym x
@@ -91,14 +91,14 @@ module _ (mst xrf : List ℕ) (g : Gate) (e : g ≡ gateOf mst xrf) where
             unfolding bodySound
             check-lost n =
                 answered false
-                (and-assoc (headsRight xrf && restFree xrf (nextOf mst)) (arrives mst (endOf mst) 64) (entriesSound mst xrf (steps mst (endOf mst) 64))
+                (and-assoc (headsRight xrf && restFree xrf (nextOf mst)) (arrives mst 64) (entriesSound mst xrf (steps mst 64))
                 ∙ rw (walked, n, and-false))
 
             pub check-sound : not w ≡ false → not v ≡ false → r ≡ true → Done ≡ checkAnswer mst xrf
             unfolding bodySound
             check-sound m n o =
                 answered true
-                (and-assoc (headsRight xrf && restFree xrf (nextOf mst)) (arrives mst (endOf mst) 64) (entriesSound mst xrf (steps mst (endOf mst) 64))
+                (and-assoc (headsRight xrf && restFree xrf (nextOf mst)) (arrives mst 64) (entriesSound mst xrf (steps mst 64))
                 ∙ rw (walked, o, ← u, rest-is, not-false w m, not-false v n))
 
 pub ruleset check-answers =

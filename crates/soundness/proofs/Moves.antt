@@ -13,7 +13,6 @@ use mathlib.Core.List.{List}
 use lib.ListN.{length, getD}
 use Rattle.word.specs.Place.{place}
 use Rattle.word.proofs.Place.{lt-or-ge, place-length, place-other, place-before}
-use Rattle.word.proofs.Integers.{u16-same, u16-other}
 use Rattle.layout.specs.Sizes.{capacityOf, endMoved, recordLength}
 use Rattle.layout.specs.Entry.{placeAddress}
 use Rattle.layout.specs.CrossReference.{slotAt, headRight, entryAt, slotFree, withEntry}
@@ -30,11 +29,11 @@ use Rattle.layout.proofs.ControlRecord.{control-facts, next-placed, end-placed,
 use Rattle.layout.proofs.CrossReference.{slot-in, entry-later, entry-gone, with-entry-length, with-entry-byte, with-entry-head, with-entry-free, with-entry-other}
 use Rattle.record.specs.Fields.{Field, fieldsOf}
 use Rattle.record.specs.Record.{recordRight, noBack, backRight}
-use Rattle.record.proofs.Local.{ReadsAs, reads-mfn, reads-mfrl, reads-window}
+use Rattle.record.proofs.Local.{ReadsAs, reads-mfn, reads-window}
 use Rattle.store.specs.Reading.{lengthsPermitted, controlFine, entryFor, recordFrom, recordAt, leaderAt, backAddress, backFine, recordFine, settledRecord, settledFine, currentFields}
 use Rattle.store.proofs.Gates.{fine-facts, BackFacts, back-changed, settled-facts, fine-reads, settled-fine-reads}
 use Rattle.soundness.specs.Sound.{elem, mfrlAt, steps, arrives}
-use Rattle.soundness.proofs.Stepping.{MemberFacts, member-facts, steps-apart, MfrlKept, steps-same, arrives-same, arrives-append, elem-kept, elem-new}
+use Rattle.soundness.proofs.Stepping.{MemberFacts, member-facts, steps-apart, mfrl-kept, MfrlKept, steps-same, arrives-same, arrives-append, elem-kept, elem-new}
 use Rattle.soundness.proofs.Standing.{PlaceStands, EntryStands, is-gone, is-at, Sound, sound-from}
 
 -- ---- what a write does
@@ -67,8 +66,8 @@ pub record MstMoved (mst xrf mst′ : List ℕ) (m at n : ℕ) : Type 0 where
   pub touched : Touched mst xrf m at n
   pub front : (i : ℕ) → i < 4 → getD mst′ i 0 ≡ getD mst i 0
   pub kept : (i : ℕ) → 14 ≤ i → (i < at) ⊎ (at + n ≤ i) → getD mst′ i 0 ≡ getD mst i 0
-  pub way : arrives mst′ (endOf mst′) 64 ≡ true
-  pub steps-kept : (a : ℕ) → elem a (steps mst (endOf mst) 64) ≡ true → elem a (steps mst′ (endOf mst′) 64) ≡ true
+  pub way : arrives mst′ 64 ≡ true
+  pub steps-kept : (a : ℕ) → elem a (steps mst 64) ≡ true → elem a (steps mst′ 64) ≡ true
 
 -- of an MFN that is there already
 pub next-stays : {mst xrf mst′ : List ℕ} {m at n : ℕ} → MstMoved mst xrf mst′ m at n → m < nextOf mst → nextOf mst′ ≡ nextOf mst
@@ -134,15 +133,15 @@ module _ {mst xrf mst′ : List ℕ} {m at n : ℕ} (s : Sound mst xrf) (w : Mst
   abbrev pub Untouched : ℕ → Type 0
   Untouched a = (i : ℕ) → a ≤ i → i < a + mfrlAt mst a → (i < at) ⊎ (at + n ≤ i)
 
-  member : (a : ℕ) → elem a (steps mst (endOf mst) 64) ≡ true → MemberFacts mst (endOf mst) 64 a
-  member a i = member-facts mst (endOf mst) a 64 (s .way) i
+  member : (a : ℕ) → elem a (steps mst 64) ≡ true → MemberFacts mst 64 a
+  member a i = member-facts mst a 64 (s .way) i
 
   -- where nothing before the end is touched
-  pub step-before : endOf mst ≤ at → (a : ℕ) → elem a (steps mst (endOf mst) 64) ≡ true → Untouched a
+  pub step-before : endOf mst ≤ at → (a : ℕ) → elem a (steps mst 64) ≡ true → Untouched a
   step-before h a e i lo hi = let f = member a e in inl (omega arith)
 
   -- a step other than m's own place
-  pub step-apart : (a : ℕ) → elem a (steps mst (endOf mst) 64) ≡ true
+  pub step-apart : (a : ℕ) → elem a (steps mst 64) ≡ true
       → ((p : Place) → entryFor mst xrf m ≡ At p → PlaceStands mst m p → a ≡ placeAddress p → ⊥) → Untouched a
   step-apart a e other = go (w .touched)
     where
@@ -150,10 +149,10 @@ module _ {mst xrf mst′ : List ℕ} {m at n : ℕ} (s : Sound mst xrf) (w : Mst
       go (beyond h) = step-before h a e
       go (within p q f low high) = λ i lo hi.
           ⊎-elim (λ b. inl (omega arith)) (λ b. inr (omega arith))
-          (steps-apart mst (endOf mst) a (placeAddress p) 64 (s .way) e (f .step) (other p q f))
+          (steps-apart mst a (placeAddress p) 64 (s .way) e (f .step) (other p q f))
 
   -- a step that holds another MFN
-  pub step-other : (o a : ℕ) {deleted : Bool} {l : Leader} {fs : List Field} → (o ≡ m → ⊥) → elem a (steps mst (endOf mst) 64) ≡ true
+  pub step-other : (o a : ℕ) {deleted : Bool} {l : Leader} {fs : List Field} → (o ≡ m → ⊥) → elem a (steps mst 64) ≡ true
       → ReadsAs (recordFrom mst a) o deleted l fs → Untouched a
   step-other o a ne e r =
       step-apart a e
@@ -162,12 +161,12 @@ module _ {mst xrf mst′ : List ℕ} {m at n : ℕ} (s : Sound mst xrf) (w : Mst
       ne (reads-mfn r own))
 
   -- a record that is not touched is read as before
-  pub reads-kept : (o a : ℕ) {deleted : Bool} {l : Leader} {fs : List Field} → elem a (steps mst (endOf mst) 64) ≡ true → Untouched a
+  pub reads-kept : (o a : ℕ) {deleted : Bool} {l : Leader} {fs : List Field} → elem a (steps mst 64) ≡ true → Untouched a
       → ReadsAs (recordFrom mst a) o deleted l fs → ReadsAs (recordFrom mst′ a) o deleted l fs
   reads-kept o a {l = l} e u r =
       let f = member a e in
       let g = control-facts mst′ (capacityOf (length xrf)) (w .control) in
-      let own : mfrlAt mst a ≡ l .mfrl = reads-mfrl mst a (endOf mst - a) r in
+      let own : mfrlAt mst a ≡ l .mfrl = ap (λ (x : Leader). x .mfrl) (r .leader) in
       let up = w .end-up in
       reads-window mst a (endOf mst) r mst′ (endOf mst′) (omega arith) (g .end-in)
       (λ i lo hi. w .kept i (omega arith) (u i lo (omega arith)))
@@ -325,10 +324,9 @@ module _ {mst xrf : List ℕ} (s : Sound mst xrf) (m : ℕ) (known : m < nextOf 
       }
 
   module _ (p : Place) (e : entryFor mst xrf m ≡ At p) (f : PlaceStands mst m p) (k : ℕ) (bs : List ℕ)
-      (inside : k + length bs ≤ mfrlAt mst (placeAddress p))
-      (same : mfrlAt (place mst (placeAddress p + k) bs) (placeAddress p) ≡ mfrlAt mst (placeAddress p)) where
-    own : MemberFacts mst (endOf mst) 64 (placeAddress p)
-    own = member-facts mst (endOf mst) (placeAddress p) 64 (s .way) (f .step)
+      (inside : k + length bs ≤ mfrlAt mst (placeAddress p)) where
+    own : MemberFacts mst 64 (placeAddress p)
+    own = member-facts mst (placeAddress p) 64 (s .way) (f .step)
 
     low : 64 ≤ placeAddress p + k
     low = let g = own in omega arith
@@ -336,37 +334,41 @@ module _ {mst xrf : List ℕ} (s : Sound mst xrf) (m : ℕ) (known : m < nextOf 
     fits : placeAddress p + k + length bs ≤ length mst
     fits = let g = own in let h = s .numbers in omega arith
 
-    mfrl-kept : MfrlKept mst (place mst (placeAddress p + k) bs) (steps mst (endOf mst) 64)
-    mfrl-kept a i = go (ℕ-discrete a (placeAddress p))
-      where
-        go : Dec (a ≡ placeAddress p) → mfrlAt (place mst (placeAddress p + k) bs) a ≡ mfrlAt mst a
-        go (yes z) = rw z same
-        go (no ne) =
-            let g = member-facts mst (endOf mst) a 64 (s .way) i in
-            let l = fits in
-            u16-other mst (placeAddress p + k) bs (a + 4) (omega arith)
-            (⊎-elim (λ b. inl (omega arith)) (λ b. inr (omega arith)) (steps-apart mst (endOf mst) a (placeAddress p) 64 (s .way) i (f .step) ne))
-
     pub within-end : endOf (place mst (placeAddress p + k) bs) ≡ endOf mst
     within-end = end-placed mst (placeAddress p + k) bs (omega (arith, low)) fits
 
-    pub mst-within : MstMoved mst xrf (place mst (placeAddress p + k) bs) m (placeAddress p + k) (length bs)
-    mst-within =
-        let at : ℕ = placeAddress p + k in
-        let h : 64 ≤ at = low in
-        let l : at + length bs ≤ length mst = fits in
-        let g : MemberFacts mst (endOf mst) 64 (placeAddress p) = own in
-        record {
-          long = place-length mst at bs l;
-          control = control-right-placed mst at bs (omega arith) l (capacityOf (length xrf)) ∙ s .control;
-          next = stays (next-placed mst at bs (omega arith) l) known;
-          end-up = rw within-end (omega arith);
-          touched = within p e f (omega arith) (omega arith);
-          front = λ i b. place-before mst at bs i (omega arith) (omega arith);
-          kept = λ i b side. place-other mst at bs i (omega arith) side;
-          way = rw within-end (arrives-same mst (place mst at bs) (endOf mst) 64 mfrl-kept ∙ s .way);
-          steps-kept = λ a i. rw (within-end, steps-same mst (place mst at bs) (endOf mst) 64 mfrl-kept) i;
-        }
+    module _ (same : mfrlAt (place mst (placeAddress p + k) bs) (placeAddress p) ≡ mfrlAt mst (placeAddress p)) where
+      all-kept : MfrlKept mst (place mst (placeAddress p + k) bs) (steps mst 64)
+      all-kept a i = go (ℕ-discrete a (placeAddress p))
+        where
+          go : Dec (a ≡ placeAddress p) → mfrlAt (place mst (placeAddress p + k) bs) a ≡ mfrlAt mst a
+          go (yes z) = rw z same
+          go (no ne) =
+              let g = member-facts mst a 64 (s .way) i in
+              let l = fits in
+              let end = within-end in
+              mfrl-kept mst (place mst (placeAddress p + k) bs) a (omega arith) (omega arith)
+              (λ j lo hi.
+              place-other mst (placeAddress p + k) bs j (omega arith)
+              (⊎-elim (λ b. inl (omega arith)) (λ b. inr (omega arith)) (steps-apart mst a (placeAddress p) 64 (s .way) i (f .step) ne)))
+
+      pub mst-within : MstMoved mst xrf (place mst (placeAddress p + k) bs) m (placeAddress p + k) (length bs)
+      mst-within =
+          let at : ℕ = placeAddress p + k in
+          let h : 64 ≤ at = low in
+          let l : at + length bs ≤ length mst = fits in
+          let g : MemberFacts mst 64 (placeAddress p) = own in
+          record {
+            long = place-length mst at bs l;
+            control = control-right-placed mst at bs (omega arith) l (capacityOf (length xrf)) ∙ s .control;
+            next = stays (next-placed mst at bs (omega arith) l) known;
+            end-up = rw within-end (omega arith);
+            touched = within p e f (omega arith) (omega arith);
+            front = λ i b. place-before mst at bs i (omega arith) (omega arith);
+            kept = λ i b side. place-other mst at bs i (omega arith) side;
+            way = arrives-same mst (place mst at bs) within-end 64 all-kept ∙ s .way;
+            steps-kept = λ a i. rw (steps-same mst (place mst at bs) within-end 64 all-kept) i;
+          }
 
 -- a record of n bytes at the end
 pub record AppendedTo (mst mst′ : List ℕ) (n : ℕ) : Type 0 where
@@ -377,10 +379,12 @@ pub record AppendedTo (mst mst′ : List ℕ) (n : ℕ) : Type 0 where
 
 module _ {mst xrf mst′ : List ℕ} {n : ℕ} (s : Sound mst xrf) (a : AppendedTo mst mst′ n) (size : recordLength n ≡ true)
     (mfrl : mfrlAt mst′ (endOf mst) ≡ n) where
-  end-kept : MfrlKept mst mst′ (steps mst (endOf mst) 64)
+  end-kept : MfrlKept mst mst′ (steps mst 64)
   end-kept b i =
-      let g = member-facts mst (endOf mst) b 64 (s .way) i in
-      u16-same mst′ mst (b + 4) (b + 4) (λ j h. a .kept (b + 4 + j) (omega arith) (inl (omega arith)))
+      let g = member-facts mst b 64 (s .way) i in
+      let h = end-moved-facts (endOf mst + n) in
+      let e = a .end-is in
+      mfrl-kept mst mst′ b (omega arith) (omega arith) (λ j lo hi. a .kept j (omega arith) (inl (omega arith)))
 
   pub mst-append : {m : ℕ} → controlFine mst′ xrf ≡ true → NextMoved mst mst′ m → MstMoved mst xrf mst′ m (endOf mst) n
   mst-append control next =
@@ -393,10 +397,10 @@ module _ {mst xrf mst′ : List ℕ} {n : ℕ} (s : Sound mst xrf) (a : Appended
         touched = beyond (omega arith);
         front = a .front;
         kept = a .kept;
-        way = rw (a .end-is) (arrives-append mst mst′ (endOf mst) n size mfrl 64 (s .way) end-kept);
-        steps-kept = λ b i. rw (a .end-is) (elem-kept mst mst′ (endOf mst) n size mfrl 64 (s .way) end-kept b i);
+        way = arrives-append mst mst′ n size mfrl (a .end-is) 64 (s .way) end-kept;
+        steps-kept = elem-kept mst mst′ n size mfrl (a .end-is) 64 (s .way) end-kept;
       }
 
   -- the new record stands at a step
-  pub append-step : elem (endOf mst) (steps mst′ (endOf mst′) 64) ≡ true
-  append-step = rw (a .end-is) (elem-new mst mst′ (endOf mst) n size mfrl 64 (s .way) end-kept)
+  pub append-step : elem (endOf mst) (steps mst′ 64) ≡ true
+  append-step = elem-new mst mst′ n size mfrl (a .end-is) 64 (s .way) end-kept

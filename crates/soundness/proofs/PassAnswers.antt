@@ -12,7 +12,6 @@ use lib.ListN.{length}
 use borrow.Author.Tests.{le-leb, lt-leb, le-ltb, eq-eqb, ne-eqb, not-true, not-false}
 use types.Run.{OneOf}
 use denote.Enum.Declared.{tagOf}
-use Rattle.word.specs.Integer.{u16At, u32At}
 use Rattle.word.specs.Place.{part}
 use Rattle.layout.specs.Sizes.{capacityOf, addressOf, endMoved, recordLength}
 use Rattle.layout.specs.Entry.{placeAddress}
@@ -32,7 +31,7 @@ use Rattle.layout.proofs.Tests.{and-false, and-left}
 use Rattle.layout.proofs.Facts.{well-placed-facts}
 use Rattle.layout.proofs.CrossReference.{entry-well-placed}
 use Rattle.store.specs.Answer.{numberOf, after}
-use Rattle.store.specs.Reading.{mfnKnown, entryFor, placeIn, isMalformed, isGone, isChanged, leaderAt, backAddress, recordFine, versionFine}
+use Rattle.store.specs.Reading.{mfnKnown, entryFor, placeIn, isMalformed, isGone, isChanged, recordFrom, leaderAt, backAddress, recordFine, versionFine}
 use Rattle.store.specs.Steps.{gateOf, knownIf, knownBoth}
 use Rattle.store.specs.Views.{knownAnswer}
 use Rattle.store.specs.declared.answer.Answer.{Answer}
@@ -41,8 +40,8 @@ use Rattle.store.specs.declared.gate.Gate.the-variants.{Open}
 use Rattle.store.specs.declared.gate.Known.{Known}
 use Rattle.store.specs.declared.gate.Known.the-variants.{Record, Refused}
 use Rattle.store.proofs.Gates.{gate-open, open-end, open-end-in, open-xrf, open-capacity, open-known, open-entry, fine-facts, back-changed}
-use Rattle.soundness.specs.Sound.{allTo, elem, implies, restFree, stepRight, nextStep, steps, arrives}
-use Rattle.soundness.specs.Passes.{bit, count, sumTo, namesOf, entryFine, entriesFine, namedTotal, tallyOf, entryTally, namedUnder, refusedTally, hit, walkOf, Names}
+use Rattle.soundness.specs.Sound.{allTo, elem, implies, restFree, mfrlAt, stepRight, nextStep, steps, arrives}
+use Rattle.soundness.specs.Passes.{bit, count, sumTo, namesOf, entryFine, entriesFine, namedTotal, tallyOf, entryTally, namedUnder, refusedTally, mfnAt, hit, walkOf, Names}
 use Rattle.soundness.specs.declared.passes.Tally.{Tally}
 use Rattle.soundness.specs.declared.passes.Tally.the-variants.{Named, Wrong}
 use Rattle.soundness.proofs.Stepping.{next-up, next-near, steps-more, steps-end, arrives-more, arrives-end}
@@ -51,25 +50,29 @@ use Rattle.soundness.proofs.Deciding.{entry-fine}
 
 -- ---- stepping
 
-module _ (mst : List ℕ) (end s n : ℕ) (e : n ≡ u16At mst (s + 4)) where
-  module _ (t : Bool) (h : t ≡ recordLength n) where
-    pub step-wrong : not t ≡ true → false ≡ stepRight mst end s
-    unfolding stepRight
-    step-wrong q = rw (← e, ← h, not-true t q)
+-- the leader that is read at a step
+module _ (mst : List ℕ) (end s : ℕ) (h : end ≡ endOf mst) (l : Leader) (u : l ≡ leaderOf (part mst s (end - s))) where
+  step-leader : l ≡ leaderOf (recordFrom mst s)
+  step-leader = u ∙ rw h
 
-    pub step-rest : not t ≡ false → leb (s + n) end ≡ stepRight mst end s
-    unfolding stepRight
-    step-rest q = rw (← e, ← h, not-false t q)
+  module _ (n : ℕ) (e : n ≡ l .mfrl) where
+    mfrl-is : n ≡ mfrlAt mst s
+    mfrl-is = e ∙ ap (λ (x : Leader). x .mfrl) step-leader
 
-  pub next-on : (t : Bool) (r : ℕ) → t ≡ stepRight mst end s → not t ≡ false → r ≡ endMoved (s + n) → r ≡ nextStep mst end s
-  unfolding nextStep
-  next-on t r h q f = rw (f, ← e, ← h, not-false t q)
+    module _ (t : Bool) (r : t ≡ recordLength n) where
+      pub next-wrong : not t ≡ true → end + 1 ≡ nextStep mst s
+      unfolding nextStep stepRight
+      next-wrong q = rw (← mfrl-is, ← r, not-true t q, h)
 
-pub next-past : (mst : List ℕ) (end s : ℕ) (t : Bool) → t ≡ stepRight mst end s → not t ≡ true → end + 1 ≡ nextStep mst end s
-unfolding nextStep
-next-past mst end s t h q = rw (← h, not-true t q)
+      pub next-outside : end < s + n → end + 1 ≡ nextStep mst s
+      unfolding nextStep stepRight
+      next-outside q = rw (← mfrl-is, lt-leb (s + n) (endOf mst) (omega arith), and-false, h)
 
-pub ruleset step-answers = (step-wrong, step-rest, next-on, next-past, arith)
+      pub next-on : not t ≡ false → s + n ≤ end → (a : ℕ) → a ≡ endMoved (s + n) → a ≡ nextStep mst s
+      unfolding nextStep stepRight
+      next-on q k a f = rw (f, ← mfrl-is, ← r, not-false t q, le-leb (s + n) (endOf mst) (omega arith))
+
+pub ruleset step-answers = (next-wrong, next-outside, next-on, arith)
 
 -- ---- the XRF
 
@@ -124,9 +127,6 @@ module _ (mst xrf : List ℕ) (next : Mfn) (end : ℕ) (g : gateOf mst xrf ≡ O
 
   pub open-mst : length mst ≤ 536870400
   open-mst = gate-open mst xrf next end g .sizes .mst-high
-
-  pub open-step : (s : ℕ) → s + 18 ≤ end → s + 4 ≤ length mst
-  open-step s h = let f = gate-open mst xrf next end g in omega arith
 
 -- ---- the first pass
 
@@ -310,66 +310,70 @@ no-names mst Gone s o = refl
 no-names mst Malformed s o = refl
 no-names mst (At p) s o = ⊎-elim (λ (z : _≡_ {A = ℕ} 2 0). absurd (omega arith)) (λ (z : _≡_ {A = ℕ} 2 1). absurd (omega arith)) o
 
-module _ (mst xrf : List ℕ) (s m : ℕ) (e : m ≡ u32At mst s) where
+module _ (mst xrf : List ℕ) (next : Mfn) (end : ℕ) (g : gateOf mst xrf ≡ Open next end) (s : ℕ) (l : Leader) (v : l ≡ leaderOf (part mst s (end - s)))
+    (m : ℕ) (w : m ≡ l .mfn .0) where
+  e : m ≡ mfnAt mst s
+  e = w ∙ ap (λ (x : Leader). x .mfn .0) (step-leader mst end s (open-end mst xrf next end g) l v)
+
   pub hit-low : m < 1 → 0 ≡ bit (hit mst xrf s)
   unfolding bit hit mfnKnown
   hit-low h = rw (← e, lt-leb 1 m h)
 
-  module _ (next : Mfn) (end : ℕ) (g : gateOf mst xrf ≡ Open next end) where
-    pub hit-high : next .0 ≤ m → 0 ≡ bit (hit mst xrf s)
-    unfolding bit hit mfnKnown
-    hit-high h =
-        let f = gate-open mst xrf next end g in
-        let k : nextOf mst ≤ m = omega arith in
-        rw (← e, le-ltb m (nextOf mst) k, and-false)
+  pub hit-high : next .0 ≤ m → 0 ≡ bit (hit mst xrf s)
+  unfolding bit hit mfnKnown
+  hit-high h =
+      let f = gate-open mst xrf next end g in
+      let k : nextOf mst ≤ m = omega arith in
+      rw (← e, le-ltb m (nextOf mst) k, and-false)
 
-    module _ (lo : 1 ≤ m) (hi : m < next .0) (n : Entry) (u : n ≡ entryAt xrf end m) where
-      entry-is : entryFor mst xrf m ≡ n
-      entry-is = open-entry mst xrf next end g m n u
+  module _ (lo : 1 ≤ m) (hi : m < next .0) (n : Entry) (u : n ≡ entryAt xrf end m) where
+    entry-is : entryFor mst xrf m ≡ n
+    entry-is = open-entry mst xrf next end g m n u
 
-      hit-is : hit mst xrf s ≡ elem s (namesOf mst n)
-      unfolding hit
-      hit-is = rw (← e, open-known mst xrf next end g m lo hi, entry-is)
+    hit-is : hit mst xrf s ≡ elem s (namesOf mst n)
+    unfolding hit
+    hit-is = rw (← e, open-known mst xrf next end g m lo hi, entry-is)
 
-      pub hit-no-place : OneOf (0 ∷ 1 ∷ []) (tagOf entry.the-type n) → 0 ≡ bit (hit mst xrf s)
-      unfolding bit
-      hit-no-place o = rw (hit-is, no-names mst n s o)
+    pub hit-no-place : OneOf (0 ∷ 1 ∷ []) (tagOf entry.the-type n) → 0 ≡ bit (hit mst xrf s)
+    unfolding bit
+    hit-no-place o = rw (hit-is, no-names mst n s o)
 
-      module _ (p : Place) (h : n ≡ At p) where
-        pub hit-told : (r : ℕ) → r ≡ bit (elem s (namesOf mst (At p))) → r ≡ bit (hit mst xrf s)
-        hit-told r q = q ∙ ap bit (sym (hit-is ∙ ap (λ (x : Entry). elem s (namesOf mst x)) h))
+    module _ (p : Place) (h : n ≡ At p) where
+      pub hit-told : (r : ℕ) → r ≡ bit (elem s (namesOf mst (At p))) → r ≡ bit (hit mst xrf s)
+      hit-told r q = q ∙ ap bit (sym (hit-is ∙ ap (λ (x : Entry). elem s (namesOf mst x)) h))
 
-        place-fine : entriesFine mst xrf ≡ true → recordFine mst m p ≡ true
-        unfolding entryFine
-        place-fine fine =
-            let f = gate-open mst xrf next end g in
-            let q : entryFine mst m (At p) ≡ true =
-            sym (ap (entryFine mst m) (entry-is ∙ h)) ∙ entry-fine mst xrf (f .next-low) fine m lo (omega arith) in
-            and-left (recordFine mst m p) (versionFine mst m p) q
+      place-fine : entriesFine mst xrf ≡ true → recordFine mst m p ≡ true
+      unfolding entryFine
+      place-fine fine =
+          let f = gate-open mst xrf next end g in
+          let q : entryFine mst m (At p) ≡ true =
+          sym (ap (entryFine mst m) (entry-is ∙ h)) ∙ entry-fine mst xrf (f .next-low) fine m lo (omega arith) in
+          and-left (recordFine mst m p) (versionFine mst m p) q
 
-        pub hit-names : entriesFine mst xrf ≡ true → Names mst end p
-        hit-names fine =
-            let f = gate-open mst xrf next end g in
-            let w = well-placed-facts end (p .block .0) (p .offset) (entry-well-placed xrf end m p (sym u ∙ h)) in
-            record {
-              end-is = f .end-is;
-              end-in = omega arith;
-              block = w .block;
-              room = w .room;
-              back-block =
-                  λ c. back-changed (endOf mst) p (leaderAt mst p) (fine-facts mst m p (place-fine fine) .back) c .facts .block;
-            }
+      pub hit-names : entriesFine mst xrf ≡ true → Names mst end p
+      hit-names fine =
+          let f = gate-open mst xrf next end g in
+          let w = well-placed-facts end (p .block .0) (p .offset) (entry-well-placed xrf end m p (sym u ∙ h)) in
+          record {
+            end-is = f .end-is;
+            end-in = omega arith;
+            block = w .block;
+            room = w .room;
+            back-block =
+                λ c. back-changed (endOf mst) p (leaderAt mst p) (fine-facts mst m p (place-fine fine) .back) c .facts .block;
+          }
 
 pub ruleset hit-answers =
-    (hit-place, hit-no-back, hit-block, hit-back, hit-not-back, hit-low, hit-high, hit-no-place, hit-told, hit-names, open-step, open-capacity, open-xrf, arith)
+    (hit-place, hit-no-back, hit-block, hit-back, hit-not-back, hit-low, hit-high, hit-no-place, hit-told, hit-names, open-end-in, open-capacity, open-xrf, arith)
 
 pub bit-small : (r : ℕ) (b : Bool) → r ≡ bit b → r ≤ 1
 bit-small r b e = omega (arith, bit-le b)
 
 -- the walk has come to `at`
 pub record Walked (mst xrf : List ℕ) (end hits at : ℕ) : Type 0 where
-  pub hits-are : count (hit mst xrf) (steps mst end 64) ≡ hits + count (hit mst xrf) (steps mst end at)
-  pub way : arrives mst end 64 ≡ arrives mst end at
+  pub end-is : end ≡ endOf mst
+  pub hits-are : count (hit mst xrf) (steps mst 64) ≡ hits + count (hit mst xrf) (steps mst at)
+  pub way : arrives mst 64 ≡ arrives mst at
   pub few : hits ≤ at
   pub near : at ≤ end + 12
 
@@ -377,28 +381,33 @@ module _ (mst xrf : List ℕ) (end : ℕ) where
   pub walk-none : (next : Mfn) → gateOf mst xrf ≡ Open next end → Walked mst xrf end 0 64
   walk-none next g =
       let h = open-end-low mst xrf next end g in
-      record { hits-are = omega arith; way = refl; few = omega arith; near = omega arith }
+      record { end-is = open-end mst xrf next end g; hits-are = omega arith; way = refl; few = omega arith; near = omega arith }
 
   module _ (hits at : ℕ) (w : Walked mst xrf end hits at) where
-    pub walk-more : (r next : ℕ) → at + 18 ≤ end → r ≡ bit (hit mst xrf at) → next ≡ nextStep mst end at → Walked mst xrf end (hits + r) next
-    unfolding count
-    walk-more r next room h n =
-        let q : count (hit mst xrf) (steps mst end 64) ≡ hits + (bit (hit mst xrf at) + count (hit mst xrf) (steps mst end (nextStep mst end at))) =
-        rw (steps-more mst end at room) at (w .hits-are) in
-        rw n
-        (record {
-          hits-are = omega (arith, q, h);
-          way = w .way ∙ arrives-more mst end at room;
-          few = omega (arith, w .few, h, bit-le (hit mst xrf at), next-up mst end at room);
-          near = next-near mst end at room;
-        })
+    module _ (fits : at + 18 ≤ end) where
+      room : at + 18 ≤ endOf mst
+      room = omega (arith, w .end-is)
 
-    module _ (named : ℕ) (next : Mfn) (g : gateOf mst xrf ≡ Open next end) (full : end < at + 18) where
-      end-is : end ≡ endOf mst
-      end-is = open-end mst xrf next end g
+      pub walk-more : (r next : ℕ) → r ≡ bit (hit mst xrf at) → next ≡ nextStep mst at → Walked mst xrf end (hits + r) next
+      unfolding count
+      walk-more r next h n =
+          let q : count (hit mst xrf) (steps mst 64) ≡ hits + (bit (hit mst xrf at) + count (hit mst xrf) (steps mst (nextStep mst at))) =
+          rw (steps-more mst at room) at (w .hits-are) in
+          rw n
+          (record {
+            end-is = w .end-is;
+            hits-are = omega (arith, q, h);
+            way = w .way ∙ arrives-more mst at room;
+            few = omega (arith, w .few, h, bit-le (hit mst xrf at), next-up mst at room);
+            near = omega (arith, w .end-is, next-near mst at room);
+          })
 
-      arrived : arrives mst (endOf mst) 64 ≡ eqb at end
-      arrived = rw (← end-is) (w .way ∙ arrives-end mst end at full)
+      pub walk-rises : (next : ℕ) → next ≡ nextStep mst at → at < next
+      walk-rises next h = omega (arith, next-up mst at room)
+
+    module _ (named : ℕ) (full : end < at + 18) where
+      arrived : arrives mst 64 ≡ eqb at end
+      arrived = w .way ∙ arrives-end mst at (omega (arith, w .end-is)) ∙ ap (eqb at) (sym (w .end-is))
 
       pub walk-lost : (at ≡ end → ⊥) → false ≡ walkOf mst xrf named
       unfolding walkOf
@@ -407,11 +416,8 @@ module _ (mst xrf : List ℕ) (end : ℕ) where
       pub walk-done : at ≡ end → eqb hits named ≡ walkOf mst xrf named
       unfolding walkOf count
       walk-done h =
-          let q : count (hit mst xrf) (steps mst end 64) ≡ hits + 0 = rw (steps-end mst end at full) at (w .hits-are) in
-          let c : count (hit mst xrf) (steps mst (endOf mst) 64) ≡ hits = rw (← end-is) (omega (arith, q)) in
+          let q : count (hit mst xrf) (steps mst 64) ≡ hits + 0 = rw (steps-end mst at (omega (arith, w .end-is))) at (w .hits-are) in
+          let c : count (hit mst xrf) (steps mst 64) ≡ hits = omega (arith, q) in
           rw (arrived, eq-eqb at end h, c)
 
-pub walk-rises : (mst : List ℕ) (end at next : ℕ) → next ≡ nextStep mst end at → at + 18 ≤ end → at < next
-walk-rises mst end at next h room = omega (arith, next-up mst end at room)
-
-pub ruleset walk-answers = (walk-none, walk-more, walk-lost, walk-done, open-end-in, open-mst, arith)
+pub ruleset walk-answers = (walk-none, walk-more, walk-lost, walk-done, open-end, open-end-in, open-mst, arith)

@@ -37,12 +37,12 @@ use Rattle.soundness.specs.Sound.{allTo, elem, implies, headsRight, rest
 -- the settled version of a changed record is right, and stands at a step
 pub record SettledStands (mst : List ℕ) (m : ℕ) (p : Place) : Type 0 where
   pub fine : settledFine mst m p ≡ true
-  pub step : elem (backAddress (leaderAt mst p)) (steps mst (endOf mst) 64) ≡ true
+  pub step : elem (backAddress (leaderAt mst p)) (steps mst 64) ≡ true
 
 -- the record at a place is right and stands at a step, and so does its settled version if it is changed
 pub record PlaceStands (mst : List ℕ) (m : ℕ) (p : Place) : Type 0 where
   pub fine : recordFine mst m p ≡ true
-  pub step : elem (placeAddress p) (steps mst (endOf mst) 64) ≡ true
+  pub step : elem (placeAddress p) (steps mst 64) ≡ true
   pub settled : p .mark ≡ Changed → SettledStands mst m p
 
 -- the entry of MFN m is -2048, or names such a place
@@ -58,13 +58,13 @@ pub record Sound (mst xrf : List ℕ) : Type 0 where
   pub numbers : ControlFacts mst (capacityOf (length xrf))
   pub heads : (k : ℕ) → 1 ≤ k → k ≤ length xrf / 512 → headRight xrf k ≡ true
   pub free : (m : ℕ) → nextOf mst ≤ m → m ≤ capacityOf (length xrf) → slotFree xrf m ≡ true
-  pub way : arrives mst (endOf mst) 64 ≡ true
+  pub way : arrives mst 64 ≡ true
   pub entries : (m : ℕ) → 1 ≤ m → m < nextOf mst → EntryStands mst xrf m
 
 pub sound-from : {mst xrf : List ℕ} → lengthsPermitted mst xrf ≡ true → controlFine mst xrf ≡ true
     → ((k : ℕ) → 1 ≤ k → k ≤ length xrf / 512 → headRight xrf k ≡ true)
     → ((m : ℕ) → nextOf mst ≤ m → m ≤ capacityOf (length xrf) → slotFree xrf m ≡ true)
-    → arrives mst (endOf mst) 64 ≡ true
+    → arrives mst 64 ≡ true
     → ((m : ℕ) → 1 ≤ m → m < nextOf mst → EntryStands mst xrf m) → Sound mst xrf
 sound-from {mst} {xrf} lengths control heads free way entries =
     record {
@@ -94,37 +94,37 @@ implying true b h = h refl
 implying false b h = refl
 
 module _ (mst : List ℕ) (m : ℕ) (p : Place) where
-  place-stands : placeSound mst (steps mst (endOf mst) 64) m p ≡ true → PlaceStands mst m p
+  place-stands : placeSound mst (steps mst 64) m p ≡ true → PlaceStands mst m p
   unfolding placeSound
   place-stands e =
       let q = simp tests at e in
       record { fine = q .0 .0; step = q .0 .1; settled = λ c. back (q .1) c }
     where
-      back : implies (isChanged (p .mark)) (settledFine mst m p && elem (backAddress (leaderAt mst p)) (steps mst (endOf mst) 64)) ≡ true
+      back : implies (isChanged (p .mark)) (settledFine mst m p && elem (backAddress (leaderAt mst p)) (steps mst 64)) ≡ true
           → p .mark ≡ Changed → SettledStands mst m p
       back e c =
           let r =
           simp tests at
-          (implied (isChanged (p .mark)) (settledFine mst m p && elem (backAddress (leaderAt mst p)) (steps mst (endOf mst) 64)) e (rw c refl)) in
+          (implied (isChanged (p .mark)) (settledFine mst m p && elem (backAddress (leaderAt mst p)) (steps mst 64)) e (rw c refl)) in
           record { fine = r .0; step = r .1 }
 
-  place-sound : PlaceStands mst m p → placeSound mst (steps mst (endOf mst) 64) m p ≡ true
+  place-sound : PlaceStands mst m p → placeSound mst (steps mst 64) m p ≡ true
   unfolding placeSound
   place-sound s =
       simp tests (
         (s .fine, s .step),
-        implying (isChanged (p .mark)) (settledFine mst m p && elem (backAddress (leaderAt mst p)) (steps mst (endOf mst) 64))
+        implying (isChanged (p .mark)) (settledFine mst m p && elem (backAddress (leaderAt mst p)) (steps mst 64))
             (λ c. let r = s .settled (changed-is (p .mark) c) in simp tests (r .fine, r .step)),
       )
 
 module _ (mst xrf : List ℕ) (m : ℕ) where
-  entry-stands : (e : Entry) → entryFor mst xrf m ≡ e → entrySound mst (steps mst (endOf mst) 64) m e ≡ true → EntryStands mst xrf m
+  entry-stands : (e : Entry) → entryFor mst xrf m ≡ e → entrySound mst (steps mst 64) m e ≡ true → EntryStands mst xrf m
   unfolding entrySound
   entry-stands Gone q t = is-gone q
   entry-stands Malformed q t = absurd (false-true t)
   entry-stands (At p) q t = is-at p q (place-stands mst m p t)
 
-  entry-sound : EntryStands mst xrf m → entrySound mst (steps mst (endOf mst) 64) m (entryFor mst xrf m) ≡ true
+  entry-sound : EntryStands mst xrf m → entrySound mst (steps mst 64) m (entryFor mst xrf m) ≡ true
   unfolding entrySound
   entry-sound (is-gone q) = rw q
   entry-sound (is-at p q s) = rw q (place-sound mst m p s)
@@ -142,7 +142,7 @@ module _ (mst xrf : List ℕ) where
       (q .0 .1)
       (λ m low high.
       entry-stands mst xrf m (entryFor mst xrf m) refl
-      (allTo-at (nextOf mst - 1) (λ (o : ℕ). entrySound mst (steps mst (endOf mst) 64) o (entryFor mst xrf o)) (q .1) m low (omega arith)))
+      (allTo-at (nextOf mst - 1) (λ (o : ℕ). entrySound mst (steps mst 64) o (entryFor mst xrf o)) (q .1) m low (omega arith)))
     where
       free : allTo (capacityOf (length xrf)) (λ (m : ℕ). implies (leb (nextOf mst) m) (slotFree xrf m)) ≡ true
           → (m : ℕ) → nextOf mst ≤ m → m ≤ capacityOf (length xrf) → slotFree xrf m ≡ true
@@ -168,7 +168,7 @@ module _ (mst xrf : List ℕ) where
           ),
           s .way,
         ),
-        allTo-all (nextOf mst - 1) (λ (m : ℕ). entrySound mst (steps mst (endOf mst) 64) m (entryFor mst xrf m))
+        allTo-all (nextOf mst - 1) (λ (m : ℕ). entrySound mst (steps mst 64) m (entryFor mst xrf m))
             (λ m low high. entry-sound mst xrf m (s .entries m low (omega arith))),
       )
 

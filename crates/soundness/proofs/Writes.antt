@@ -9,7 +9,7 @@ use mathlib.Core.Bool.{Bool, true, false, not, _&&_}
 use mathlib.Core.List.{List, [], _++_}
 use lib.Dec.{eqb, ltb}
 use lib.ListN.{length, getD, replicate}
-use borrow.Author.Tests.{ne-eqb, ltb-false}
+use borrow.Author.Tests.{eq-eqb, ne-eqb, ltb-false}
 use Rattle.word.specs.Integer.{le}
 use Rattle.word.specs.Place.{place, part}
 use Rattle.word.proofs.Place.{place-length, place-before, place-other}
@@ -32,7 +32,7 @@ use Rattle.record.specs.Record.{recordRight, noBack, backRight}
 use Rattle.record.specs.Bytes.{needFor, recordBytes, leaderFor}
 use Rattle.record.proofs.Facts.{LeaderFacts, no-back-from}
 use Rattle.record.proofs.Draftable.{Draftable, reads-draftable, reads-need}
-use Rattle.record.proofs.Local.{ReadsAs, reads-leader, reads-mfrl, reads-window, reads-settled, withBack}
+use Rattle.record.proofs.Local.{ReadsAs, reads-leader, reads-window, reads-settled, withBack}
 use Rattle.record.proofs.Trip.{Writable, need-writable, written-length, written-placed}
 use Rattle.store.specs.Reading.{lengthsPermitted, controlFine, entryFor, isSettled, isChanged, recordFrom, recordAt, leaderAt, backAddress, backFine, settledRecord, shownSettled, currentFields}
 use Rattle.store.specs.Calls.{appended, placeAtEnd, createdMst, createdXrf, newBackBlock, newBackOffset, pendingMark, versionLeader, versionAppended, versionInPlace, updatedMst, updatedXrf, deletedMst, deletedXrf, settledMst, settledXrf, revertedXrf}
@@ -62,7 +62,7 @@ pub record Leaves (mst xrf mst′ xrf′ : List ℕ) (m end next : ℕ) (p : Pla
 
 -- a settled version at an address
 pub record SettledAt (mst : List ℕ) (m a : ℕ) (fs : List Field) : Type 0 where
-  pub step : elem a (steps mst (endOf mst) 64) ≡ true
+  pub step : elem a (steps mst 64) ≡ true
   pub right : recordRight (recordFrom mst a) m false ≡ true
   pub no-back : noBack (leaderOf (recordFrom mst a)) ≡ true
   pub fields : fieldsOf (recordFrom mst a) ≡ fs
@@ -71,7 +71,7 @@ pub record SettledAt (mst : List ℕ) (m a : ℕ) (fs : List Field) : Type 0 whe
 module _ {mst xrf mst′ xrf′ : List ℕ} {m at n : ℕ} (s : Sound mst xrf) (w : MstMoved mst xrf mst′ m at n) (x : XrfMoved xrf xrf′ m)
     (p : Place) (l : Leader) (fs old : List Field)
     (e : entryFor mst′ xrf′ m ≡ At p) (r : ReadsAs (recordAt mst′ p) m (p .deleted) l fs)
-    (step : elem (placeAddress p) (steps mst′ (endOf mst′) 64) ≡ true) (back : backFine (endOf mst′) p l ≡ true)
+    (step : elem (placeAddress p) (steps mst′ 64) ≡ true) (back : backFine (endOf mst′) p l ≡ true)
     (settled : p .mark ≡ Changed → SettledAt mst′ m (backAddress l) old) where
   own-stands : PlaceStands mst′ m p
   own-stands =
@@ -253,10 +253,10 @@ module _ {mst xrf : List ℕ} (s : Sound mst xrf) (m n b q : ℕ) (deleted : Boo
 
   pub appended-moved : m < nextOf mst → MstMoved mst xrf out m (endOf mst) n
   appended-moved known =
-      mst-append s appended-to (w .long) (reads-mfrl out (endOf mst) (endOf out - endOf mst) appended-reads) appended-control (stays appended-next known)
+      mst-append s appended-to (w .long) (ap (λ (l : Leader). l .mfrl) (appended-reads .leader)) appended-control (stays appended-next known)
 
-  pub appended-step : elem (endOf mst) (steps out (endOf out) 64) ≡ true
-  appended-step = append-step s appended-to (w .long) (reads-mfrl out (endOf mst) (endOf out - endOf mst) appended-reads)
+  pub appended-step : elem (endOf mst) (steps out 64) ≡ true
+  appended-step = append-step s appended-to (w .long) (ap (λ (x : Leader). x .mfrl) (appended-reads .leader))
 
 -- the place at the end, once a record stands there
 module _ {mst xrf mst′ : List ℕ} (s : Sound mst xrf) (n : ℕ) (a : AppendedTo mst mst′ n) (size : recordLength n ≡ true) (deleted : Bool) (k : Mark) where
@@ -341,7 +341,7 @@ module _ {mst xrf : List ℕ} (s : Sound mst xrf) (fs : List Field) (d : Draftab
       (createdMst mst fs) (endOf (createdMst mst fs)) (omega arith) (h .end-in) (λ i lo hi. created-byte i (omega arith))
 
   created-mfrl : mfrlAt (createdMst mst fs) (endOf mst) ≡ needFor fs
-  created-mfrl = reads-mfrl (createdMst mst fs) (endOf mst) (endOf (createdMst mst fs) - endOf mst) created-reads
+  created-mfrl = ap (λ (l : Leader). l .mfrl) (created-reads .leader)
 
   pub created-moved : MstMoved mst xrf (createdMst mst fs) (nextOf mst) (endOf mst) (needFor fs)
   created-moved = mst-append s created-to (created-writable .long) created-mfrl created-control (goes-up created-next refl)
@@ -503,11 +503,8 @@ module _ {mst xrf : List ℕ} (s : Sound mst xrf) (m : ℕ) (p : Place) (low : 1
     old-leader : LeaderFacts m (p .deleted) (length (recordAt mst p)) (leaderAt mst p)
     old-leader = reads-leader (place-reads here)
 
-    old-mfrl : mfrlAt mst (placeAddress p) ≡ leaderAt mst p .mfrl
-    old-mfrl = reads-mfrl mst (placeAddress p) (endOf mst - placeAddress p) (place-reads here)
-
-    old-member : MemberFacts mst (endOf mst) 64 (placeAddress p)
-    old-member = member-facts mst (endOf mst) (placeAddress p) 64 (s .way) (here .step)
+    old-member : MemberFacts mst 64 (placeAddress p)
+    old-member = member-facts mst (placeAddress p) 64 (s .way) (here .step)
 
     again-writable : Writable m (leaderAt mst p .mfrl) back-block back-offset fs
     again-writable =
@@ -517,33 +514,35 @@ module _ {mst xrf : List ℕ} (s : Sound mst xrf) (m : ℕ) (p : Place) (low : 1
     again-length : length (recordBytes again fs) ≡ leaderAt mst p .mfrl
     again-length = written-length m (leaderAt mst p .mfrl) back-block back-offset deleted fs again-writable
 
-    -- up to the old end
-    again-read : ReadsAs (part over-it (placeAddress p) (endOf mst - placeAddress p)) m deleted again fs
+    again-inside : 0 + length (recordBytes again fs) ≤ leaderAt mst p .mfrl
+    again-inside = omega (arith, again-length)
+
+    again-end : endOf over-it ≡ endOf mst
+    again-end = rw (add-zero (placeAddress p)) at (within-end s m high p e here 0 (recordBytes again fs) again-inside)
+
+    again-read : ReadsAs (recordAt over-it p) m deleted again fs
     again-read =
         let g = old-member in
-        let h = s .numbers in
-        written-placed m (leaderAt mst p .mfrl) back-block back-offset deleted fs again-writable mst (placeAddress p) (endOf mst)
-        (omega (arith, old-mfrl)) (h .end-in)
+        rw again-end
+        (written-placed m (leaderAt mst p .mfrl) back-block back-offset deleted fs again-writable mst (placeAddress p) (endOf mst)
+        (omega arith) (s .numbers .end-in))
 
-    again-within : MstMoved mst xrf over-it m (placeAddress p) (leaderAt mst p .mfrl) × (endOf over-it ≡ endOf mst)
-    again-within =
+    again-moved : MstMoved mst xrf over-it m (placeAddress p) (leaderAt mst p .mfrl)
+    again-moved =
         let z : placeAddress p + 0 ≡ placeAddress p = add-zero (placeAddress p) in
-        let bs : List ℕ = recordBytes again fs in
-        let inside : 0 + length bs ≤ mfrlAt mst (placeAddress p) = omega (arith, again-length, old-mfrl) in
-        let same : mfrlAt (place mst (placeAddress p + 0) bs) (placeAddress p) ≡ mfrlAt mst (placeAddress p) =
-        rw z (reads-mfrl over-it (placeAddress p) (endOf mst - placeAddress p) again-read ∙ sym old-mfrl) in
-        (rw (z, again-length) at (mst-within s m high p e here 0 bs inside same), rw z at (within-end s m high p e here 0 bs inside same))
+        rw (z, again-length) at
+        (mst-within s m high p e here 0 (recordBytes again fs) again-inside (rw z (ap (λ (l : Leader). l .mfrl) (again-read .leader))))
 
     -- whatever entry names the place, with the same mark
     in-place-leaves : {xrf′ : List ℕ} → XrfMoved xrf xrf′ m → (q : Place) → entryFor over-it xrf′ m ≡ At q → q .deleted ≡ deleted → q .mark ≡ p .mark
         → placeAddress q ≡ placeAddress p → Leaves mst xrf over-it xrf′ m (endOf mst) (nextOf mst) q (leaderAt mst p .mfrl) fs (fieldsOf (settledRecord mst p))
     in-place-leaves x q entry del mark at =
-        let w : MstMoved mst xrf over-it m (placeAddress p) (leaderAt mst p .mfrl) = again-within .0 in
-        let end : endOf over-it ≡ endOf mst = again-within .1 in
+        let w : MstMoved mst xrf over-it m (placeAddress p) (leaderAt mst p .mfrl) = again-moved in
+        let end : endOf over-it ≡ endOf mst = again-end in
         let block : back-block ≡ leaderAt mst p .mfbwb .0 = rw pending in
         let offset : back-offset ≡ leaderAt mst p .mfbwp = rw pending in
         leaves s w x q again fs (fieldsOf (settledRecord mst p)) entry
-        (rw (at, end, del) again-read)
+        (rw (at, del) again-read)
         (rw at (w .steps-kept (placeAddress p) (here .step)))
         (rw end (back-fine-same (endOf mst) p q (leaderAt mst p) again mark at block offset (fine-facts mst m p (here .fine) .back)))
         (λ c. changed-settled s m p e here w (backAddress again) (rw pending) (sym mark ∙ c))
@@ -553,7 +552,7 @@ module _ {mst xrf : List ℕ} (s : Sound mst xrf) (m : ℕ) (p : Place) (low : 1
     pub update-in-place-leaves : p .deleted ≡ false → deleted ≡ false
         → Leaves mst xrf (versionInPlace mst m p (leaderAt mst p) deleted fs) xrf m (endOf mst) (nextOf mst) p (leaderAt mst p .mfrl) fs (fieldsOf (settledRecord mst p))
     unfolding versionInPlace versionLeader
-    update-in-place-leaves live del = in-place-leaves (xrf-same xrf m) p (rw (again-within .1) e) (live ∙ sym del) refl refl
+    update-in-place-leaves live del = in-place-leaves (xrf-same xrf m) p (rw (again-end) e) (live ∙ sym del) refl refl
 
     -- a delete: the entry is written with its block negated
     pub delete-in-place-leaves : deleted ≡ true
@@ -562,8 +561,8 @@ module _ {mst xrf : List ℕ} (s : Sound mst xrf) (m : ℕ) (p : Place) (low : 1
     unfolding versionInPlace versionLeader
     delete-in-place-leaves del =
         let q : Place = placed (p .block .0) (p .offset) true (p .mark) in
-        let w : MstMoved mst xrf over-it m (placeAddress p) (leaderAt mst p .mfrl) = again-within .0 in
-        let end : endOf over-it ≡ endOf mst = again-within .1 in
+        let w : MstMoved mst xrf over-it m (placeAddress p) (leaderAt mst p .mfrl) = again-moved in
+        let end : endOf over-it ≡ endOf mst = again-end in
         in-place-leaves (xrf-entry xrf m q low in-xrf) q
         (entry-written s over-it m q low in-xrf (w .long) (control-facts over-it (capacityOf (length xrf)) (w .control) .end-in)
         (rw end (own-well-placed s m p e here)))
@@ -576,20 +575,17 @@ module _ {mst xrf : List ℕ} (s : Sound mst xrf) (m : ℕ) (p : Place) (low : 1
   there = at-stands s m p low high e
 
   pointer-inside : 6 + 6 ≤ mfrlAt mst (placeAddress p)
-  pointer-inside = let g = member-facts mst (endOf mst) (placeAddress p) 64 (s .way) (there .step) in omega arith
+  pointer-inside = let g = member-facts mst (placeAddress p) 64 (s .way) (there .step) in omega arith
 
-  patched : ReadsAs (part (place mst (placeAddress p + 6) (replicate 6 0)) (placeAddress p) (endOf mst - placeAddress p)) m (p .deleted)
-      (withBack (leaderAt mst p) 0 0) (currentFields mst p)
-  patched = reads-settled mst (placeAddress p) (endOf mst - placeAddress p) (place-reads there)
+  patched-end : endOf (place mst (placeAddress p + 6) (replicate 6 0)) ≡ endOf mst
+  patched-end = within-end s m high p e there 6 (replicate 6 0) pointer-inside
 
-  patched-mfrl : mfrlAt (place mst (placeAddress p + 6) (replicate 6 0)) (placeAddress p) ≡ mfrlAt mst (placeAddress p)
-  patched-mfrl =
-      reads-mfrl (place mst (placeAddress p + 6) (replicate 6 0)) (placeAddress p) (endOf mst - placeAddress p) patched
-      ∙ sym (reads-mfrl mst (placeAddress p) (endOf mst - placeAddress p) (place-reads there))
+  patched : ReadsAs (recordAt (place mst (placeAddress p + 6) (replicate 6 0)) p) m (p .deleted) (withBack (leaderAt mst p) 0 0) (currentFields mst p)
+  patched = rw patched-end (reads-settled mst (placeAddress p) (endOf mst - placeAddress p) (place-reads there))
 
   pub settled-moved : MstMoved mst xrf (settledMst mst p) m (placeAddress p + 6) 6
   unfolding settledMst
-  settled-moved = mst-within s m high p e there 6 (replicate 6 0) pointer-inside patched-mfrl
+  settled-moved = mst-within s m high p e there 6 (replicate 6 0) pointer-inside (ap (λ (l : Leader). l .mfrl) (patched .leader))
 
   pub settled-xrf : XrfMoved xrf (settledXrf xrf m p) m
   unfolding settledXrf
@@ -603,11 +599,11 @@ module _ {mst xrf : List ℕ} (s : Sound mst xrf) (m : ℕ) (p : Place) (low : 1
       let q : Place = placed (p .block .0) (p .offset) (p .deleted) Settled in
       let l : Leader = withBack (leaderAt mst p) 0 0 in
       let w : MstMoved mst xrf out m (placeAddress p + 6) 6 = settled-moved in
-      let end : endOf out ≡ endOf mst = within-end s m high p e there 6 (replicate 6 0) pointer-inside patched-mfrl in
+      let end : endOf out ≡ endOf mst = patched-end in
       leaves s w settled-xrf q l (currentFields mst p) []
       (entry-written s out m q low (known-in s m high) (w .long) (control-facts out (capacityOf (length xrf)) (w .control) .end-in)
       (rw end (entry-well-placed xrf (endOf mst) m p e)))
-      (rw end patched)
+      patched
       (w .steps-kept (placeAddress p) (there .step))
       (back-fine-none (endOf out) q l refl (no-back-from l refl refl))
       (λ c. let z : _≡_ {A = ℕ} 0 1 = cc in absurd (omega arith))
@@ -700,5 +696,5 @@ format-sound mst xrf h =
     (formatted-right (length mst) a (capacityOf (length (formattedXrf (length xrf)))))
     (λ k low high. formatted-head (length xrf) b k low (rw j at high))
     (λ m low high. formatted-free (length xrf) b m)
-    (rw end (arrives-end (formattedMst (length mst)) 64 64 (omega arith) ∙ refl))
+    (arrives-end (formattedMst (length mst)) 64 (omega arith) ∙ eq-eqb 64 (endOf (formattedMst (length mst))) (sym end))
     (λ m low high. absurd (omega arith))

@@ -7,16 +7,16 @@ use mathlib.Core.Bool.{Bool, true, false, _&&_, cond}
 use mathlib.Core.List.{List, [], _∷_}
 use lib.Dec.{eqb}
 use lib.ListN.{length}
-use Rattle.word.specs.Integer.{u32At}
 use Rattle.layout.specs.Entry.{placeAddress}
 use Rattle.layout.specs.Control.{nextOf, endOf}
+use Rattle.layout.specs.Leader.{leaderOf}
 use Rattle.layout.specs.declared.entry.Mark.{Mark}
 use Rattle.layout.specs.declared.entry.Mark.the-variants.{Changed}
 use Rattle.layout.specs.declared.entry.Place.{Place}
 use Rattle.layout.specs.declared.entry.Entry.{Entry}
 use Rattle.layout.specs.declared.entry.Entry.the-variants.{Gone, Malformed, At}
 use Rattle.store.specs.Answer.{numberOf}
-use Rattle.store.specs.Reading.{mfnKnown, entryFor, isChanged, leaderAt, backAddress, recordFine, versionFine}
+use Rattle.store.specs.Reading.{mfnKnown, entryFor, isChanged, recordFrom, leaderAt, backAddress, recordFine, versionFine}
 use Rattle.store.specs.declared.answer.Answer.{Answer}
 use Rattle.soundness.specs.Sound.{allTo, elem, steps, arrives}
 use Rattle.soundness.specs.declared.passes.Tally.{Tally}
@@ -78,13 +78,17 @@ refusedTally a = cond (eqb (numberOf a) 7) (Named 0) Wrong
 
 -- ---- the second pass
 
--- the entry of the MFN written at the step s names this step
+-- the MFN written at a step
+abbrev pub mfnAt : List ℕ → ℕ → ℕ
+mfnAt mst s = leaderOf (recordFrom mst s) .mfn .0
+
+-- the entry of that MFN names the step
 unfoldable pub hit : List ℕ → List ℕ → ℕ → Bool
-hit mst xrf s = mfnKnown mst (u32At mst s) && elem s (namesOf mst (entryFor mst xrf (u32At mst s)))
+hit mst xrf s = mfnKnown mst (mfnAt mst s) && elem s (namesOf mst (entryFor mst xrf (mfnAt mst s)))
 
 -- one arrives at the end, and as many steps are named as the entries name addresses
 unfoldable pub walkOf : List ℕ → List ℕ → ℕ → Bool
-walkOf mst xrf named = arrives mst (endOf mst) 64 && eqb (count (hit mst xrf) (steps mst (endOf mst) 64)) named
+walkOf mst xrf named = arrives mst 64 && eqb (count (hit mst xrf) (steps mst 64)) named
 
 -- what is enough to read the addresses that a place names
 pub record Names (mst : List ℕ) (end : ℕ) (p : Place) : Type 0 where

@@ -19,13 +19,13 @@ ghost use Rattle.soundness.specs.Sound.{elem, headsRight, restFree};
 ghost use Rattle.soundness.specs.Passes.{bit, namesOf, namedUnder, refusedTally, entryTally, entriesFine, tallyOf, hit, walkOf, Names};
 
 // What the first pass finds: how many steps the entries name, or that one of them is wrong.
-pub enum Tally {
+pub(crate) enum Tally {
     Named(usize),
     Wrong,
 }
 
 // Whether the first integer of every XRF block is right.
-pub fn heads_right(xrf: &[u8]) -> bool
+pub(crate) fn heads_right(xrf: &[u8]) -> bool
     requires { ⌜ length (now xrf) ≤ 2097152 ⌝ }
     ensures { λ r. ⌜ r ≡ headsRight (now (xrf .entry)) ⌝ }
 {
@@ -41,7 +41,7 @@ pub fn heads_right(xrf: &[u8]) -> bool
 }
 
 // Whether every slot from NXTMFN on holds 0.
-pub fn rest_free(xrf: &[u8], next: Mfn) -> bool
+pub(crate) fn rest_free(xrf: &[u8], next: Mfn) -> bool
     requires { ⌜ (1 ≤ next .0) × (next .0 ≤ capacityOf (length (now xrf)) + 1) × (length (now xrf) ≤ 2097152) ⌝ }
     ensures { λ r. ⌜ r ≡ restFree (now (xrf .entry)) (next .0) ⌝ }
 {
@@ -93,7 +93,7 @@ fn tally_entry(mst: &[u8], xrf: &[u8], next: Mfn, end: usize, m: Mfn) -> Tally
 }
 
 // The first pass: every entry below NXTMFN.
-pub fn tally_entries(mst: &[u8], xrf: &[u8], next: Mfn, end: usize) -> Tally
+pub(crate) fn tally_entries(mst: &[u8], xrf: &[u8], next: Mfn, end: usize) -> Tally
     requires { ⌜ gateOf (now mst) (now xrf) ≡ Gate.Open next end ⌝ }
     ensures { λ r. ⌜ r ≡ tallyOf (now (mst .entry)) (now (xrf .entry)) ⌝ }
 {
@@ -138,14 +138,15 @@ fn step_hit(mst: &[u8], xrf: &[u8], next: Mfn, end: usize, s: usize) -> usize
     requires { ⌜ (entriesFine (now mst) (now xrf) ≡ true) × (s + 18 ≤ end) ⌝ }
     ensures { λ r. ⌜ r ≡ bit (hit (now (mst .entry)) (now (xrf .entry)) s) ⌝ }
 {
-    let m = word::integer::u32_at(mst, s);
-    if m < 1 {
+    let l = layout::leader::read_leader(&mst[s..end]);
+    let m = l.mfn;
+    if m.0 < 1 {
         return 0;
     }
-    if next.0 <= m {
+    if next.0 <= m.0 {
         return 0;
     }
-    let e = layout::cross_reference::entry_at(xrf, end, Mfn(m));
+    let e = layout::cross_reference::entry_at(xrf, end, m);
     let Entry::At(p) = e else {
         return 0;
     };
@@ -153,7 +154,7 @@ fn step_hit(mst: &[u8], xrf: &[u8], next: Mfn, end: usize, s: usize) -> usize
 }
 
 // The second pass: whether stepping from address 64 on one arrives at the end, and meets all that the entries name.
-pub fn walk_steps(mst: &[u8], xrf: &[u8], next: Mfn, end: usize, named: usize) -> bool
+pub(crate) fn walk_steps(mst: &[u8], xrf: &[u8], next: Mfn, end: usize, named: usize) -> bool
     requires { ⌜ gateOf (now mst) (now xrf) ≡ Gate.Open next end ⌝ }
     requires { ⌜ entriesFine (now mst) (now xrf) ≡ true ⌝ }
     ensures { λ r. ⌜ r ≡ walkOf (now (mst .entry)) (now (xrf .entry)) named ⌝ }
