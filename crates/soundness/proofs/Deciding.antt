@@ -8,7 +8,6 @@ use mathlib.Core.Logic.{⊎-elim}
 use mathlib.Core.Bool.{Bool, true, false, not, _&&_, cond}
 use mathlib.Core.List.{List, [], _∷_}
 use lib.Dec.{eqb}
-use lib.ListN.{length}
 use borrow.Author.Tests.{eqb-false, ne-eqb}
 use Rattle.layout.specs.Entry.{placeAddress}
 use Rattle.layout.specs.Control.{nextOf, endOf}

@@ -1,8 +1,9 @@
 pub mod Stepping
-pub mod Standing
+pub mod SoundEntries
 pub mod Counting
 pub mod Deciding
 pub mod Moves
+pub mod Leaving
 pub mod Writes
 pub mod PassAnswers
 pub mod CheckAnswers
