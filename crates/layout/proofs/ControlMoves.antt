@@ -9,7 +9,7 @@ use mathlib.Core.Bool.{true}
 use mathlib.Core.List.{List, _++_}
 use lib.ListN.{length, getD}
 use Rattle.word.specs.Integer.{le}
-use Rattle.word.proofs.Place.{lt-or-ge, place-other}
+use Rattle.word.proofs.Overwrite.{lt-or-ge, overwrite-other}
 use Rattle.layout.specs.Sizes.{blockAt, offsetAt}
 use Rattle.layout.specs.Control.{nextOf, endOf, controlRight, withNext, withEnd}
 use Rattle.layout.specs.NamedBytes.{Within, NextByte, EndByte, ControlByte, next-mfn, the-end}
@@ -30,11 +30,11 @@ control-front i (the-end h) = omega (arith, h .1)
 
 pub next-kept : (mst : List ℕ) (n : ℕ) → 64 ≤ length mst → (i : ℕ) → (NextByte i → ⊥) → getD (withNext mst n) i 0 ≡ getD mst i 0
 unfolding withNext NextByte
-next-kept mst n long i off = place-other mst 4 (le 4 n) i (omega arith) (out-of 4 4 i off)
+next-kept mst n long i off = overwrite-other mst 4 (le 4 n) i (omega arith) (out-of 4 4 i off)
 
 pub end-kept : (mst : List ℕ) (e : ℕ) → 64 ≤ length mst → (i : ℕ) → (EndByte i → ⊥) → getD (withEnd mst e) i 0 ≡ getD mst i 0
 unfolding withEnd EndByte
-end-kept mst e long i off = place-other mst 8 (le 4 (blockAt e) ++ le 2 (offsetAt e)) i (omega arith) (out-of 8 6 i off)
+end-kept mst e long i off = overwrite-other mst 8 (le 4 (blockAt e) ++ le 2 (offsetAt e)) i (omega arith) (out-of 8 6 i off)
 
 -- ---- what a call writes
 

@@ -18,11 +18,12 @@ use Rattle.layout.specs.declared.entry.Entry.the-variants.{Gone, Malformed, At}
 use Rattle.layout.proofs.Tests.{tests, and-iff, false-true, not-both, cond-holds}
 use Rattle.record.specs.Record.{recordRight, noBack, backRight}
 use Rattle.record.proofs.Facts.{right-facts}
-use Rattle.store.specs.Reading.{mfnKnown, entryFor, isChanged, recordFrom, recordAt, leaderAt, backAddress, backFine, recordFine, settledRecord, settledFine, versionFine}
+use Rattle.store.specs.Reading.{mfnInRange, entryFor, isChanged, recordFrom, recordAt, leaderAt, backAddress, backFine, recordFine, settledRecord, settledFine, versionFine}
 use Rattle.soundness.specs.Sound.{allTo, elem, implies, steps, arrives, placeSound, entrySound, entriesSound}
 use Rattle.soundness.specs.Passes.{namesOf, entryFine, entriesFine, namedTotal, mfnAt, hit, walkOf}
 use Rattle.soundness.proofs.Stepping.{steps-ascend, elem-none, elem-cases}
 use Rattle.soundness.proofs.Counting.{allTo-at, allTo-same, allTo-and, every, Once, ascends-once, Naming, named-all}
+use Rattle.store.specs.Store.{store}
 
 -- ---- an entry that is right but for the steps
 
@@ -120,41 +121,41 @@ module _ (mst : List ℕ) (m : ℕ) where
 module _ (mst xrf : List ℕ) where
   -- every entry below NXTMFN names addresses of a list only
   allNamed : List ℕ → Bool
-  allNamed l = allTo (nextOf mst - 1) (λ (m : ℕ). every (λ (a : ℕ). elem a l) (namesOf mst (entryFor mst xrf m)))
+  allNamed l = allTo (nextOf mst - 1) (λ (m : ℕ). every (λ (a : ℕ). elem a l) (namesOf mst (entryFor (store mst xrf) m)))
 
-  entries-split : (l : List ℕ) → entriesSound mst xrf l ≡ (entriesFine mst xrf && allNamed l)
+  entries-split : (l : List ℕ) → entriesSound (store mst xrf) l ≡ (entriesFine (store mst xrf) && allNamed l)
   unfolding entriesSound entriesFine allNamed
   entries-split l =
-      allTo-same (nextOf mst - 1) (λ (m : ℕ). entrySound mst l m (entryFor mst xrf m))
-      (λ (m : ℕ). entryFine mst m (entryFor mst xrf m) && every (λ (a : ℕ). elem a l) (namesOf mst (entryFor mst xrf m)))
-      (λ m lo hi. entry-splits mst m l (entryFor mst xrf m))
-      ∙ allTo-and (nextOf mst - 1) (λ (m : ℕ). entryFine mst m (entryFor mst xrf m))
-      (λ (m : ℕ). every (λ (a : ℕ). elem a l) (namesOf mst (entryFor mst xrf m)))
+      allTo-same (nextOf mst - 1) (λ (m : ℕ). entrySound mst l m (entryFor (store mst xrf) m))
+      (λ (m : ℕ). entryFine mst m (entryFor (store mst xrf) m) && every (λ (a : ℕ). elem a l) (namesOf mst (entryFor (store mst xrf) m)))
+      (λ m lo hi. entry-splits mst m l (entryFor (store mst xrf) m))
+      ∙ allTo-and (nextOf mst - 1) (λ (m : ℕ). entryFine mst m (entryFor (store mst xrf) m))
+      (λ (m : ℕ). every (λ (a : ℕ). elem a l) (namesOf mst (entryFor (store mst xrf) m)))
 
-  pub entries-wrong : entriesFine mst xrf ≡ false → (l : List ℕ) → entriesSound mst xrf l ≡ false
+  pub entries-wrong : entriesFine (store mst xrf) ≡ false → (l : List ℕ) → entriesSound (store mst xrf) l ≡ false
   entries-wrong h l = entries-split l ∙ rw h
 
-  module _ (low : 1 ≤ nextOf mst) (fine : entriesFine mst xrf ≡ true) where
-    pub entry-fine : (m : ℕ) → 1 ≤ m → m ≤ nextOf mst - 1 → entryFine mst m (entryFor mst xrf m) ≡ true
+  module _ (low : 1 ≤ nextOf mst) (fine : entriesFine (store mst xrf) ≡ true) where
+    pub entry-fine : (m : ℕ) → 1 ≤ m → m ≤ nextOf mst - 1 → entryFine mst m (entryFor (store mst xrf) m) ≡ true
     unfolding entriesFine
-    entry-fine m lo hi = allTo-at (nextOf mst - 1) (λ (m : ℕ). entryFine mst m (entryFor mst xrf m)) fine m lo hi
+    entry-fine m lo hi = allTo-at (nextOf mst - 1) (λ (m : ℕ). entryFine mst m (entryFor (store mst xrf) m)) fine m lo hi
 
-    naming : Naming (nextOf mst - 1) (mfnKnown mst) (λ (m : ℕ). namesOf mst (entryFor mst xrf m)) (mfnAt mst)
-    unfolding mfnKnown
+    naming : Naming (nextOf mst - 1) (mfnInRange mst) (λ (m : ℕ). namesOf mst (entryFor (store mst xrf) m)) (mfnAt mst)
+    unfolding mfnInRange
     naming =
         record {
           inside = λ m lo hi. simp tests (lo, omega arith);
           outside = λ m h. let q = simp tests at h in (q .0, omega arith);
-          own = λ m a lo hi. entry-own mst m (entryFor mst xrf m) (entry-fine m lo hi) a;
-          once = λ m lo hi. entry-once mst m (entryFor mst xrf m) (entry-fine m lo hi);
+          own = λ m a lo hi. entry-own mst m (entryFor (store mst xrf) m) (entry-fine m lo hi) a;
+          once = λ m lo hi. entry-once mst m (entryFor (store mst xrf) m) (entry-fine m lo hi);
         }
 
     -- THE COUNTS DECIDE
-    pub walk-decides : walkOf mst xrf (namedTotal mst xrf) ≡ (arrives mst 64 && entriesSound mst xrf (steps mst 64))
+    pub walk-decides : walkOf (store mst xrf) (namedTotal (store mst xrf)) ≡ (arrives mst 64 && entriesSound (store mst xrf) (steps mst 64))
     unfolding walkOf hit namedTotal allNamed
     walk-decides =
         let l : List ℕ = steps mst 64 in
         ap (λ (t : Bool). arrives mst 64 && t)
-        (named-all (nextOf mst - 1) (mfnKnown mst) (λ (m : ℕ). namesOf mst (entryFor mst xrf m)) (mfnAt mst) naming l
+        (named-all (nextOf mst - 1) (mfnInRange mst) (λ (m : ℕ). namesOf mst (entryFor (store mst xrf) m)) (mfnAt mst) naming l
         (ascends-once l 64 (steps-ascend mst 64))
         ∙ sym (entries-split l ∙ rw fine))

@@ -10,8 +10,8 @@ use mathlib.Core.List.{List}
 use lib.Dec.{eqb}
 use lib.ListN.{length}
 use borrow.Author.Tests.{ne-eqb}
-use Rattle.word.specs.Place.{place, part}
-use Rattle.word.proofs.Place.{place-length, place-other}
+use Rattle.word.specs.Overwrite.{overwrite, part}
+use Rattle.word.proofs.Overwrite.{overwrite-length, overwrite-other}
 use Rattle.layout.specs.Sizes.{capacityOf, blockAt, offsetAt, endMoved}
 use Rattle.layout.specs.Entry.{wellPlaced, placed, placeAddress}
 use Rattle.layout.specs.CrossReference.{xrfBlock, withEntry}
@@ -34,11 +34,12 @@ use Rattle.record.specs.Bytes.{recordBytes, leaderFor}
 use Rattle.record.proofs.Local.{ReadsAs, reads-window}
 use Rattle.record.proofs.Trip.{Writable, written-length, written-placed}
 use Rattle.store.specs.Reading.{entryFor, isChanged, recordFrom, recordAt, leaderAt, backAddress, backFine, settledRecord, currentFields}
-use Rattle.store.specs.Calls.{appended, placeAtEnd}
+use Rattle.writing.specs.Calls.{appended, placeAtEnd}
 use Rattle.soundness.specs.Sound.{elem, mfrlAt, steps}
 use Rattle.soundness.specs.Touching.{TouchesOnly}
 use Rattle.soundness.proofs.SoundEntries.{PlaceStands, is-at, Sound, at-stands}
 use Rattle.soundness.proofs.Moves.{XrfMoved, MstMoved, NextMoved, next-stays, SameReading, fine-from, settled-from, entry-kept, other-same, moved-sound, moved-touches, xrf-same, xrf-entry, mst-within, within-end, AppendedTo, mst-append, append-step}
+use Rattle.store.specs.Store.{store}
 
 -- ---- what is left
 
@@ -50,13 +51,13 @@ pub record Leaves (mst xrf mst′ xrf′ : List ℕ) (m end next : ℕ) (p : Pla
   pub xrf-long : length xrf′ ≡ length xrf
   pub end-is : endOf mst′ ≡ end
   pub next-is : nextOf mst′ ≡ next
-  pub entry : entryFor mst′ xrf′ m ≡ At p
+  pub entry : entryFor (store mst′ xrf′) m ≡ At p
   pub record-length : leaderAt mst′ p .mfrl ≡ mfrl
   pub fields : currentFields mst′ p ≡ fs
   pub settled-fields : p .mark ≡ Changed → fieldsOf (settledRecord mst′ p) ≡ old
-  pub touches : TouchesOnly mst xrf mst′ xrf′ m
-  pub others : (o : ℕ) → (o ≡ m → ⊥) → 1 ≤ o → o < nextOf mst → entryFor mst′ xrf′ o ≡ entryFor mst xrf o
-  pub same : (o : ℕ) (q : Place) → (o ≡ m → ⊥) → 1 ≤ o → o < nextOf mst → entryFor mst xrf o ≡ At q → SameReading mst mst′ q
+  pub touches : TouchesOnly (store mst xrf) (store mst′ xrf′) m
+  pub others : (o : ℕ) → (o ≡ m → ⊥) → 1 ≤ o → o < nextOf mst → entryFor (store mst′ xrf′) o ≡ entryFor (store mst xrf) o
+  pub same : (o : ℕ) (q : Place) → (o ≡ m → ⊥) → 1 ≤ o → o < nextOf mst → entryFor (store mst xrf) o ≡ At q → SameReading mst mst′ q
 
 -- a settled version at an address
 pub record SettledAt (mst : List ℕ) (m a : ℕ) (fs : List Field) : Type 0 where
@@ -68,7 +69,7 @@ pub record SettledAt (mst : List ℕ) (m a : ℕ) (fs : List Field) : Type 0 whe
 -- the record that was written stands
 module _ {mst xrf mst′ xrf′ : List ℕ} {May : ℕ → Type 0} {m at n : ℕ} (s : Sound mst xrf) (w : MstMoved mst xrf mst′ May m at n) (x : XrfMoved xrf xrf′ m)
     (p : Place) (l : Leader) (fs old : List Field)
-    (e : entryFor mst′ xrf′ m ≡ At p) (r : ReadsAs (recordAt mst′ p) m (p .deleted) l fs)
+    (e : entryFor (store mst′ xrf′) m ≡ At p) (r : ReadsAs (recordAt mst′ p) m (p .deleted) l fs)
     (step : elem (placeAddress p) (steps mst′ 64) ≡ true) (back : backFine (endOf mst′) p l ≡ true)
     (settled : p .mark ≡ Changed → SettledAt mst′ m (backAddress l) old) where
   own-stands : PlaceStands mst′ m p
@@ -113,7 +114,7 @@ module _ {mst xrf : List ℕ} (s : Sound mst xrf) where
 
   -- an entry that is written is read back
   pub entry-written : (mst′ : List ℕ) (m : ℕ) (p : Place) → 1 ≤ m → m ≤ capacityOf (length xrf) → length mst′ ≡ length mst → endOf mst′ ≤ length mst′
-      → wellPlaced (endOf mst′) (p .block .0) (p .offset) ≡ true → entryFor mst′ (withEntry xrf m p) m ≡ At p
+      → wellPlaced (endOf mst′) (p .block .0) (p .offset) ≡ true → entryFor (store mst′ (withEntry xrf m p)) m ≡ At p
   entry-written mst′ m p low high long end w =
       let f = s .sizes in
       with-entry-same xrf m p (slot-in (length xrf) m low high) (endOf mst′) w (omega arith)
@@ -160,7 +161,7 @@ module _ {mst xrf : List ℕ} (s : Sound mst xrf) (m n b q : ℕ) (deleted : Boo
   made = leaderFor m n b q deleted (length fs)
 
   abbrev over : List ℕ
-  over = place mst (endOf mst) (recordBytes made fs)
+  over = overwrite mst (endOf mst) (recordBytes made fs)
 
   abbrev end′ : ℕ
   end′ = endMoved (endOf mst + n)
@@ -179,7 +180,7 @@ module _ {mst xrf : List ℕ} (s : Sound mst xrf) (m n b q : ℕ) (deleted : Boo
 
   -- the record is written, and the control record not yet
   long-over : length over ≡ length mst
-  long-over = place-length mst (endOf mst) (recordBytes made fs) fits
+  long-over = overwrite-length mst (endOf mst) (recordBytes made fs) fits
 
   pub over-right : controlRight over (capacityOf (length xrf)) ≡ true
   over-right = control-right-placed mst (endOf mst) (recordBytes made fs) low fits (capacityOf (length xrf)) ∙ s .control
@@ -214,7 +215,7 @@ module _ {mst xrf : List ℕ} (s : Sound mst xrf) (m n b q : ℕ) (deleted : Boo
           long = c .long ∙ long-over;
           end-is = c .end-is;
           named = c .named;
-          kept = λ i off side. c .kept i off ∙ place-other mst (endOf mst) (recordBytes made fs) i (omega (arith, fits)) (rw whole side);
+          kept = λ i off side. c .kept i off ∙ overwrite-other mst (endOf mst) (recordBytes made fs) i (omega (arith, fits)) (rw whole side);
         }
 
     reads : ReadsAs (recordFrom out (endOf mst)) m deleted made fs
@@ -255,13 +256,13 @@ module _ {mst xrf : List ℕ} (s : Sound mst xrf) (m n b q : ℕ) (deleted : Boo
 
 -- ---- bytes within m's own record, which keep its MFRL
 
-module _ {mst xrf : List ℕ} (s : Sound mst xrf) (m : ℕ) (p : Place) (low : 1 ≤ m) (high : m < nextOf mst) (e : entryFor mst xrf m ≡ At p) (at : ℕ) (bs : List ℕ)
+module _ {mst xrf : List ℕ} (s : Sound mst xrf) (m : ℕ) (p : Place) (low : 1 ≤ m) (high : m < nextOf mst) (e : entryFor (store mst xrf) m ≡ At p) (at : ℕ) (bs : List ℕ)
     (from : placeAddress p ≤ at) (to : at + length bs ≤ placeAddress p + leaderAt mst p .mfrl) where
   here : PlaceStands mst m p
   here = at-stands s m p low high e
 
   abbrev patched : List ℕ
-  patched = place mst at bs
+  patched = overwrite mst at bs
 
   end : endOf patched ≡ endOf mst
   end = within-end s m high p e here at bs from to

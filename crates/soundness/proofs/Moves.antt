@@ -11,8 +11,8 @@ use mathlib.Core.Logic.{_⊎_, inl, inr, ⊎-elim}
 use mathlib.Core.Bool.{Bool, true, false}
 use mathlib.Core.List.{List}
 use lib.ListN.{length, getD}
-use Rattle.word.specs.Place.{place}
-use Rattle.word.proofs.Place.{lt-or-ge, place-length, place-other}
+use Rattle.word.specs.Overwrite.{overwrite}
+use Rattle.word.proofs.Overwrite.{lt-or-ge, overwrite-length, overwrite-other}
 use Rattle.layout.specs.Sizes.{capacityOf, endMoved, recordLength}
 use Rattle.layout.specs.Entry.{placeAddress}
 use Rattle.layout.specs.CrossReference.{slotAt, headRight, entryAt, slotFree, withEntry}
@@ -38,6 +38,7 @@ use Rattle.soundness.specs.Sound.{elem, mfrlAt, steps, arrives}
 use Rattle.soundness.specs.Touching.{MayChange, control-integer, own-record, new-byte, TouchesOnly}
 use Rattle.soundness.proofs.Stepping.{MemberFacts, member-facts, steps-apart, mfrl-kept, MfrlKept, steps-same, arrives-same, arrives-append, elem-kept, elem-new}
 use Rattle.soundness.proofs.SoundEntries.{PlaceStands, EntryStands, is-gone, is-at, Sound, sound-from}
+use Rattle.store.specs.Store.{store}
 
 -- ---- what a write does
 
@@ -52,7 +53,7 @@ pub record XrfMoved (xrf xrf′ : List ℕ) (m : ℕ) : Type 0 where
 -- the n bytes from an address on are new bytes at the end, or lie within m's own record
 pub data Touched (mst xrf mst′ : List ℕ) (m at n : ℕ) : Type 0 where
   beyond : endOf mst ≤ at → at + n ≤ endOf mst′ → Touched mst xrf mst′ m at n
-  within : (p : Place) → entryFor mst xrf m ≡ At p → PlaceStands mst m p → placeAddress p ≤ at → at + n ≤ placeAddress p + leaderAt mst p .mfrl
+  within : (p : Place) → entryFor (store mst xrf) m ≡ At p → PlaceStands mst m p → placeAddress p ≤ at → at + n ≤ placeAddress p + leaderAt mst p .mfrl
       → Touched mst xrf mst′ m at n
 
 -- NXTMFN stays, or goes up by one where MFN m is created
@@ -63,7 +64,7 @@ pub data NextMoved (mst mst′ : List ℕ) (m : ℕ) : Type 0 where
 -- to the MST: only those n bytes, and the control integers that `May` names, are others, and each step is a step still
 pub record MstMoved (mst xrf mst′ : List ℕ) (May : ℕ → Type 0) (m at n : ℕ) : Type 0 where
   pub long : length mst′ ≡ length mst
-  pub control : controlFine mst′ xrf ≡ true
+  pub control : controlFine (store mst′ xrf) ≡ true
   pub next : NextMoved mst mst′ m
   pub end-up : endOf mst ≤ endOf mst′
   pub touched : Touched mst xrf mst′ m at n
@@ -145,7 +146,7 @@ module _ {mst xrf mst′ : List ℕ} {May : ℕ → Type 0} {m at n : ℕ} (s : 
 
   -- a step other than m's own place
   pub step-apart : (a : ℕ) → elem a (steps mst 64) ≡ true
-      → ((p : Place) → entryFor mst xrf m ≡ At p → PlaceStands mst m p → a ≡ placeAddress p → ⊥) → Untouched a
+      → ((p : Place) → entryFor (store mst xrf) m ≡ At p → PlaceStands mst m p → a ≡ placeAddress p → ⊥) → Untouched a
   step-apart a e other = go (w .touched)
     where
       go : Touched mst xrf mst′ m at n → Untouched a
@@ -215,7 +216,7 @@ module _ {mst xrf mst′ : List ℕ} {May : ℕ → Type 0} {m at n : ℕ} (s : 
       (λ c. step-other o (backAddress (leaderAt mst p)) ne (f .settled c .step) (settled-reads f c))
 
   -- m's own settled version, which is at another step
-  pub settled-kept : (p : Place) → entryFor mst xrf m ≡ At p → PlaceStands mst m p → p .mark ≡ Changed
+  pub settled-kept : (p : Place) → entryFor (store mst xrf) m ≡ At p → PlaceStands mst m p → p .mark ≡ Changed
       → ReadsAs (recordFrom mst′ (backAddress (leaderAt mst p))) m false (leaderOf (settledRecord mst p)) (fieldsOf (settledRecord mst p))
   settled-kept p e f c =
       let a : ℕ = backAddress (leaderAt mst p) in
@@ -228,10 +229,10 @@ module _ {mst xrf mst′ : List ℕ} {May : ℕ → Type 0} {m at n : ℕ} (s : 
   -- with the XRF
   module _ {xrf′ : List ℕ} (x : XrfMoved xrf xrf′ m) where
     -- the entry of another MFN
-    pub entry-kept : (o : ℕ) → (o ≡ m → ⊥) → 1 ≤ o → o < nextOf mst → entryFor mst′ xrf′ o ≡ entryFor mst xrf o
+    pub entry-kept : (o : ℕ) → (o ≡ m → ⊥) → 1 ≤ o → o < nextOf mst → entryFor (store mst′ xrf′) o ≡ entryFor (store mst xrf) o
     entry-kept o ne low high = x .others o low ne (endOf mst′) ∙ go (s .entries o low high)
       where
-        go : EntryStands mst xrf o → entryAt xrf (endOf mst′) o ≡ entryFor mst xrf o
+        go : EntryStands mst xrf o → entryAt xrf (endOf mst′) o ≡ entryFor (store mst xrf) o
         go (is-gone e) = entry-gone xrf (endOf mst) (endOf mst′) o e ∙ sym e
         go (is-at p e f) = entry-later xrf (endOf mst) o p e (endOf mst′) (w .end-up) ∙ sym e
 
@@ -242,7 +243,7 @@ module _ {mst xrf mst′ : List ℕ} {May : ℕ → Type 0} {m at n : ℕ} (s : 
         go (is-gone e) = is-gone (entry-kept o ne low high ∙ e)
         go (is-at p e f) = is-at p (entry-kept o ne low high ∙ e) (other-kept o p ne f .stands)
 
-    pub other-same : (o : ℕ) (p : Place) → (o ≡ m → ⊥) → 1 ≤ o → o < nextOf mst → entryFor mst xrf o ≡ At p → SameReading mst mst′ p
+    pub other-same : (o : ℕ) (p : Place) → (o ≡ m → ⊥) → 1 ≤ o → o < nextOf mst → entryFor (store mst xrf) o ≡ At p → SameReading mst mst′ p
     other-same o p ne low high e = go (s .entries o low high)
       where
         go : EntryStands mst xrf o → SameReading mst mst′ p
@@ -293,7 +294,7 @@ module _ {mst xrf mst′ : List ℕ} {May : ℕ → Type 0} {m at n : ℕ} (s : 
 -- ---- what is touched
 
 pub moved-touches : {mst xrf mst′ xrf′ : List ℕ} {May : ℕ → Type 0} {m at n : ℕ} → MstMoved mst xrf mst′ May m at n → XrfMoved xrf xrf′ m
-    → TouchesOnly mst xrf mst′ xrf′ m
+    → TouchesOnly (store mst xrf) (store mst′ xrf′) m
 moved-touches {mst} {xrf} {mst′} {xrf′} {May} {m} {at} {n} w x =
     record {
       mst-length = w .long;
@@ -302,7 +303,7 @@ moved-touches {mst} {xrf} {mst′} {xrf′} {May} {m} {at} {n} w x =
       xrf-kept = λ i off. x .kept i (out-of (slotAt m) 4 i off);
     }
   where
-    inside : (i : ℕ) → Within at n i → Touched mst xrf mst′ m at n → MayChange mst xrf mst′ m i
+    inside : (i : ℕ) → Within at n i → Touched mst xrf mst′ m at n → MayChange (store mst xrf) (store mst′ xrf′) m i
     inside i h (beyond a b) = new-byte (omega (arith, h .0)) (omega (arith, h .1))
     inside i h (within p e f a b) = own-record p e (omega (arith, h .0), omega (arith, h .1))
 
@@ -342,7 +343,7 @@ module _ {mst xrf : List ℕ} (s : Sound mst xrf) (m : ℕ) (known : m < nextOf 
         steps-kept = λ a e. e;
       }
 
-  module _ (p : Place) (e : entryFor mst xrf m ≡ At p) (f : PlaceStands mst m p) (at : ℕ) (bs : List ℕ) (from : placeAddress p ≤ at)
+  module _ (p : Place) (e : entryFor (store mst xrf) m ≡ At p) (f : PlaceStands mst m p) (at : ℕ) (bs : List ℕ) (from : placeAddress p ≤ at)
       (to : at + length bs ≤ placeAddress p + leaderAt mst p .mfrl) where
     own : MemberFacts mst 64 (placeAddress p)
     own = member-facts mst (placeAddress p) 64 (s .way) (f .step)
@@ -353,38 +354,38 @@ module _ {mst xrf : List ℕ} (s : Sound mst xrf) (m : ℕ) (known : m < nextOf 
     fits : at + length bs ≤ length mst
     fits = let g = own in let h = s .numbers in omega arith
 
-    pub within-end : endOf (place mst at bs) ≡ endOf mst
+    pub within-end : endOf (overwrite mst at bs) ≡ endOf mst
     within-end = end-placed mst at bs (omega (arith, low)) fits
 
-    module _ (same : mfrlAt (place mst at bs) (placeAddress p) ≡ leaderAt mst p .mfrl) where
-      all-kept : MfrlKept mst (place mst at bs) (steps mst 64)
+    module _ (same : mfrlAt (overwrite mst at bs) (placeAddress p) ≡ leaderAt mst p .mfrl) where
+      all-kept : MfrlKept mst (overwrite mst at bs) (steps mst 64)
       all-kept a i = go (ℕ-discrete a (placeAddress p))
         where
-          go : Dec (a ≡ placeAddress p) → mfrlAt (place mst at bs) a ≡ mfrlAt mst a
+          go : Dec (a ≡ placeAddress p) → mfrlAt (overwrite mst at bs) a ≡ mfrlAt mst a
           go (yes z) = rw z same
           go (no ne) =
               let g = member-facts mst a 64 (s .way) i in
               let l = fits in
               let end = within-end in
-              mfrl-kept mst (place mst at bs) a (omega arith) (omega arith)
+              mfrl-kept mst (overwrite mst at bs) a (omega arith) (omega arith)
               (λ j lo hi.
-              place-other mst at bs j (omega arith)
+              overwrite-other mst at bs j (omega arith)
               (⊎-elim (λ b. inl (omega arith)) (λ b. inr (omega arith)) (steps-apart mst a (placeAddress p) 64 (s .way) i (f .step) ne)))
 
-      pub mst-within : MstMoved mst xrf (place mst at bs) NoByte m at (length bs)
+      pub mst-within : MstMoved mst xrf (overwrite mst at bs) NoByte m at (length bs)
       mst-within =
           let h : 64 ≤ at = low in
           let l : at + length bs ≤ length mst = fits in
           record {
-            long = place-length mst at bs l;
+            long = overwrite-length mst at bs l;
             control = control-right-placed mst at bs (omega arith) l (capacityOf (length xrf)) ∙ s .control;
             next = stays (next-placed mst at bs (omega arith) l) known;
             end-up = rw within-end (omega arith);
             touched = within p e f from to;
             named = λ i b. absurd b;
-            kept = λ i off side. place-other mst at bs i (omega arith) side;
-            way = arrives-same mst (place mst at bs) within-end 64 all-kept ∙ s .way;
-            steps-kept = λ a i. rw (steps-same mst (place mst at bs) within-end 64 all-kept) i;
+            kept = λ i off side. overwrite-other mst at bs i (omega arith) side;
+            way = arrives-same mst (overwrite mst at bs) within-end 64 all-kept ∙ s .way;
+            steps-kept = λ a i. rw (steps-same mst (overwrite mst at bs) within-end 64 all-kept) i;
           }
 
 -- a record of n bytes at the end
@@ -404,7 +405,7 @@ module _ {mst xrf mst′ : List ℕ} {May : ℕ → Type 0} {n : ℕ} (s : Sound
       mfrl-kept mst mst′ b (omega arith) (omega arith)
       (λ j lo hi. a .kept j (λ c. omega (arith, control-front j (a .named j c))) (inl (omega arith)))
 
-  pub mst-append : {m : ℕ} → controlFine mst′ xrf ≡ true → NextMoved mst mst′ m → MstMoved mst xrf mst′ May m (endOf mst) n
+  pub mst-append : {m : ℕ} → controlFine (store mst′ xrf) ≡ true → NextMoved mst mst′ m → MstMoved mst xrf mst′ May m (endOf mst) n
   mst-append control next =
       let g = end-moved-facts (endOf mst + n) in
       let e = a .end-is in

@@ -9,7 +9,7 @@ use mathlib.Core.List.{List, []}
 use lib.Dec.{ltb}
 use lib.ListN.{length, replicate}
 use borrow.Author.Tests.{eq-eqb, ltb-false}
-use Rattle.word.specs.Place.{place, part}
+use Rattle.word.specs.Overwrite.{overwrite, part}
 use Rattle.layout.specs.Sizes.{mstPermitted, xrfPermitted, capacityOf, addressOf, endMoved}
 use Rattle.layout.specs.Entry.{wellPlaced, placed, placeAddress}
 use Rattle.layout.specs.CrossReference.{withEntry, formattedXrf}
@@ -33,13 +33,14 @@ use Rattle.record.proofs.Draftable.{Draftable, reads-draftable, reads-need}
 use Rattle.record.proofs.Local.{ReadsAs, reads-leader, reads-settled, withBack}
 use Rattle.record.proofs.Trip.{Writable, need-writable, written-length, written-placed}
 use Rattle.store.specs.Reading.{lengthsPermitted, entryFor, isSettled, recordAt, leaderAt, backAddress, backFine, settledRecord, shownSettled, currentFields}
-use Rattle.store.specs.Calls.{withRecord, appended, placeAtEnd, createdMst, createdXrf, newBackBlock, newBackOffset, pendingMark, versionLeader, versionAppended, versionInPlace, updatedMst, updatedXrf, deletedMst, deletedXrf, settledMst, settledXrf, revertedXrf}
-use Rattle.store.specs.Refusals.{updateAppends}
+use Rattle.writing.specs.Calls.{withRecord, appended, placeAtEnd, createdMst, createdXrf, newBackBlock, newBackOffset, pendingMark, versionLeader, versionAppended, versionInPlace, updatedMst, updatedXrf, deletedMst, deletedXrf, settledMst, settledXrf, revertedXrf}
+use Rattle.writing.specs.Refusals.{updateAppends}
 use Rattle.store.proofs.Gates.{lengths-both, fine-facts, back-changed, back-settled, back-new, settled-facts}
 use Rattle.soundness.proofs.Stepping.{arrives-end, member-facts}
 use Rattle.soundness.proofs.SoundEntries.{PlaceStands, Sound, sound-from, at-stands}
 use Rattle.soundness.proofs.Moves.{MstMoved, stays, goes-up, place-reads, settled-reads, reads-kept, step-before, settled-kept, xrf-entry, mst-same}
 use Rattle.soundness.proofs.Leaving.{Leaves, SettledAt, leaves, mfn-small, known-in, entry-written, back-fine-changed, back-fine-none, back-fine-same, end-address, over-right, over-end, end-written, end-moves, end-leaves, within-moves, within-leaves, within-written}
+use Rattle.store.specs.Store.{store}
 
 -- ---- marks
 
@@ -80,7 +81,7 @@ module _ {mst xrf : List ℕ} (s : Sound mst xrf) (fs : List Field) (d : Draftab
 
 -- ---- a new version: its back pointer, and the settled version behind it
 
-module _ {mst xrf : List ℕ} (s : Sound mst xrf) (m : ℕ) (p : Place) (e : entryFor mst xrf m ≡ At p) (f : PlaceStands mst m p) where
+module _ {mst xrf : List ℕ} (s : Sound mst xrf) (m : ℕ) (p : Place) (e : entryFor (store mst xrf) m ≡ At p) (f : PlaceStands mst m p) where
   own-well-placed : wellPlaced (endOf mst) (p .block .0) (p .offset) ≡ true
   own-well-placed = entry-well-placed xrf (endOf mst) m p e
 
@@ -159,7 +160,7 @@ module _ {mst xrf : List ℕ} (s : Sound mst xrf) (m : ℕ) (p : Place) (e : ent
 
 -- ---- update and delete
 
-module _ {mst xrf : List ℕ} (s : Sound mst xrf) (m : ℕ) (p : Place) (low : 1 ≤ m) (high : m < nextOf mst) (e : entryFor mst xrf m ≡ At p)
+module _ {mst xrf : List ℕ} (s : Sound mst xrf) (m : ℕ) (p : Place) (low : 1 ≤ m) (high : m < nextOf mst) (e : entryFor (store mst xrf) m ≡ At p)
     (deleted : Bool) (fs : List Field) (d : Draftable fs) where
   here : PlaceStands mst m p
   here = at-stands s m p low high e
@@ -207,7 +208,7 @@ module _ {mst xrf : List ℕ} (s : Sound mst xrf) (m : ℕ) (p : Place) (low : 1
     again-inside : placeAddress p + length (recordBytes again fs) ≤ placeAddress p + leaderAt mst p .mfrl
     again-inside = omega (arith, written-length m (leaderAt mst p .mfrl) back-block back-offset deleted fs again-writable)
 
-    again-reads : ReadsAs (part (place mst (placeAddress p) (recordBytes again fs)) (placeAddress p) (endOf mst - placeAddress p)) m deleted again fs
+    again-reads : ReadsAs (part (overwrite mst (placeAddress p) (recordBytes again fs)) (placeAddress p) (endOf mst - placeAddress p)) m deleted again fs
     again-reads =
         let g = member-facts mst (placeAddress p) 64 (s .way) (here .step) in
         written-placed m (leaderAt mst p .mfrl) back-block back-offset deleted fs again-writable mst (placeAddress p) (endOf mst) (omega arith) (s .numbers .end-in)
@@ -216,7 +217,7 @@ module _ {mst xrf : List ℕ} (s : Sound mst xrf) (m : ℕ) (p : Place) (low : 1
     again-back q mark at =
         back-fine-same (endOf mst) p q (leaderAt mst p) again mark at (rw pending) (rw pending) (fine-facts mst m p (here .fine) .back)
 
-    again-settled : p .mark ≡ Changed → SettledAt (place mst (placeAddress p) (recordBytes again fs)) m (backAddress again) (fieldsOf (settledRecord mst p))
+    again-settled : p .mark ≡ Changed → SettledAt (overwrite mst (placeAddress p) (recordBytes again fs)) m (backAddress again) (fieldsOf (settledRecord mst p))
     again-settled c =
         changed-settled s m p e here (within-moves s m p low high e (placeAddress p) (recordBytes again fs) (omega arith) again-inside again-reads refl)
         (backAddress again) (rw pending) c
@@ -239,7 +240,7 @@ module _ {mst xrf : List ℕ} (s : Sound mst xrf) (m : ℕ) (p : Place) (low : 1
 
 -- ---- settle and revert
 
-module _ {mst xrf : List ℕ} (s : Sound mst xrf) (m : ℕ) (p : Place) (low : 1 ≤ m) (high : m < nextOf mst) (e : entryFor mst xrf m ≡ At p) where
+module _ {mst xrf : List ℕ} (s : Sound mst xrf) (m : ℕ) (p : Place) (low : 1 ≤ m) (high : m < nextOf mst) (e : entryFor (store mst xrf) m ≡ At p) where
   there : PlaceStands mst m p
   there = at-stands s m p low high e
 
@@ -272,7 +273,7 @@ module _ {mst xrf : List ℕ} (s : Sound mst xrf) (m : ℕ) (p : Place) (low : 1
 
 -- ---- update and delete, as the calls have them
 
-module _ {mst xrf : List ℕ} (s : Sound mst xrf) (m : ℕ) (p : Place) (low : 1 ≤ m) (high : m < nextOf mst) (e : entryFor mst xrf m ≡ At p)
+module _ {mst xrf : List ℕ} (s : Sound mst xrf) (m : ℕ) (p : Place) (low : 1 ≤ m) (high : m < nextOf mst) (e : entryFor (store mst xrf) m ≡ At p)
     (live : p .deleted ≡ false) where
   module _ (fs : List Field) (d : Draftable fs) where
     pub update-appends : updateAppends p (leaderAt mst p) (needFor fs) ≡ true → endOf mst + needFor fs ≤ length mst
@@ -321,7 +322,7 @@ module _ {mst xrf : List ℕ} (s : Sound mst xrf) (m : ℕ) (p : Place) (low : 1
 -- ---- format
 
 -- a formatted store is sound, and has no MFN
-pub format-sound : (mst xrf : List ℕ) → lengthsPermitted mst xrf ≡ true → Sound (formattedMst (length mst)) (formattedXrf (length xrf))
+pub format-sound : (mst xrf : List ℕ) → lengthsPermitted (store mst xrf) ≡ true → Sound (formattedMst (length mst)) (formattedXrf (length xrf))
 unfolding lengthsPermitted
 format-sound mst xrf h =
     let a : mstPermitted (length mst) ≡ true = lengths-both mst xrf h .0 in

@@ -12,11 +12,12 @@ use Rattle.layout.specs.Leader.{leaderOf}
 use Rattle.layout.specs.declared.entry.Place.{Place}
 use Rattle.layout.specs.declared.entry.Entry.{Entry}
 use Rattle.layout.specs.declared.entry.Entry.the-variants.{Gone, Malformed, At}
+use Rattle.store.specs.Store.{Store}
 use Rattle.store.specs.Answer.{refuse, lowest}
 use Rattle.store.specs.Reading.{lengthsPermitted, controlFine, entryFor, isChanged, recordFrom, leaderAt, backAddress, recordFine, settledFine}
 use Rattle.store.specs.Refusals.{gated}
 use Rattle.store.specs.declared.answer.Answer.{Answer}
-use Rattle.store.specs.declared.answer.Answer.the-variants.{Unsound}
+use Rattle.store.specs.declared.answer.Answer.the-variants.{NotSound}
 
 -- each of 1 to n passes
 unfoldable pub allTo : ℕ → (ℕ → Bool) → Bool
@@ -84,21 +85,21 @@ entrySound mst l m Malformed = false
 entrySound mst l m (At p) = placeSound mst l m p
 
 -- every entry below NXTMFN
-unfoldable pub entriesSound : List ℕ → List ℕ → List ℕ → Bool
-entriesSound mst xrf l = allTo (nextOf mst - 1) (λ m. entrySound mst l m (entryFor mst xrf m))
+unfoldable pub entriesSound : Store → List ℕ → Bool
+entriesSound s l = allTo (nextOf (s .mst) - 1) (λ m. entrySound (s .mst) l m (entryFor s m))
 
 -- A SOUND STORE, its lengths and control record right: every XRF block's first integer is right, slots from NXTMFN on are 0; from address 64
 -- one arrives exactly at the end; every entry below NXTMFN is sound
-unfoldable pub bodySound : List ℕ → List ℕ → Bool
-bodySound mst xrf =
-    headsRight xrf
-    && restFree xrf (nextOf mst)
-    && arrives mst 64
-    && entriesSound mst xrf (steps mst 64)
+unfoldable pub bodySound : Store → Bool
+bodySound s =
+    headsRight (s .xrf)
+    && restFree (s .xrf) (nextOf (s .mst))
+    && arrives (s .mst) 64
+    && entriesSound s (steps (s .mst) 64)
 
-unfoldable pub soundOf : List ℕ → List ℕ → Bool
-soundOf mst xrf = lengthsPermitted mst xrf && controlFine mst xrf && bodySound mst xrf
+unfoldable pub soundOf : Store → Bool
+soundOf s = lengthsPermitted s && controlFine s && bodySound s
 
 -- check: 1, 2, 14 or 0
-unfoldable pub checkAnswer : List ℕ → List ℕ → Answer
-checkAnswer mst xrf = lowest (gated mst xrf (refuse Unsound (not (bodySound mst xrf)) ∷ []))
+unfoldable pub checkAnswer : Store → Answer
+checkAnswer s = lowest (gated s (refuse NotSound (not (bodySound s)) ∷ []))

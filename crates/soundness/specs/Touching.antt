@@ -2,7 +2,6 @@
 -- at the end and the control integers named above.
 use Prim.Native.Nat.{ℕ, _≤_, _<_}
 use mathlib.Core.Path.{_≡_}
-use mathlib.Core.List.{List}
 use lib.ListN.{length, getD}
 use Rattle.layout.specs.Entry.{placeAddress}
 use Rattle.layout.specs.CrossReference.{slotAt}
@@ -10,24 +9,25 @@ use Rattle.layout.specs.Control.{endOf}
 use Rattle.layout.specs.NamedBytes.{Within, ControlByte}
 use Rattle.layout.specs.declared.entry.Place.{Place}
 use Rattle.layout.specs.declared.entry.Entry.the-variants.{At}
+use Rattle.store.specs.Store.{Store}
 use Rattle.store.specs.Reading.{entryFor, leaderAt}
 
 -- a store becomes another: the buffers are as long, and every byte is what it was but for those of the MST that `May` names and MFN m's entry
-pub record Changes (mst xrf mst′ xrf′ : List ℕ) (m : ℕ) (May : ℕ → Type 0) : Type 0 where
-  pub mst-length : length mst′ ≡ length mst
-  pub xrf-length : length xrf′ ≡ length xrf
-  pub mst-kept : (i : ℕ) → (May i → ⊥) → getD mst′ i 0 ≡ getD mst i 0
-  pub xrf-kept : (i : ℕ) → (Within (slotAt m) 4 i → ⊥) → getD xrf′ i 0 ≡ getD xrf i 0
+pub record Changes (s s′ : Store) (m : ℕ) (May : ℕ → Type 0) : Type 0 where
+  pub mst-length : length (s′ .mst) ≡ length (s .mst)
+  pub xrf-length : length (s′ .xrf) ≡ length (s .xrf)
+  pub mst-kept : (i : ℕ) → (May i → ⊥) → getD (s′ .mst) i 0 ≡ getD (s .mst) i 0
+  pub xrf-kept : (i : ℕ) → (Within (slotAt m) 4 i → ⊥) → getD (s′ .xrf) i 0 ≡ getD (s .xrf) i 0
 
 -- the bytes of the MST that a call on MFN m may change
-pub data MayChange (mst xrf mst′ : List ℕ) (m i : ℕ) : Type 0 where
+pub data MayChange (s s′ : Store) (m i : ℕ) : Type 0 where
   -- the control integers NXTMFN and the end
-  control-integer : ControlByte i → MayChange mst xrf mst′ m i
+  control-integer : ControlByte i → MayChange s s′ m i
   -- MFN m's record: MFRL bytes from its place on
-  own-record : (p : Place) → entryFor mst xrf m ≡ At p → Within (placeAddress p) (leaderAt mst p .mfrl) i → MayChange mst xrf mst′ m i
+  own-record : (p : Place) → entryFor s m ≡ At p → Within (placeAddress p) (leaderAt (s .mst) p .mfrl) i → MayChange s s′ m i
   -- new bytes at the end
-  new-byte : endOf mst ≤ i → i < endOf mst′ → MayChange mst xrf mst′ m i
+  new-byte : endOf (s .mst) ≤ i → i < endOf (s′ .mst) → MayChange s s′ m i
 
 -- IT TOUCHES ONLY these
-abbrev pub TouchesOnly : List ℕ → List ℕ → List ℕ → List ℕ → ℕ → Type 0
-TouchesOnly mst xrf mst′ xrf′ m = Changes mst xrf mst′ xrf′ m (MayChange mst xrf mst′ m)
+abbrev pub TouchesOnly : Store → Store → ℕ → Type 0
+TouchesOnly s s′ m = Changes s s′ m (MayChange s s′ m)

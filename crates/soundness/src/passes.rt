@@ -14,9 +14,10 @@ ghost use Prim.Native.Nat.{_+_, _≤_, _<_};
 ghost use lib.ListN.{length};
 ghost use Rattle.layout.specs.Sizes.{capacityOf};
 ghost use Rattle.store.specs.Reading.{entryFor};
-ghost use Rattle.store.specs.Steps.{gateOf};
+ghost use Rattle.store.specs.Gate.{gateOf};
 ghost use Rattle.soundness.specs.Sound.{elem, headsRight, restFree};
 ghost use Rattle.soundness.specs.Passes.{bit, namesOf, namedUnder, refusedTally, entryTally, entriesFine, tallyOf, hit, walkOf, Names};
+ghost use Rattle.store.specs.Store.{store};
 
 // What the first pass finds: how many steps the entries name, or that one of them is wrong.
 pub(crate) enum Tally {
@@ -80,13 +81,13 @@ fn refused_tally(a: Answer) -> Tally
 
 // The tally of one entry.
 fn tally_entry(mst: &[u8], xrf: &[u8], next: Mfn, end: usize, m: Mfn) -> Tally
-    requires { ⌜ gateOf (now mst) (now xrf) ≡ Gate.Open next end ⌝ }
+    requires { ⌜ gateOf (store (now mst) (now xrf)) ≡ Gate.Open next end ⌝ }
     requires { ⌜ (1 ≤ m .0) × (m .0 < next .0) ⌝ }
-    ensures { λ r. ⌜ r ≡ entryTally (now (mst .entry)) (m .0) (entryFor (now (mst .entry)) (now (xrf .entry)) (m .0)) ⌝ }
+    ensures { λ r. ⌜ r ≡ entryTally (now (mst .entry)) (m .0) (entryFor (store (now (mst .entry)) (now (xrf .entry))) (m .0)) ⌝ }
 {
     let k = store::gate::find_both(mst, xrf, next, end, m);
     let Known::Record { place, leader: _ } = k else {
-        return refused_tally(store::views::known_answer(k));
+        return refused_tally(store::gate::known_answer(k));
     };
     let mark = place.mark;
     Tally::Named(named_under(mark))
@@ -94,8 +95,8 @@ fn tally_entry(mst: &[u8], xrf: &[u8], next: Mfn, end: usize, m: Mfn) -> Tally
 
 // The first pass: every entry below NXTMFN.
 pub(crate) fn tally_entries(mst: &[u8], xrf: &[u8], next: Mfn, end: usize) -> Tally
-    requires { ⌜ gateOf (now mst) (now xrf) ≡ Gate.Open next end ⌝ }
-    ensures { λ r. ⌜ r ≡ tallyOf (now (mst .entry)) (now (xrf .entry)) ⌝ }
+    requires { ⌜ gateOf (store (now mst) (now xrf)) ≡ Gate.Open next end ⌝ }
+    ensures { λ r. ⌜ r ≡ tallyOf (store (now (mst .entry)) (now (xrf .entry))) ⌝ }
 {
     let mut named: usize = 0;
     let mut m: u32 = 1;
@@ -134,9 +135,9 @@ fn place_hit(mst: &[u8], end: usize, p: Place, s: usize) -> usize
 
 // 1 where the entry of the MFN written at the step `s` names this step, else 0.
 fn step_hit(mst: &[u8], xrf: &[u8], next: Mfn, end: usize, s: usize) -> usize
-    requires { ⌜ gateOf (now mst) (now xrf) ≡ Gate.Open next end ⌝ }
-    requires { ⌜ (entriesFine (now mst) (now xrf) ≡ true) × (s + 18 ≤ end) ⌝ }
-    ensures { λ r. ⌜ r ≡ bit (hit (now (mst .entry)) (now (xrf .entry)) s) ⌝ }
+    requires { ⌜ gateOf (store (now mst) (now xrf)) ≡ Gate.Open next end ⌝ }
+    requires { ⌜ (entriesFine (store (now mst) (now xrf)) ≡ true) × (s + 18 ≤ end) ⌝ }
+    ensures { λ r. ⌜ r ≡ bit (hit (store (now (mst .entry)) (now (xrf .entry))) s) ⌝ }
 {
     let l = layout::leader::read_leader(&mst[s..end]);
     let m = l.mfn;
@@ -155,9 +156,9 @@ fn step_hit(mst: &[u8], xrf: &[u8], next: Mfn, end: usize, s: usize) -> usize
 
 // The second pass: whether stepping from address 64 on one arrives at the end, and meets all that the entries name.
 pub(crate) fn walk_steps(mst: &[u8], xrf: &[u8], next: Mfn, end: usize, named: usize) -> bool
-    requires { ⌜ gateOf (now mst) (now xrf) ≡ Gate.Open next end ⌝ }
-    requires { ⌜ entriesFine (now mst) (now xrf) ≡ true ⌝ }
-    ensures { λ r. ⌜ r ≡ walkOf (now (mst .entry)) (now (xrf .entry)) named ⌝ }
+    requires { ⌜ gateOf (store (now mst) (now xrf)) ≡ Gate.Open next end ⌝ }
+    requires { ⌜ entriesFine (store (now mst) (now xrf)) ≡ true ⌝ }
+    ensures { λ r. ⌜ r ≡ walkOf (store (now (mst .entry)) (now (xrf .entry))) named ⌝ }
 {
     let mut hits: usize = 0;
     let mut at: usize = 64;
