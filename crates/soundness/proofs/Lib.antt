@@ -5,5 +5,7 @@ pub mod Deciding
 pub mod Moves
 pub mod Leaving
 pub mod Writes
+pub mod Asked
+pub mod Touching
 pub mod PassAnswers
 pub mod CheckAnswers
