@@ -3,4 +3,5 @@ pub mod Entry
 pub mod CrossReference
 pub mod Control
 pub mod Leader
+pub mod Inner
 pub mod Rows

@@ -12,6 +12,7 @@ use Rattle.word.specs.Integer.{le}
 use Rattle.word.specs.Place.{place, part}
 use Rattle.word.proofs.Place.{part-length, place-length, place-part-after, place-none, place-same, place-next, place-commute, returned-front}
 use Rattle.word.proofs.Integers.{Bytes}
+use Rattle.layout.specs.Sizes.{recordMost}
 use Rattle.layout.specs.Leader.{leaderBytes, leaderOf}
 use Rattle.layout.specs.declared.leader.Leader.{Leader}
 use Rattle.layout.proofs.LeaderBytes.{leader-length}
@@ -46,7 +47,7 @@ module _ (d tags lens bytes : List ℕ) (right : draftRight tags lens bytes ≡ 
     pub entries-sum : i < length tags → pos + getD lens i 0 ≡ sum (take (i + 1) lens)
     entries-sum h = let f = draft-facts tags lens bytes right in total-more lens pos i p (omega arith)
 
-    pub entries-fit : i < length tags → pos + getD lens i 0 ≤ 32766
+    pub entries-fit : i < length tags → pos + getD lens i 0 ≤ recordMost
     entries-fit h =
         let f = draft-facts tags lens bytes right in
         let n = need-facts (length tags) (length bytes) in

@@ -14,7 +14,7 @@ ghost use Rattle.record.specs.Record.{Readable};
 
 // Where in its record a field lies.
 pub enum Found {
-    At { start: usize, len: usize },
+    Span { start: usize, len: usize },
     Missing,
 }
 
@@ -34,7 +34,7 @@ pub fn find_field(rec: &[u8], tag: Tag, occurrence: u32) -> Found
         let t = tag_at(rec, i);
         if t.0 == tag.0 {
             if left == 1 {
-                return Found::At {
+                return Found::Span {
                     start: base + pos_at(rec, i),
                     len: len_at(rec, i),
                 };
@@ -47,7 +47,7 @@ pub fn find_field(rec: &[u8], tag: Tag, occurrence: u32) -> Found
 }
 
 // The bytes of a field that was found.
-pub fn field_part(rec: &[u8], start: usize, len: usize) -> &[u8]
+pub(crate) fn field_part(rec: &[u8], start: usize, len: usize) -> &[u8]
     requires { ⌜ start + len ≤ length (now rec) ⌝ }
     ensures { λ r. ⌜ now r ≡ part (now (rec .entry)) start len ⌝ }
 {

@@ -1,12 +1,15 @@
 // The record writer: leader, directory, data and zeros, into the front of a lent slice.
+use crate::directory::DirectoryEntry;
 use layout::leader::Leader;
 use layout::sizes::Block;
 use layout::sizes::Mfn;
+use layout::sizes::Tag;
 ghost use mathlib.Core.Path.{_≡_};
 ghost use mathlib.Core.Bool.{true};
 ghost use Prim.Native.Nat.{_+_, _*_, _≤_, _<_};
 ghost use lib.ListN.{length, replicate};
 ghost use Rattle.word.specs.Place.{place};
+ghost use Rattle.layout.specs.Sizes.{fieldsMost};
 ghost use Rattle.layout.specs.Leader.{leaderOf};
 ghost use Rattle.record.specs.Fields.{fieldsOf};
 ghost use Rattle.record.specs.Record.{Readable};
@@ -15,7 +18,7 @@ ghost use Rattle.record.specs.Bytes.{entryBytes, directoryBytes, usedBy,
 
 // The leader of a record of `nvf` fields.
 pub fn leader_for(mfn: Mfn, mfrl: u16, back: Block, offset: u16, deleted: bool, nvf: u16) -> Leader
-    requires { ⌜ nvf ≤ 5458 ⌝ }
+    requires { ⌜ nvf ≤ fieldsMost ⌝ }
     ensures { λ r. ⌜ r ≡ leaderFor (mfn .0) mfrl (back .0) offset deleted nvf ⌝ }
 {
     Leader {
@@ -30,13 +33,13 @@ pub fn leader_for(mfn: Mfn, mfrl: u16, back: Block, offset: u16, deleted: bool, 
 }
 
 // Writes one directory entry at `at`.
-fn put_directory_entry(out: &mut [u8], at: usize, tag: u16, pos: u16, len: u16)
+fn put_directory_entry(out: &mut [u8], at: usize, e: DirectoryEntry)
     requires { ⌜ at + 6 ≤ length (now out) ⌝ }
-    ensures { λ _. ⌜ now (out .exit) ≡ place (now (out .entry)) at (entryBytes tag pos len) ⌝ }
+    ensures { λ _. ⌜ now (out .exit) ≡ place (now (out .entry)) at (entryBytes (e .tag .0) (e .pos) (e .len)) ⌝ }
 {
-    word::integer::put_u16(out, at, tag);
-    word::integer::put_u16(out, at + 2, pos);
-    word::integer::put_u16(out, at + 4, len);
+    word::integer::put_u16(out, at, e.tag.0);
+    word::integer::put_u16(out, at + 2, e.pos);
+    word::integer::put_u16(out, at + 4, e.len);
 }
 
 // Writes the directory of a draft from byte 18 on. Each POS is the sum of the lengths before it.
@@ -49,7 +52,8 @@ fn put_directory(out: &mut [u8], tags: &[u16], lens: &[u16], data: &[u8])
     let mut pos: u16 = 0;
     while i < tags.len() {
         let len = lens[i];
-        put_directory_entry(out, 18 + 6 * i, tags[i], pos, len);
+        let tag = Tag(tags[i]);
+        put_directory_entry(out, 18 + 6 * i, DirectoryEntry { tag, pos, len });
         pos += len;
         i += 1;
     }
