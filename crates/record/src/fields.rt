@@ -6,7 +6,7 @@ use layout::sizes::Tag;
 use word::integer::u16_at;
 ghost use mathlib.Core.Path.{_≡_};
 ghost use Prim.Native.Nat.{_+_, _*_, _-_, _≤_, _<_};
-ghost use lib.ListN.{length};
+ghost use lib.ListN.{length, getD};
 ghost use Rattle.word.specs.Overwrite.{part};
 ghost use Rattle.record.specs.Fields.{fieldsOf, findOf};
 ghost use Rattle.record.specs.Bytes.{dataOf};
@@ -53,6 +53,14 @@ pub(crate) fn field_part(rec: &[u8], start: usize, len: usize) -> &[u8]
 {
     let end = start + len;
     &rec[start..end]
+}
+
+// One byte of a record.
+pub fn byte_at(rec: &[u8], i: usize) -> u8
+    requires { ⌜ i < length (now rec) ⌝ }
+    ensures { λ r. ⌜ r ≡ getD (now (rec .entry)) i 0 ⌝ }
+{
+    rec[i]
 }
 
 // How many bytes of data the fields have: the last entry's POS plus its LEN.
