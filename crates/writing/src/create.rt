@@ -1,11 +1,11 @@
 // Create: a new record at the end, under the next MFN.
-use store::answer::Answer;
-use store::gate::Gate;
 use layout::entry::Mark;
 use layout::entry::Place;
 use layout::leader::Leader;
 use layout::sizes::Block;
 use layout::sizes::Mfn;
+use store::answer::Answer;
+use store::gate::Gate;
 ghost use mathlib.Core.Path.{_≡_};
 ghost use mathlib.Core.Bool.{true};
 ghost use Prim.Native.Nat.{_+_, _/_, _%_, _≤_};
@@ -134,8 +134,7 @@ fn create_at_end(
 
 pub fn create(mst: &mut [u8], xrf: &mut [u8], tags: &[u16], lens: &[u16], data: &[u8]) -> Created
     ensures answers { λ r. ⌜ r ≡ createOf (store (now (mst .entry)) (now (xrf .entry))) (draft (now (tags .entry)) (now (lens .entry)) (now («data» .entry))) ⌝ }
-    ensures master { λ _. ⌜ now (mst .exit) ≡ createLeaves (store (now (mst .entry)) (now (xrf .entry))) (draft (now (tags .entry)) (now (lens .entry)) (now («data» .entry))) .mst ⌝ }
-    ensures cross { λ _. ⌜ now (xrf .exit) ≡ createLeaves (store (now (mst .entry)) (now (xrf .entry))) (draft (now (tags .entry)) (now (lens .entry)) (now («data» .entry))) .xrf ⌝ }
+    ensures left { λ _. ⌜ store (now (mst .exit)) (now (xrf .exit)) ≡ createLeaves (store (now (mst .entry)) (now (xrf .entry))) (draft (now (tags .entry)) (now (lens .entry)) (now («data» .entry))) ⌝ }
 {
     let plan = plan_create(mst, xrf, tags, lens, data);
     let Creating::Write { next, end, need } = plan else {
