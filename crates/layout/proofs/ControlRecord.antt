@@ -1,19 +1,19 @@
 -- The control record: what a right one says, and what each write leaves of it. All that is read of it stands in its first bytes
--- (`controlRead`), so what keeps those and the length keeps all that is read (`control-right-same`); withNext and withEnd write no byte
--- outside `ControlWritten`. How the end is stored is known here and nowhere above: callers have `endOf`, `withEnd` and their laws.
+-- (`controlRead`), so what keeps those and the length keeps all that is read (`control-right-same`). How the end is stored is known here
+-- and nowhere above: callers have `endOf`, `withEnd` and their laws.
 use Prim.Native.Nat.{ℕ, _+_, _%_, _≤_, _<_}
 use native.Mathlib.Omega.{arith}
 use mathlib.Core.Path.{_≡_, refl, sym, ap, _∙_}
-use mathlib.Core.Logic.{_⊎_, inl, inr, ⊎-elim}
+use mathlib.Core.Logic.{inl, inr}
 use mathlib.Core.Bool.{Bool, true, false, cond}
 use mathlib.Core.List.{List, [], _++_}
 use lib.ListN.{length, getD, length-replicate}
 use Rattle.word.specs.Integer.{u16At, u32At, le}
 use Rattle.word.specs.Overwrite.{overwrite}
-use Rattle.word.proofs.Overwrite.{lt-or-ge, overwrite-length, overwrite-before, overwrite-after, overwrite-other}
+use Rattle.word.proofs.Overwrite.{overwrite-length, overwrite-before}
 use Rattle.word.proofs.Integers.{u16-same, u32-same, u16-inside, u32-inside, u16-other, u32-other, u32-placed, u16-le-at, u32-le}
 use Rattle.layout.specs.Sizes.{mstBlocks, offsetMost, addressLimit, mstPermitted, blockAt, offsetAt}
-use Rattle.layout.specs.Control.{controlRead, ControlWritten, storedOffset, readOffset, nextOf, endOf, numbersRight, endRight, controlRight, withNext, withEnd, formattedMst}
+use Rattle.layout.specs.Control.{controlRead, storedOffset, readOffset, endBytes, nextOf, endOf, numbersRight, endRight, controlRight, withNext, withEnd, formattedMst}
 use Rattle.layout.specs.Inner.{controlOf}
 use Rattle.layout.specs.declared.sizes.Mfn.{Mfn}
 use Rattle.layout.specs.declared.control.Control.the-variants.{Right, Wrong}
@@ -126,32 +126,13 @@ module _ (mst : List ℕ) (at : ℕ) (xs : List ℕ) (low : controlRead ≤ at) 
   pub control-right-placed : (capacity : ℕ) → controlRight (overwrite mst at xs) capacity ≡ controlRight mst capacity
   control-right-placed capacity = control-right-same (overwrite mst at xs) mst kept (overwrite-length mst at xs fits) capacity
 
--- ---- what is written
-
--- a byte that is kept lies before the integers that are written, or behind them
-written-apart : (i : ℕ) → (ControlWritten i → ⊥) → (i < 4) ⊎ (14 ≤ i)
-written-apart i h = ⊎-elim inl (λ l. ⊎-elim (λ k. absurd (h (l, k))) inr (lt-or-ge i 14)) (lt-or-ge i 4)
-
--- a record's bytes are kept
-pub past-control : (i : ℕ) → 64 ≤ i → ControlWritten i → ⊥
-past-control i h w = omega arith
-
 -- ---- NXTMFN is written
 
 module _ (mst : List ℕ) (n : ℕ) where
-  pub next-byte : (i : ℕ) → 8 ≤ i → getD (withNext mst n) i 0 ≡ getD mst i 0
-  unfolding withNext
-  next-byte i h = overwrite-after mst 4 (le 4 n) i h
-
   module _ (long : 64 ≤ length mst) where
     pub next-length : length (withNext mst n) ≡ length mst
     unfolding withNext
     next-length = overwrite-length mst 4 (le 4 n) (omega arith)
-
-    pub next-kept : (i : ℕ) → (ControlWritten i → ⊥) → getD (withNext mst n) i 0 ≡ getD mst i 0
-    unfolding withNext
-    next-kept i h =
-        overwrite-other mst 4 (le 4 n) i (omega arith) (⊎-elim inl (λ (k : 14 ≤ i). inr (omega arith)) (written-apart i h))
 
     pub next-of-next : n < 4294967296 → nextOf (withNext mst n) ≡ n
     unfolding withNext nextOf
@@ -195,22 +176,11 @@ module _ (mst : List ℕ) (n : ℕ) where
 stored-back : (p : ℕ) → readOffset (storedOffset p) ≡ p
 stored-back p = omega arith
 
-abbrev endBytes : ℕ → List ℕ
-endBytes e = le 4 (blockAt e) ++ le 2 (storedOffset (offsetAt e))
-
 module _ (mst : List ℕ) (e : ℕ) where
-  pub end-byte : (i : ℕ) → 14 ≤ i → getD (withEnd mst e) i 0 ≡ getD mst i 0
-  unfolding withEnd
-  end-byte i h = overwrite-after mst 8 (endBytes e) i h
-
   module _ (long : 64 ≤ length mst) where
     pub end-length : length (withEnd mst e) ≡ length mst
     unfolding withEnd
     end-length = overwrite-length mst 8 (endBytes e) (omega arith)
-
-    pub end-kept : (i : ℕ) → (ControlWritten i → ⊥) → getD (withEnd mst e) i 0 ≡ getD mst i 0
-    unfolding withEnd
-    end-kept i h = overwrite-other mst 8 (endBytes e) i (omega arith) (⊎-elim (λ (k : i < 4). inl (omega arith)) inr (written-apart i h))
 
     pub next-of-end : nextOf (withEnd mst e) ≡ nextOf mst
     unfolding withEnd nextOf

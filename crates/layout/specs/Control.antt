@@ -7,7 +7,7 @@
 --   12     NXTMFP    the end's offset, even, at most 498
 --   14     MFTYPE    0
 --   16-63  ignored and kept
-use Prim.Native.Nat.{ℕ, _+_, _-_, _%_, _≤_, _<_}
+use Prim.Native.Nat.{ℕ, _+_, _-_, _%_}
 use mathlib.Core.Bool.{Bool, _&&_}
 use mathlib.Core.List.{List, _++_}
 use lib.Dec.{eqb, leb}
@@ -19,10 +19,6 @@ use Rattle.layout.specs.Sizes.{offsetMost, addressOf, blockAt, offsetAt}
 -- all that is read of it stands in its first bytes
 abbrev pub controlRead : ℕ
 controlRead = 16
-
--- the bytes of the integers that calls other than format write: NXTMFN, NXTMFB and NXTMFP
-abbrev pub ControlWritten : ℕ → Type 0
-ControlWritten i = (4 ≤ i) × (i < 14)
 
 -- ---- how the end is stored: its block as it is, its offset counted from a number
 
@@ -71,9 +67,13 @@ controlRight mst capacity = numbersRight mst capacity && endRight mst
 unfoldable pub withNext : List ℕ → ℕ → List ℕ
 withNext mst n = overwrite mst 4 (le 4 n)
 
+-- NXTMFB and NXTMFP of an end
+abbrev pub endBytes : ℕ → List ℕ
+endBytes e = le 4 (blockAt e) ++ le 2 (storedOffset (offsetAt e))
+
 -- the MST with another end
 unfoldable pub withEnd : List ℕ → ℕ → List ℕ
-withEnd mst e = overwrite mst 8 (le 4 (blockAt e) ++ le 2 (storedOffset (offsetAt e)))
+withEnd mst e = overwrite mst 8 (endBytes e)
 
 -- what format leaves in an MST of n bytes: zero, but for NXTMFN 1 and the end 64
 unfoldable pub formattedMst : ℕ → List ℕ
