@@ -15,7 +15,8 @@ use Rattle.word.specs.Overwrite.{part}
 use Rattle.layout.specs.Sizes.{mstPermitted, xrfPermitted, capacityOf, addressOf}
 use Rattle.layout.specs.Entry.{wellPlaced, placeAddress}
 use Rattle.layout.specs.CrossReference.{entryAt}
-use Rattle.layout.specs.Control.{endOf, nextOf, controlOf}
+use Rattle.layout.specs.Control.{endOf, nextOf}
+use Rattle.layout.specs.Inner.{controlOf}
 use Rattle.layout.specs.Leader.{leaderOf}
 use Rattle.layout.specs.declared.sizes.Mfn.{Mfn}
 use Rattle.layout.specs.declared.control.Control.{Control}
@@ -32,7 +33,8 @@ use Rattle.layout.proofs.Tests.{and-false}
 use Rattle.layout.proofs.Facts.{well-placed-facts}
 use Rattle.layout.proofs.ControlRecord.{control-read}
 use Rattle.layout.proofs.CrossReference.{entry-well-placed}
-use Rattle.record.specs.Record.{recordRight, testOf, noBack, backRight}
+use Rattle.record.specs.Record.{recordRight, noBack, backRight}
+use Rattle.record.specs.Inner.{testOf}
 use Rattle.record.specs.declared.test.Tested.{Tested}
 use Rattle.record.specs.declared.test.Tested.the-variants.{WellFormed, Broken}
 use Rattle.store.specs.Answer.{numberOf, after}

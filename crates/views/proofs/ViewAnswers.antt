@@ -13,7 +13,7 @@ use Rattle.layout.specs.Control.{endOf}
 use Rattle.layout.specs.declared.entry.Place.{Place}
 use Rattle.record.specs.Fields.{findOf}
 use Rattle.record.specs.declared.fields.Found.{Found}
-use Rattle.record.specs.declared.fields.Found.the-variants.{At, Missing}
+use Rattle.record.specs.declared.fields.Found.the-variants.{Span, Missing}
 use Rattle.record.proofs.Search.{found-in}
 use Rattle.store.specs.Answer.{numberOf, lowest, after}
 use Rattle.store.specs.Reading.{placeFor, recordAt, recordFrom}
@@ -41,7 +41,7 @@ refused-within mst a r s = rw s (omega arith)
 -- 12, of what was found
 shown-found : (at : ℕ) (f : Found) → shownFound at f ≡ shownAt (noField (isMissing f)) at f
 unfolding shownAt after numberOf
-shown-found at (At start len) = refl
+shown-found at (Span start len) = refl
 shown-found at Missing = refl
 
 -- ---- a field in a version
@@ -56,7 +56,7 @@ module _ (mst : List ℕ) (tag occ : ℕ) (v : Version) where
     unfolding shownIn
     show-missing r d s = rw (s, e, ← x, d)
 
-    module _ (start len : ℕ) (d : f ≡ At start len) where
+    module _ (start len : ℕ) (d : f ≡ Span start len) where
       pub show-found : record { answer = Done; start = at + start; len = len } ≡ shownIn mst tag occ v
       unfolding shownIn
       show-found = rw (e, ← x, d)

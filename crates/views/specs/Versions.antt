@@ -15,7 +15,7 @@ use Rattle.record.specs.Fields.{findOf}
 use Rattle.record.specs.Record.{Readable}
 use Rattle.record.specs.Walker.{walkedAt}
 use Rattle.record.specs.declared.fields.Found.{Found}
-use Rattle.record.specs.declared.fields.Found.the-variants.{At, Missing}
+use Rattle.record.specs.declared.fields.Found.the-variants.{Span, Missing}
 use Rattle.record.specs.declared.walker.Walked.{Walked}
 use Rattle.record.specs.declared.walker.Walked.the-variants.{Field as FieldHere, End}
 use Rattle.store.specs.Store.{Store}
@@ -79,7 +79,7 @@ refusedField a = record { answer = a; tag = record { 0 = 0 }; start = 0; len = 0
 
 -- what a search in the record at an address shows
 abbrev pub shownFound : ℕ → Found → Shown
-shownFound at (At start len) = record { answer = Done; start = at + start; len = len }
+shownFound at (Span start len) = record { answer = Done; start = at + start; len = len }
 shownFound at Missing = refusedView NoField
 
 unfoldable pub shownIn : List ℕ → ℕ → ℕ → Version → Shown
