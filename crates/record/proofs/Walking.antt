@@ -17,9 +17,9 @@ use Rattle.word.proofs.Place.{place-none, place-more, place-length}
 use Rattle.layout.specs.Leader.{leaderOf}
 use Rattle.layout.specs.declared.sizes.Tag.{Tag}
 use Rattle.record.specs.Directory.{tagAt, posAt, lenAt, directoryRight}
-use Rattle.record.specs.Fields.{Field, fieldAt, fieldsFrom, fieldsOf}
+use Rattle.record.specs.Fields.{fieldAt, fieldsFrom, fieldsOf}
 use Rattle.record.specs.Record.{Readable}
-use Rattle.record.specs.Walker.{atEnd, AtField, spotAt, fieldIn, spotsBefore, spotsOf, Listable, walkedAt, walkedFields}
+use Rattle.record.specs.Walker.{atEnd, AtField, spotAt, fieldIn, spotsBefore, spotsOf, walkedAt, walkedFields}
 use Rattle.record.specs.declared.walker.Spot.{Spot}
 use Rattle.record.specs.declared.walker.Walked.the-variants.{Field as FieldHere, End}
 use Rattle.record.proofs.Facts.{entry-facts}

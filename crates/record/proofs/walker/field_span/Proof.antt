@@ -2,10 +2,6 @@ use borrow.Author.Needs.{needs}
 use Rattle.record.proofs.Walking.{walk-answers}
 use Rattle.record.proofs.walker.field_span.Statement.{statement}
 use Rattle.record.proofs.walker.field_span.Tie as tie
-use Rattle.record.proofs.walker.field_span.Reads as reads
-use Rattle.record.proofs.walker.field_span.Lts as lts
-use Rattle.record.proofs.walker.ended.Reads as ended-reads
-use Rattle.record.proofs.walker.spot_at.Reads as spot-at-reads
 
 -- src/walker.rt:123:8
 ended-requires : tie.Need-ended-requires

@@ -2,12 +2,6 @@ use borrow.Author.Needs.{needs}
 use Rattle.record.proofs.Walking.{walk-answers}
 use Rattle.record.proofs.walker.spot_at.Statement.{statement}
 use Rattle.record.proofs.walker.spot_at.Tie as tie
-use Rattle.record.proofs.walker.spot_at.Reads as reads
-use Rattle.record.proofs.walker.spot_at.Lts as lts
-use Rattle.record.proofs.directory.len_at.Reads as len-at-reads
-use Rattle.record.proofs.directory.pos_at.Reads as pos-at-reads
-use Rattle.record.proofs.directory.tag_at.Reads as tag-at-reads
-use Rattle.word.proofs.integer.u16_at.Reads as u16-at-reads
 
 -- src/walker.rt:37:14
 tag-at-requires : tie.Need-tag-at-requires
