@@ -9,7 +9,7 @@ use mathlib.Core.Logic.{⊎-elim}
 use lib.Dec.{eqb}
 use lib.ListN.{length, getD, set, length-set, length-append, List·getD-append}
 use lib.Seq.{getD-set-same, getD-set-other, getD-at}
-use Rattle.word.proofs.Place.{lt-or-ge}
+use Rattle.word.proofs.Overwrite.{lt-or-ge}
 use Rattle.layout.specs.Sizes.{capacityOf}
 use Rattle.layout.proofs.Tests.{tests}
 use Rattle.record.specs.Fields.{Field, fieldNamed}

@@ -10,7 +10,7 @@ use lib.Dec.{eqb, ltb}
 use lib.ListN.{length, length-set, length-append, List·getD-append}
 use lib.Seq.{getD-set-other}
 use borrow.Author.Tests.{eqb-false, lt-ltb, le-ltb}
-use Rattle.word.proofs.Place.{lt-or-ge}
+use Rattle.word.proofs.Overwrite.{lt-or-ge}
 use Rattle.layout.proofs.Tests.{false-true}
 use mathlib.Core.Logic.{⊎-elim}
 use Rattle.record.specs.Fields.{Field}

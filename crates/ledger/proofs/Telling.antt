@@ -8,8 +8,8 @@ use mathlib.Core.List.{List, [], _∷_}
 use lib.ListN.{length}
 use denote.Enum.Declared.{tagOf}
 use types.Run.{OneOf}
-use Rattle.word.specs.Place.{place}
-use Rattle.word.proofs.Place.{place-none}
+use Rattle.word.specs.Overwrite.{overwrite}
+use Rattle.word.proofs.Overwrite.{overwrite-none}
 use Rattle.store.specs.Reading.{lengthsPermitted}
 use Rattle.store.specs.Refusals.{formatAnswer}
 use Rattle.store.specs.Calls.{formatMst, formatXrf}
@@ -103,8 +103,8 @@ module _ (mst xrf : List ℕ) where
         record {
           stop = g .stop ∙ stop-is h (length answers) (length shown) p;
           calls = g .calls ∙ ap length t;
-          numbers = g .numbers ∙ ap (λ (os : List Outcome). place answers 0 (outcomeNumbers os)) t;
-          fields = g .fields ∙ ap (λ (os : List Outcome). place shown 0 (outcomeBytes os)) t;
+          numbers = g .numbers ∙ ap (λ (os : List Outcome). overwrite answers 0 (outcomeNumbers os)) t;
+          fields = g .fields ∙ ap (λ (os : List Outcome). overwrite shown 0 (outcomeBytes os)) t;
           buffers = b;
           kept = λ k. rw (ap (λ (x : Store). x .mst) b, ap (λ (x : Store). x .xrf) b) (kept-is h (length answers) (length shown) p);
         }
@@ -119,8 +119,8 @@ module _ (mst xrf : List ℕ) where
         record {
           stop = rw (permitted-is, h);
           calls = rw (permitted-is, h);
-          numbers = rw (permitted-is, h) (sym (place-none answers 0));
-          fields = rw (permitted-is, h) (sym (place-none shown 0));
+          numbers = rw (permitted-is, h) (sym (overwrite-none answers 0));
+          fields = rw (permitted-is, h) (sym (overwrite-none shown 0));
           buffers = rw (permitted-is, h) formatted-is;
           kept = λ e. absurd (let z : _≡_ {A = ℕ} 0 1 = cc (rw (permitted-is, h) at e) in omega arith);
         }

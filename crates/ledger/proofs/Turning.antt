@@ -11,8 +11,8 @@ use mathlib.Core.Option.{none}
 use mathlib.Core.List.{List, [], _∷_}
 use lib.ListN.{length, drop, set, length-drop}
 use borrow.Author.Tests.{le-leb, lt-leb, eq-eqb, ne-eqb}
-use Rattle.word.specs.Place.{place, part}
-use Rattle.word.proofs.Place.{part-length, place-none, place-stores}
+use Rattle.word.specs.Overwrite.{overwrite, part}
+use Rattle.word.proofs.Overwrite.{part-length, overwrite-none, overwrite-stores}
 use Rattle.store.specs.Answer.{numberOf}
 use Rattle.store.specs.Refusals.{formatAnswer, updateAnswer, deleteAnswer, settleAnswer, revertAnswer}
 use Rattle.store.specs.Calls.{formatMst, formatXrf, viewOf, settledViewOf, createOf, createMst, createXrf, updateMst, updateXrf, deleteMst, deleteXrf, settleMst, settleXrf, revertXrf}
@@ -126,8 +126,8 @@ pub ruleset written-answers = (format-writes, create-writes, update-writes, dele
 -- ---- a call is run and reported
 
 -- its three numbers are stored one by one
-pub place-three : (d : List ℕ) (i x y z : ℕ) → i + 3 ≤ length d → set (set (set d i x) (i + 1) y) (i + 2) z ≡ place d i (x ∷ y ∷ z ∷ [])
-place-three d i x y z h = rw (add-one i, add-two i) (place-stores d i (x ∷ y ∷ z ∷ []) h)
+pub place-three : (d : List ℕ) (i x y z : ℕ) → i + 3 ≤ length d → set (set (set d i x) (i + 1) y) (i + 2) z ≡ overwrite d i (x ∷ y ∷ z ∷ [])
+place-three d i x y z h = rw (add-one i, add-two i) (overwrite-stores d i (x ∷ y ∷ z ∷ []) h)
 
 -- a call that reads leaves the store as it was
 reading-keeps : (s : Store) (r : Reading) → nextS s (readingCall r) ≡ s
@@ -160,8 +160,8 @@ module _ (mst xrf answers shown : List ℕ) (at : Cursor) (r : Reading) (sh : Sh
   no-bytes k = full s (readingCall r) noDraft answers shown at (rw (le-leb 3 (length answers - 3 * at .calls) h, shown-length, lt-leb (sh .len) (length shown - at .shown) k))
 
   pub asked-next : (answers′ shown′ : List ℕ) (n : Counts) (at′ : Cursor) → sh .len ≤ length shown - at .shown
-      → answers′ ≡ place answers (3 * at .calls) (numberOf (sh .answer) ∷ 0 ∷ sh .len ∷ [])
-      → shown′ ≡ place shown (at .shown) (part mst (sh .start) (sh .start + sh .len - sh .start))
+      → answers′ ≡ overwrite answers (3 * at .calls) (numberOf (sh .answer) ∷ 0 ∷ sh .len ∷ [])
+      → shown′ ≡ overwrite shown (at .shown) (part mst (sh .start) (sh .start + sh .len - sh .start))
       → n ≡ noDraft → at′ ≡ moved at n (sh .len)
       → Ran s (readingCall r) noDraft answers shown at (Next at′) s answers′ shown′
   asked-next answers′ shown′ n at′ k en ef z m =
@@ -176,7 +176,7 @@ module _ (mst xrf answers shown : List ℕ) (at : Cursor) (r : Reading) (sh : Sh
 -- a call that may write is run where there is room for the three numbers: it shows nothing
 pub wrote-next : (s s′ : Store) (c : Call) (r : Created) (answers answers′ : List ℕ) (at at′ : Cursor) (k : Writing) (n : Counts)
     → Wrote s c r s′ → 3 ≤ length answers - 3 * at .calls
-    → answers′ ≡ place answers (3 * at .calls) (numberOf (r .answer) ∷ r .mfn .0 ∷ 0 ∷ [])
+    → answers′ ≡ overwrite answers (3 * at .calls) (numberOf (r .answer) ∷ r .mfn .0 ∷ 0 ∷ [])
     → n ≡ draftOf k → at′ ≡ moved at n 0
     → (shown : List ℕ) → Ran s c (draftOf k) answers shown at (Next at′) s′ answers′ shown
 wrote-next s s′ c r answers answers′ at at′ k n w h en z m shown =
@@ -185,7 +185,7 @@ wrote-next s s′ c r answers answers′ at at′ k n w h en z m shown =
       turn = rw (b, ← w .outcome, m, z);
       left = rw (b, w .left);
       numbers = rw (b, ← w .outcome) en;
-      fields = rw (b, ← w .outcome) (sym (place-none shown (at .shown)));
+      fields = rw (b, ← w .outcome) (sym (overwrite-none shown (at .shown)));
     }
 
 pub ruleset asked-turns = (no-numbers, no-bytes, asked-next)

@@ -5,7 +5,7 @@ use mathlib.Core.Bool.{Bool, true, false, cond}
 use mathlib.Core.List.{List, []}
 use native.Mathlib.Omega.{arith}
 use lib.Dec.{eqb}
-use Rattle.word.specs.Place.{part}
+use Rattle.word.specs.Overwrite.{part}
 use Rattle.layout.specs.Control.{endOf}
 use Rattle.layout.specs.Entry.{placeAddress}
 use Rattle.layout.specs.declared.entry.Mark.{Mark}

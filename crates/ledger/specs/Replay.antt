@@ -18,7 +18,7 @@ use mathlib.Core.List.{List, [], _∷_, _++_}
 use mathlib.Core.Option.{Option, some, none}
 use lib.Dec.{eqb, leb, ltb}
 use lib.ListN.{length, getD, take, drop}
-use Rattle.word.specs.Place.{place}
+use Rattle.word.specs.Overwrite.{overwrite}
 use Rattle.layout.specs.Sizes.{mstPermitted, xrfPermitted}
 use Rattle.layout.specs.Control.{nextOf, endOf}
 use Rattle.store.specs.Answer.{numberOf}
@@ -184,8 +184,8 @@ pub record Replays (mst xrf answers shown : List ℕ) (p : Script) (r : Replayed
   pub stop : r .stop ≡ stopFor (length mst) (length xrf) (length answers) (length shown) p
   pub calls : r .calls ≡ length (reported (length mst) (length xrf) (length answers) (length shown) p)
   -- the answers, MFNs and fields are the ledger's, in order; the rest of the two rooms is kept
-  pub numbers : answers′ ≡ place answers 0 (outcomeNumbers (reported (length mst) (length xrf) (length answers) (length shown) p))
-  pub fields : shown′ ≡ place shown 0 (outcomeBytes (reported (length mst) (length xrf) (length answers) (length shown) p))
+  pub numbers : answers′ ≡ overwrite answers 0 (outcomeNumbers (reported (length mst) (length xrf) (length answers) (length shown) p))
+  pub fields : shown′ ≡ overwrite shown 0 (outcomeBytes (reported (length mst) (length xrf) (length answers) (length shown) p))
   -- the buffers are what format and the calls reported leave
   pub buffers : store mst′ xrf′ ≡ storeAfter mst xrf (length answers) (length shown) p
   -- and say what the ledger keeps

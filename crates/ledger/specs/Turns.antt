@@ -6,7 +6,7 @@ use mathlib.Core.Bool.{Bool, _&&_, cond}
 use mathlib.Core.List.{List, []}
 use lib.Dec.{eqb, leb, ltb}
 use lib.ListN.{length, getD, take, drop}
-use Rattle.word.specs.Place.{place, part}
+use Rattle.word.specs.Overwrite.{overwrite, part}
 use Rattle.layout.specs.declared.sizes.Mfn.{Mfn}
 use Rattle.layout.specs.declared.sizes.Tag.{Tag}
 use Rattle.store.specs.declared.answer.Answer.{Answer}
@@ -179,8 +179,8 @@ roomAt answers shown at o = hasRoom (length answers - 3 * at .calls) (length sho
 pub record Ran (s : Store) (c : Call) (n : Counts) (answers shown : List ℕ) (at : Cursor) (t : Turn) (s′ : Store) (answers′ shown′ : List ℕ) : Type 0 where
   pub turn : t ≡ cond (roomAt answers shown at (answerS s c)) (Next (moved at n (length (answerS s c .shown)))) (Stopped NoRoom)
   pub left : s′ ≡ cond (roomAt answers shown at (answerS s c)) (nextS s c) s
-  pub numbers : answers′ ≡ cond (roomAt answers shown at (answerS s c)) (place answers (3 * at .calls) (threeNumbers (answerS s c))) answers
-  pub fields : shown′ ≡ cond (roomAt answers shown at (answerS s c)) (place shown (at .shown) (answerS s c .shown)) shown
+  pub numbers : answers′ ≡ cond (roomAt answers shown at (answerS s c)) (overwrite answers (3 * at .calls) (threeNumbers (answerS s c))) answers
+  pub fields : shown′ ≡ cond (roomAt answers shown at (answerS s c)) (overwrite shown (at .shown) (answerS s c .shown)) shown
 
 -- no call: nothing changes
 pub record Halted (rest : Script) (s : Store) (answers shown : List ℕ) (t : Turn) (s′ : Store) (answers′ shown′ : List ℕ) : Type 0 where
@@ -210,5 +210,5 @@ pub record Finished (s : Store) (answers shown : List ℕ) (p : Script) (r : Rep
   pub stop : r .stop ≡ toldStop s (length answers) (length shown) p
   pub calls : r .calls ≡ length (told s (length answers) (length shown) p)
   pub left : s′ ≡ afterS s (take (length (told s (length answers) (length shown) p)) (callsOf p))
-  pub numbers : answers′ ≡ place answers 0 (outcomeNumbers (told s (length answers) (length shown) p))
-  pub fields : shown′ ≡ place shown 0 (outcomeBytes (told s (length answers) (length shown) p))
+  pub numbers : answers′ ≡ overwrite answers 0 (outcomeNumbers (told s (length answers) (length shown) p))
+  pub fields : shown′ ≡ overwrite shown 0 (outcomeBytes (told s (length answers) (length shown) p))

@@ -8,7 +8,7 @@ ghost use mathlib.Core.Path.{_≡_};
 ghost use mathlib.Core.List.{List, [], _∷_};
 ghost use Prim.Native.Nat.{ℕ, _+_, _*_, _≤_};
 ghost use lib.ListN.{length, drop};
-ghost use Rattle.word.specs.Place.{place};
+ghost use Rattle.word.specs.Overwrite.{overwrite};
 ghost use Rattle.store.specs.Answer.{numberOf};
 ghost use Rattle.ledger.specs.StoreRun.{store, answerS};
 ghost use Rattle.ledger.specs.Replay.{script, Replays};
@@ -261,7 +261,7 @@ fn write(
 // Writes the three numbers of an outcome at `i`.
 fn put_numbers(answers: &mut [u32], i: usize, answer: Answer, mfn: u32, len: u32)
     requires { ⌜ i + 3 ≤ length (now answers) ⌝ }
-    ensures { λ _. ⌜ now (answers .exit) ≡ place (now (answers .entry)) i (numberOf answer ∷ mfn ∷ len ∷ []) ⌝ }
+    ensures { λ _. ⌜ now (answers .exit) ≡ overwrite (now (answers .entry)) i (numberOf answer ∷ mfn ∷ len ∷ []) ⌝ }
 {
     answers[i] = store::answer::number(answer);
     answers[i + 1] = mfn;

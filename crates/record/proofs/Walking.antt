@@ -12,8 +12,8 @@ use lib.ListN.{length, take, drop, set, length-map, length-append}
 use lib.Seq.{drop-nil}
 use borrow.Author.Tests.{le-leb, lt-leb, leb-false}
 use Rattle.word.specs.Integer.{u16At}
-use Rattle.word.specs.Place.{place}
-use Rattle.word.proofs.Place.{place-none, place-more, place-length}
+use Rattle.word.specs.Overwrite.{overwrite}
+use Rattle.word.proofs.Overwrite.{overwrite-none, overwrite-more, overwrite-length}
 use Rattle.layout.specs.Leader.{leaderOf}
 use Rattle.layout.specs.declared.sizes.Tag.{Tag}
 use Rattle.record.specs.Directory.{tagAt, posAt, lenAt, directoryRight}
@@ -130,14 +130,14 @@ walked-in rec i tag start len r p =
 -- ---- lists of them: what the first k fields give, written over a list's front
 
 unfoldable pub written : (Spot → ℕ) → List ℕ → ℕ → List ℕ → List ℕ
-written f rec k d = place d 0 (map f (spotsBefore rec k))
+written f rec k d = overwrite d 0 (map f (spotsBefore rec k))
 
 module _ (f : Spot → ℕ) (rec : List ℕ) (d : List ℕ) where
   pub written-none : written f rec 0 d ≡ d
   unfolding written spotsBefore
-  written-none = place-none d 0
+  written-none = overwrite-none d 0
 
-  pub written-all : written f rec (leaderOf rec .nvf) d ≡ place d 0 (map f (spotsOf rec))
+  pub written-all : written f rec (leaderOf rec .nvf) d ≡ overwrite d 0 (map f (spotsOf rec))
   unfolding written
   written-all = refl
 
@@ -147,14 +147,14 @@ module _ (f : Spot → ℕ) (rec : List ℕ) (d : List ℕ) where
 
     pub written-length : k ≤ length d → length (written f rec k d) ≡ length d
     unfolding written
-    written-length h = place-length d 0 (map f (spotsBefore rec k)) (omega (arith, seen))
+    written-length h = overwrite-length d 0 (map f (spotsBefore rec k)) (omega (arith, seen))
 
     -- the next one, stored right behind
     pub written-more : k < length d → set (written f rec k d) k (f (spotAt rec k)) ≡ written f rec (k + 1) d
     unfolding written
     written-more h =
         let e : 0 + length (map f (spotsBefore rec k)) ≡ k = omega (arith, seen) in
-        rw e at (place-more d 0 (map f (spotsBefore rec k)) (f (spotAt rec k)) (omega (arith, seen)))
+        rw e at (overwrite-more d 0 (map f (spotsBefore rec k)) (f (spotAt rec k)) (omega (arith, seen)))
         ∙ rw (← map-snoc f (spotsBefore rec k) (spotAt rec k), before-more rec k)
 
 -- ---- the steps: `search walk-answers` finds the premises among what was read

@@ -8,7 +8,7 @@ use word::integer::u16_at;
 ghost use mathlib.Core.Path.{_≡_};
 ghost use Prim.Native.Nat.{_+_, _<_, _^_};
 ghost use lib.ListN.{length, set};
-ghost use Rattle.word.specs.Place.{place};
+ghost use Rattle.word.specs.Overwrite.{overwrite};
 ghost use Rattle.layout.specs.Leader.{leaderOf};
 ghost use Rattle.record.specs.Record.{Readable};
 ghost use Rattle.record.specs.Walker.{atEnd, AtField, spotAt, spotTag, spotStart, spotLength, walkedAt, Listable, tagsOf, startsOf, lengthsOf};
@@ -107,7 +107,7 @@ pub fn list_fields(
     lens: &mut [usize],
 ) -> usize
     requires { ⌜ Listable (now rec) at (now tags) (now starts) (now lens) ⌝ }
-    ensures { λ r. ⌜ (r ≡ leaderOf (now (rec .entry)) .nvf) × (now (tags .exit) ≡ place (now (tags .entry)) 0 (tagsOf (now (rec .entry)))) × (now (starts .exit) ≡ place (now (starts .entry)) 0 (startsOf at (now (rec .entry)))) × (now (lens .exit) ≡ place (now (lens .entry)) 0 (lengthsOf (now (rec .entry)))) ⌝ }
+    ensures { λ r. ⌜ (r ≡ leaderOf (now (rec .entry)) .nvf) × (now (tags .exit) ≡ overwrite (now (tags .entry)) 0 (tagsOf (now (rec .entry)))) × (now (starts .exit) ≡ overwrite (now (starts .entry)) 0 (startsOf at (now (rec .entry)))) × (now (lens .exit) ≡ overwrite (now (lens .entry)) 0 (lengthsOf (now (rec .entry)))) ⌝ }
 {
     let mut w = walk(rec);
     while !at_end(w) {
