@@ -159,9 +159,12 @@ module _ (f : Spot → ℕ) (rec : List ℕ) (d : List ℕ) where
 
 -- ---- the steps: `search walk-answers` finds the premises among what was read
 
+pub count-is : (rec : List ℕ) (nvf : ℕ) → nvf ≡ u16At rec 14 → nvf ≡ leaderOf rec .nvf
+unfolding leaderOf
+count-is rec nvf e = e
+
 module _ (rec : List ℕ) (i : ℕ) where
-  pub ended-is : (nvf : ℕ) → nvf ≡ u16At rec 14 → leb nvf i ≡ atEnd rec i
-  unfolding leaderOf
+  pub ended-is : (nvf : ℕ) → nvf ≡ leaderOf rec .nvf → leb nvf i ≡ atEnd rec i
   ended-is nvf e = rw e
 
   pub spot-is : (base pos len : ℕ) (tag : Tag) → base ≡ u16At rec 12 → pos ≡ posAt rec i → len ≡ lenAt rec i → tag .0 ≡ tagAt rec i
@@ -181,4 +184,4 @@ module _ (rec : List ℕ) (i : ℕ) where
     pub come-to : over ≡ false → Readable rec → AtField rec i
     come-to left r = record { readable = r; listed = leb-false _ _ (sym q ∙ left) }
 
-pub ruleset walk-answers = (ended-is, entry-within, spot-is, walked-end, walked-field, come-to)
+pub ruleset walk-answers = (count-is, ended-is, entry-within, spot-is, walked-end, walked-field, come-to)

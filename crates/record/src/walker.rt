@@ -20,12 +20,20 @@ pub struct Spot {
     pub len: usize,
 }
 
+// How many fields a record has.
+pub fn field_count(rec: &[u8]) -> usize
+    requires { ⌜ Readable (now rec) ⌝ }
+    ensures { λ r. ⌜ r ≡ leaderOf (now (rec .entry)) .nvf ⌝ }
+{
+    u16_at(rec, 14) as usize
+}
+
 // Whether the directory has no entry at an index.
 fn ended(rec: &[u8], index: usize) -> bool
     requires { ⌜ Readable (now rec) ⌝ }
     ensures { λ r. ⌜ r ≡ atEnd (now (rec .entry)) index ⌝ }
 {
-    u16_at(rec, 14) as usize <= index
+    field_count(rec) <= index
 }
 
 // The field at an index.

@@ -1,13 +1,13 @@
 // The two views: where in the MST a field lies, and the field itself as a part of the lent MST. A view first finds the version
 // that it reads, current or settled, and then shows a field of it.
-use store::answer::Answer;
-use store::gate::Reached;
 use layout::entry::Mark;
 use layout::entry::Place;
 use layout::leader::Leader;
 use layout::sizes::Mfn;
 use layout::sizes::Tag;
 use record::fields::Found;
+use store::answer::Answer;
+use store::gate::Reached;
 ghost use mathlib.Core.Path.{_≡_};
 ghost use Prim.Native.Nat.{_+_, _≤_};
 ghost use lib.ListN.{length};
@@ -48,7 +48,8 @@ pub fn current_version(mst: &[u8], xrf: &[u8], m: Mfn) -> Version
         end,
         place,
         leader: _,
-    } = r else {
+    } = r
+    else {
         return Version::Refused(store::gate::reached_answer(r));
     };
     if place.deleted {

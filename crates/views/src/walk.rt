@@ -1,10 +1,10 @@
 // The fields of a record one after the other, by their index in the directory, counted from 0: a caller that counts up until
 // the answer is that there is no such field has been handed every field, in directory order.
-use store::answer::Answer;
 use crate::views::Version;
 use layout::sizes::Mfn;
 use layout::sizes::Tag;
 use record::walker::Walked;
+use store::answer::Answer;
 ghost use mathlib.Core.Path.{_≡_};
 ghost use Prim.Native.Nat.{_+_, _≤_};
 ghost use lib.ListN.{length};

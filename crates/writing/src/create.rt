@@ -1,11 +1,11 @@
 // Create: a new record at the end, under the next MFN.
-use store::answer::Answer;
-use store::gate::Gate;
 use layout::entry::Mark;
 use layout::entry::Place;
 use layout::leader::Leader;
 use layout::sizes::Block;
 use layout::sizes::Mfn;
+use store::answer::Answer;
+use store::gate::Gate;
 ghost use mathlib.Core.Path.{_≡_};
 ghost use mathlib.Core.Bool.{true};
 ghost use Prim.Native.Nat.{_+_, _/_, _%_, _≤_};

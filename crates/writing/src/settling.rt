@@ -1,10 +1,10 @@
 // Settle and revert: a pending change becomes the settled version, or is dropped for it.
-use store::answer::Answer;
-use store::gate::Gate;
-use store::gate::Known;
 use layout::entry::Mark;
 use layout::entry::Place;
 use layout::sizes::Mfn;
+use store::answer::Answer;
+use store::gate::Gate;
+use store::gate::Known;
 ghost use mathlib.Core.Path.{_≡_};
 ghost use Rattle.layout.specs.Control.{endOf};
 ghost use Rattle.store.specs.Reading.{leaderAt};

@@ -1,11 +1,11 @@
 // Update and delete: a new version of a record, at the end or in place. The settled version is never written over.
-use store::answer::Answer;
-use store::gate::Gate;
-use store::gate::Known;
 use layout::entry::Mark;
 use layout::entry::Place;
 use layout::leader::Leader;
 use layout::sizes::Mfn;
+use store::answer::Answer;
+use store::gate::Gate;
+use store::gate::Known;
 ghost use mathlib.Core.Path.{_≡_};
 ghost use mathlib.Core.Bool.{true, false};
 ghost use Prim.Native.Nat.{_+_, _≤_};
