@@ -6,6 +6,9 @@ use mathlib.Core.Path.{_≡_, refl, sym, ap, _∙_}
 use mathlib.Core.Logic.{⊎-elim}
 use mathlib.Core.Bool.{Bool, true}
 use mathlib.Core.List.{List, []}
+use native.Mathlib.Nat.{le-refl}
+use lib.ListN.{length, take}
+use lib.Seq.{take-all}
 use Rattle.layout.specs.Control.{nextOf, endOf}
 use Rattle.layout.specs.declared.sizes.Mfn.{Mfn}
 use Rattle.layout.specs.declared.entry.Place.{Place}
@@ -28,6 +31,21 @@ use Rattle.store.specs.declared.gate.Reached.the-variants.{There, Refuse
 use Rattle.store.proofs.Gates.{Refusing, after-refused, after-cases, refused-is, done-is, gated-passes, gate-done, named-done, gate-shut, gate-is, opened, RefusedFacts, known-refused, both-refused, KnownFacts, known-facts, BothFacts, both-facts, both-from, OpenFacts, Planned, planned-at}
 use Rattle.store.proofs.Lowest.{above, lowest-append}
 
+-- ---- a slice lent whole, as a part
+
+whole : (d : List ℕ) → take (length d) d ≡ d
+whole d = take-all (length d) d (le-refl (length d))
+
+pub whole-length : (d : List ℕ) → length d ≡ length (take (length d) d)
+whole-length d = ap length (sym (whole d))
+
+lent : List ℕ → List ℕ → Store
+lent mst xrf = store (take (length mst) mst) (take (length xrf) xrf)
+
+lent-whole : (mst xrf : List ℕ) → lent mst xrf ≡ store mst xrf
+unfolding lent
+lent-whole mst xrf = rw (whole mst, whole xrf)
+
 -- ---- what is returned
 
 module _ (mst xrf : List ℕ) (m : ℕ) (g : Gate) (p : g ≡ gateOf (store mst xrf)) where
@@ -46,6 +64,11 @@ module _ (mst xrf : List ℕ) (m : ℕ) (g : Gate) (p : g ≡ gateOf (store mst 
   unfolding reachedBoth
   both-shut a b q s = shut (bothFine (store mst xrf) m) a b q s
 
+  module _ (next : Mfn) (end : ℕ) (q : g ≡ Open next end) where
+    pub lent-open : gateOf (store (take (length mst) mst) (take (length xrf) xrf)) ≡ Open next end
+    unfolding lent
+    lent-open = ap gateOf (lent-whole mst xrf) ∙ gate-is mst xrf g p next end q
+
   module _ (next : Mfn) (end : ℕ) (q : g ≡ Open next end) (k : Known) where
     unknown : (ok : Bool) (a b : Answer) → k ≡ Refused b → a ≡ knownAnswer k → RefusedFacts mst xrf m ok b
         → Unreached a ≡ reachedIf (lowest (gated (store mst xrf) (named (store mst xrf) m ok []))) (store mst xrf) m
@@ -63,7 +86,11 @@ module _ (mst xrf : List ℕ) (m : ℕ) (g : Gate) (p : g ≡ gateOf (store mst 
         let o = opened mst xrf g p next end q in
         done-is _ _ Unreached _ (rw (o .lengths, o .control, f .known, f .entry, r)) (rw (f .entry, o .end-is, f .leader-is))
 
-    module _ (u : k ≡ knownOf (store mst xrf) m) where
+    module _ (w : k ≡ knownOf (store (take (length mst) mst) (take (length xrf) xrf)) m) where
+      u : k ≡ knownOf (store mst xrf) m
+      unfolding lent
+      u = w ∙ ap (λ (s : Store). knownOf s m) (lent-whole mst xrf)
+
       pub reach-unknown : (a b : Answer) → k ≡ Refused b → a ≡ knownAnswer k → Unreached a ≡ reachedOf (store mst xrf) m
       unfolding reachedOf
       reach-unknown a b v s = unknown (fine (store mst xrf) m) a b v s (known-refused mst xrf m b (sym u ∙ v))
@@ -74,18 +101,22 @@ module _ (mst xrf : List ℕ) (m : ℕ) (g : Gate) (p : g ≡ gateOf (store mst 
           let f = known-facts mst xrf m pl l (sym u ∙ v) in
           there (fine (store mst xrf) m) pl l f (rw (f .place-is) (f .record-fine))
 
-    module _ (u : k ≡ knownBoth (store mst xrf) m) where
+    module _ (w : k ≡ knownBoth (store (take (length mst) mst) (take (length xrf) xrf)) m) where
+      v : k ≡ knownBoth (store mst xrf) m
+      unfolding lent
+      v = w ∙ ap (λ (s : Store). knownBoth s m) (lent-whole mst xrf)
+
       pub both-unknown : (a b : Answer) → k ≡ Refused b → a ≡ knownAnswer k → Unreached a ≡ reachedBoth (store mst xrf) m
       unfolding reachedBoth
-      both-unknown a b v s = unknown (bothFine (store mst xrf) m) a b v s (both-refused mst xrf m b (sym u ∙ v))
+      both-unknown a b e s = unknown (bothFine (store mst xrf) m) a b e s (both-refused mst xrf m b (sym v ∙ e))
 
       pub both-there : (pl : Place) (l : Leader) → k ≡ Record pl l → There end pl l ≡ reachedBoth (store mst xrf) m
       unfolding reachedBoth
-      both-there pl l v =
-          let f = both-facts mst xrf m pl l (sym u ∙ v) in
+      both-there pl l e =
+          let f = both-facts mst xrf m pl l (sym v ∙ e) in
           there (bothFine (store mst xrf) m) pl l (f .current) (rw (f .current .place-is, f .current .record-fine, f .version-fine))
 
-pub ruleset reach-answers = (gate-is, reach-shut, reach-unknown, reach-there, both-shut, both-unknown, both-there)
+pub ruleset reach-answers = (whole-length, lent-open, reach-shut, reach-unknown, reach-there, both-shut, both-unknown, both-there)
 
 -- ---- what a caller learns
 
@@ -96,7 +127,7 @@ pub record UnreachedFacts (mst xrf : List ℕ) (m : ℕ) (ok : Bool) (a : Answer
 
 -- the answer behind what was returned
 module _ (b : Answer) (e : ℕ) (p : Place) (l : Leader) where
-  of-refusal : (a : Answer) → after b (There e p l) (Unreached b) ≡ Unreached a → (b ≡ a) × Refusing b
+  pub of-refusal : (a : Answer) → after b (There e p l) (Unreached b) ≡ Unreached a → (b ≡ a) × Refusing b
   of-refusal a h = ⊎-elim done refused (after-cases b (There e p l) (Unreached b))
     where
       done : (b ≡ Done) × (after b (There e p l) (Unreached b) ≡ There e p l) → (b ≡ a) × Refusing b
@@ -105,7 +136,7 @@ module _ (b : Answer) (e : ℕ) (p : Place) (l : Leader) where
       refused : Refusing b × (after b (There e p l) (Unreached b) ≡ Unreached b) → (b ≡ a) × Refusing b
       refused w = let s = sym (w .1) ∙ h in ((cc), w .0)
 
-  of-record : (f : ℕ) (q : Place) (k : Leader) → after b (There e p l) (Unreached b) ≡ There f q k → (b ≡ Done) × (e ≡ f) × (p ≡ q) × (l ≡ k)
+  pub of-record : (f : ℕ) (q : Place) (k : Leader) → after b (There e p l) (Unreached b) ≡ There f q k → (b ≡ Done) × (e ≡ f) × (p ≡ q) × (l ≡ k)
   of-record f q k h = ⊎-elim done refused (after-cases b (There e p l) (Unreached b))
     where
       done : (b ≡ Done) × (after b (There e p l) (Unreached b) ≡ There e p l) → (b ≡ Done) × (e ≡ f) × (p ≡ q) × (l ≡ k)

@@ -205,7 +205,10 @@ pub fn reach(mst: &[u8], xrf: &[u8], m: Mfn) -> Reached
     let Gate::Open { next, end } = g else {
         return Reached::Refused(gate_answer(g));
     };
-    let k = find_record(mst, xrf, next, end, m);
+    // lent as parts that are made here: a slice that is handed on whole goes through memory once more
+    let mst_len = mst.len();
+    let xrf_len = xrf.len();
+    let k = find_record(&mst[..mst_len], &xrf[..xrf_len], next, end, m);
     let Known::Record { place, leader } = k else {
         return Reached::Refused(known_answer(k));
     };
@@ -220,7 +223,9 @@ pub fn reach_both(mst: &[u8], xrf: &[u8], m: Mfn) -> Reached
     let Gate::Open { next, end } = g else {
         return Reached::Refused(gate_answer(g));
     };
-    let k = find_both(mst, xrf, next, end, m);
+    let mst_len = mst.len();
+    let xrf_len = xrf.len();
+    let k = find_both(&mst[..mst_len], &xrf[..xrf_len], next, end, m);
     let Known::Record { place, leader } = k else {
         return Reached::Refused(known_answer(k));
     };

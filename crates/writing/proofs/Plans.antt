@@ -26,28 +26,31 @@ use Rattle.store.specs.Answer.{numberOf, refuse, after}
 use Rattle.store.specs.Reading.{lengthsPermitted, controlFine, mfnInRange, entryFor, placeFor, isMalformed, isGone, isSettled, isNew, leaderAt, currentFields}
 use Rattle.store.specs.Refusals.{fine, bothFine}
 use Rattle.writing.specs.Refusals.{exceeds, createAnswer, updateAppends, updateAnswer, deleteAnswer, settleAnswer, revertAnswer}
-use Rattle.store.specs.Gate.{gateOf, knownIf, knownOf, knownBoth, gateAnswer, knownAnswer}
+use Rattle.store.specs.Gate.{gateOf, gateAnswer, knownOf, knownAnswer, reachedIf, reachedOf, reachedBoth, reachedAnswer}
 use Rattle.writing.specs.Plans.{settlePlan, revertPlan, slotAnswer, SlotAsked, createPlan, planIf, updatePlan, deletePlan, roomPlan}
 use Rattle.writing.specs.Asked.{RecordRead}
 use Rattle.store.specs.declared.answer.Answer.{Answer}
-use Rattle.store.specs.declared.answer.Answer.the-variants.{Done, BadLength, BadControl, BadDraft, NoMfn, NoSlot, BadEntry, Gone as GoneAnswer, BadRecord, Deleted, NotPending, NeverSettled, NoField, NoRoom, NotSound}
+use Rattle.store.specs.declared.answer.Answer.the-variants.{Done, BadLength, BadControl, BadDraft, NoMfn, NoSlot, BadEntry, Gone as GoneAnswer, BadRecord, Deleted, NotPending, NeverSettled, NoField, NoRoom, NotSound, ListTooShort}
 use Rattle.writing.specs.declared.create.Creating.the-variants.{Write, Unwritten}
 use Rattle.store.specs.declared.gate.Gate.{Gate}
 use Rattle.store.specs.declared.gate.Gate.the-variants.{Open, Shut}
 use Rattle.store.specs.declared.gate.Known.{Known}
 use Rattle.store.specs.declared.gate.Known.the-variants.{Record, Refused}
+use Rattle.store.specs.declared.gate.Reached.{Reached}
+use Rattle.store.specs.declared.gate.Reached.the-variants.{There, Refused as Unreached}
 use Rattle.writing.specs.declared.versions.Plan.{Plan}
-use Rattle.writing.specs.declared.versions.Plan.the-variants.{Append, InPlace, Refuse}
+use Rattle.writing.specs.declared.versions.Plan.the-variants.{NewVersion, Refuse}
 use Rattle.store.proofs.answer.Answer as answer
 use Rattle.writing.proofs.Told.{draft-fits, read-known}
-use Rattle.store.proofs.Gates.{Refusing, refused-is, done-is, gate-shut, known-refused, both-refused, known-facts, both-facts, gate-is, opened}
+use Rattle.store.proofs.Gates.{Refusing, refused-is, done-is, gate-shut, known-refused, known-facts, gate-is, opened, Planned}
+use Rattle.store.proofs.Reaching.{reach-refused, both-unreached, BothPlanned, reached-facts, reached-both-facts}
 use Rattle.store.specs.Store.{store, draft}
 
 -- ---- variants that are left in an `else`
 
-pub not-done : (a : Answer) → OneOf (1 ∷ 2 ∷ 3 ∷ 4 ∷ 5 ∷ 6 ∷ 7 ∷ 8 ∷ 9 ∷ 10 ∷ 11 ∷ 12 ∷ 13 ∷ 14 ∷ []) (tagOf answer.the-type a) → Refusing a
+pub not-done : (a : Answer) → OneOf (1 ∷ 2 ∷ 3 ∷ 4 ∷ 5 ∷ 6 ∷ 7 ∷ 8 ∷ 9 ∷ 10 ∷ 11 ∷ 12 ∷ 13 ∷ 14 ∷ 15 ∷ []) (tagOf answer.the-type a) → Refusing a
 unfolding numberOf
-not-done Done v = absurd (miss (1 ∷ 2 ∷ 3 ∷ 4 ∷ 5 ∷ 6 ∷ 7 ∷ 8 ∷ 9 ∷ 10 ∷ 11 ∷ 12 ∷ 13 ∷ 14 ∷ []) 0 tt v)
+not-done Done v = absurd (miss (1 ∷ 2 ∷ 3 ∷ 4 ∷ 5 ∷ 6 ∷ 7 ∷ 8 ∷ 9 ∷ 10 ∷ 11 ∷ 12 ∷ 13 ∷ 14 ∷ 15 ∷ []) 0 tt v)
 not-done BadLength v = λ z. omega arith
 not-done BadControl v = λ z. omega arith
 not-done BadDraft v = λ z. omega arith
@@ -62,6 +65,7 @@ not-done NeverSettled v = λ z. omega arith
 not-done NoField v = λ z. omega arith
 not-done NoRoom v = λ z. omega arith
 not-done NotSound v = λ z. omega arith
+not-done ListTooShort v = λ z. omega arith
 
 pub not-settled : (k : Mark) → OneOf (1 ∷ 2 ∷ []) (tagOf mark.the-type k) → isSettled k ≡ false
 not-settled Settled v = absurd (miss (1 ∷ 2 ∷ []) 0 tt v)
@@ -158,7 +162,7 @@ module _ (mst xrf tags lens bytes : List ℕ) (g : Gate) (p : g ≡ gateOf (stor
         unfolding createAnswer slotAnswer
         through = let o = opened mst xrf g p next end q in rw (o .lengths, o .control, ← e, h, own) (sym s)
 
-        pub create-no-slot : OneOf (1 ∷ 2 ∷ 3 ∷ 4 ∷ 5 ∷ 6 ∷ 7 ∷ 8 ∷ 9 ∷ 10 ∷ 11 ∷ 12 ∷ 13 ∷ 14 ∷ []) (tagOf answer.the-type a)
+        pub create-no-slot : OneOf (1 ∷ 2 ∷ 3 ∷ 4 ∷ 5 ∷ 6 ∷ 7 ∷ 8 ∷ 9 ∷ 10 ∷ 11 ∷ 12 ∷ 13 ∷ 14 ∷ 15 ∷ []) (tagOf answer.the-type a)
             → Unwritten a ≡ createPlan (store mst xrf) (draft tags lens bytes)
         unfolding createPlan
         create-no-slot v = refused-is (createAnswer (store mst xrf) (draft tags lens bytes)) _ Unwritten a through (not-done a v)
@@ -177,17 +181,17 @@ pub ruleset create-plans = (create-shut, create-no-draft, slot-asked, create-no-
 -- ---- where a new version goes
 
 module _ (room end need : ℕ) (appends : Bool) (p : Place) (l : Leader) where
-  pub room-in-place : not appends ≡ true → InPlace p l ≡ roomPlan room end need appends p l
+  pub room-in-place : appends ≡ false → NewVersion end p l appends ≡ roomPlan room end need appends p l
   unfolding roomPlan
-  room-in-place h = rw (not-true appends h)
+  room-in-place h = rw h
 
-  pub room-none : not appends ≡ false → room < end + need → Refuse NoRoom ≡ roomPlan room end need appends p l
+  pub room-none : appends ≡ true → room < end + need → Refuse NoRoom ≡ roomPlan room end need appends p l
   unfolding roomPlan
-  room-none h k = rw (not-false appends h, lt-ltb _ _ k)
+  room-none h k = rw (h, lt-ltb _ _ k)
 
-  pub room-append : not appends ≡ false → end + need ≤ room → Append end p l ≡ roomPlan room end need appends p l
+  pub room-append : appends ≡ true → end + need ≤ room → NewVersion end p l appends ≡ roomPlan room end need appends p l
   unfolding roomPlan
-  room-append h k = rw (not-false appends h, le-ltb _ _ k)
+  room-append h k = rw (h, le-ltb _ _ k)
 
 pub ruleset room-plans = (room-in-place, room-none, room-append)
 
@@ -209,7 +213,7 @@ module _ (mst xrf : List ℕ) (m end need : ℕ) (p : Place) (l : Leader) (at : 
   unfolding roomPlan planIf exceeds after numberOf
   room-planned a true true x h = rw (h, e, x)
   room-planned a true false x h = rw (h, e, x, at, is)
-  room-planned a false full x h = rw (h, at, is)
+  room-planned a false full x h = rw (h, e, at, is)
 
 -- ---- update
 
@@ -270,140 +274,130 @@ pub ruleset update-plans = (gate-is, update-shut, update-no-draft, update-unknow
 
 -- ---- delete
 
-module _ (mst xrf : List ℕ) (m : ℕ) (g : Gate) (p : g ≡ gateOf (store mst xrf)) where
+module _ (mst xrf : List ℕ) (m : ℕ) (r : Reached) (p : r ≡ reachedOf (store mst xrf) m) where
   delete-refused : (a : Answer) → deleteAnswer (store mst xrf) m ≡ a → Refusing a → Refuse a ≡ deletePlan (store mst xrf) m
   unfolding deletePlan planIf
   delete-refused a e h = refused-is (deleteAnswer (store mst xrf) m) _ Refuse a e h
 
-  pub delete-shut : (a r : Answer) → g ≡ Shut a → r ≡ gateAnswer g → Refuse r ≡ deletePlan (store mst xrf) m
+  pub delete-unreached : (a b : Answer) → r ≡ Unreached a → b ≡ reachedAnswer r → Refuse b ≡ deletePlan (store mst xrf) m
   unfolding deleteAnswer
-  delete-shut a r q s =
-      let e = sym p ∙ q in
-      let t : r ≡ a = rw q at s in
-      rw t (delete-refused a (shut-answer mst xrf a _ e) (gate-shut mst xrf a e .refusing))
+  delete-unreached a b q s =
+      let f = reach-refused mst xrf m a (sym p ∙ q) in
+      let t : b ≡ a = rw q at s in
+      rw t
+      (delete-refused a
+      (f .answers
+      (refuse Deleted (placeFor (store mst xrf) m .deleted)
+      ∷ refuse NoRoom (isSettled (placeFor (store mst xrf) m .mark) && exceeds mst (needFor (currentFields mst (placeFor (store mst xrf) m))))
+      ∷ []))
+      (f .refusing))
 
-  module _ (next : Mfn) (end : ℕ) (q : g ≡ Open next end) (k : Known) (u : k ≡ knownOf (store mst xrf) m) where
-    pub delete-unknown : (a r : Answer) → k ≡ Refused a → r ≡ knownAnswer k → Refuse r ≡ deletePlan (store mst xrf) m
-    unfolding deleteAnswer
-    delete-unknown a r v s =
-        let o = opened mst xrf g p next end q in
-        let f = known-refused mst xrf m a (sym u ∙ v) in
-        let t : r ≡ a = rw v at s in
-        let rest : (x : Answer) → namedAnswer mst xrf m (fine (store mst xrf) m) x ≡ a = λ x. f .answers (refuse x true ∷ []) in
-        rw t (delete-refused a (rw (o .lengths, o .control) (rest _)) (f .refusing))
+  module _ (end : ℕ) (pl : Place) (l : Leader) (q : r ≡ There end pl l) where
+    reached : (end ≡ endOf mst) × Planned mst xrf m pl l
+    reached = reached-facts mst xrf m end pl l (sym p ∙ q)
 
-    module _ (pl : Place) (l : Leader) (v : k ≡ Record pl l) where
-      pub delete-deleted : pl .deleted ≡ true → Refuse Deleted ≡ deletePlan (store mst xrf) m
-      unfolding deleteAnswer numberOf
-      delete-deleted w =
-          let o = opened mst xrf g p next end q in
-          let f = known-facts mst xrf m pl l (sym u ∙ v) in
-          delete-refused Deleted (rw (o .lengths, o .control, f .known, f .entry, f .record-fine, w)) (λ z. omega arith)
+    pub delete-deleted : pl .deleted ≡ true → Refuse Deleted ≡ deletePlan (store mst xrf) m
+    unfolding deleteAnswer numberOf
+    delete-deleted w =
+        let o = reached .1 .gate in
+        let f = reached .1 .found in
+        delete-refused Deleted (rw (o .lengths, o .control, f .known, f .entry, f .record-fine, w)) (λ z. omega arith)
 
-      module _ (w : pl .deleted ≡ false) where
-        pub own-need-asked : RecordRead mst end pl l
-        own-need-asked = read-known mst xrf m next end (opened mst xrf g p next end q) pl l (known-facts mst xrf m pl l (sym u ∙ v))
+    module _ (w : pl .deleted ≡ false) where
+      pub own-need-asked : RecordRead mst end pl l
+      own-need-asked = rw (reached .0) (read-known mst xrf m _ (endOf mst) (reached .1 .gate) pl l (reached .1 .found))
 
-        pub delete-in-place : OneOf (1 ∷ 2 ∷ []) (tagOf mark.the-type (pl .mark)) → InPlace pl l ≡ deletePlan (store mst xrf) m
-        unfolding deletePlan deleteAnswer planIf
-        delete-in-place x =
-            let o = opened mst xrf g p next end q in
-            let f = known-facts mst xrf m pl l (sym u ∙ v) in
-            let y : isSettled (pl .mark) ≡ false = not-settled (pl .mark) x in
-            let a : deleteAnswer (store mst xrf) m ≡ Done =
-            rw (o .lengths, o .control, f .known, f .entry, f .record-fine, w, y) in
-            done-is (deleteAnswer (store mst xrf) m) _ Refuse (InPlace pl l) a (rw (f .place-is, y, ← f .leader-is))
+      pub own-room-asked : (need : ℕ) → (need ≡ needFor (currentFields mst pl)) × (18 ≤ need) × (need ≤ 32766) → (end ≤ 536870400) × (need ≤ 65536)
+      own-room-asked need h = let o = reached .1 .gate in let e = reached .0 in let k = h .2 in (omega arith, omega arith)
 
-        pub delete-planned : (need : ℕ) (r : Plan) → pl .mark ≡ Settled → need ≡ needFor (currentFields mst pl) → r ≡ roomPlan (length mst) end need true pl l
-            → r ≡ deletePlan (store mst xrf) m
-        unfolding deletePlan deleteAnswer
-        delete-planned need r x n s =
-            let o = opened mst xrf g p next end q in
-            let f = known-facts mst xrf m pl l (sym u ∙ v) in
-            let y : isSettled (placeFor (store mst xrf) m .mark) ≡ true = rw (f .place-is, x) in
-            let a : deleteAnswer (store mst xrf) m ≡ cond (true && exceeds mst need) NoRoom Done =
-            rw (o .lengths, o .control, f .known, y, n, f .place-is, f .entry, f .record-fine, w) in
-            s ∙ room-planned mst xrf m end need pl l (f .place-is) (f .leader-is) (o .end-is) (deleteAnswer (store mst xrf) m) true (exceeds mst need) refl a
-            ∙ ap (λ (b : Bool). planIf (deleteAnswer (store mst xrf) m) b (store mst xrf) m) (sym y)
+      pub delete-in-place : OneOf (1 ∷ 2 ∷ []) (tagOf mark.the-type (pl .mark)) → NewVersion end pl l false ≡ deletePlan (store mst xrf) m
+      unfolding deletePlan deleteAnswer planIf
+      delete-in-place x =
+          let o = reached .1 .gate in
+          let f = reached .1 .found in
+          let y : isSettled (pl .mark) ≡ false = not-settled (pl .mark) x in
+          let a : deleteAnswer (store mst xrf) m ≡ Done =
+          rw (o .lengths, o .control, f .known, f .entry, f .record-fine, w, y) in
+          done-is (deleteAnswer (store mst xrf) m) _ Refuse (NewVersion end pl l false) a (rw (reached .0, f .place-is, y, ← f .leader-is))
 
-pub ruleset delete-plans = (gate-is, delete-shut, delete-unknown, delete-deleted, own-need-asked, delete-in-place, delete-planned)
+      pub delete-planned : (need : ℕ) (d : Plan) → pl .mark ≡ Settled → need ≡ needFor (currentFields mst pl) → d ≡ roomPlan (length mst) end need true pl l
+          → d ≡ deletePlan (store mst xrf) m
+      unfolding deletePlan deleteAnswer
+      delete-planned need d x n s =
+          let o = reached .1 .gate in
+          let f = reached .1 .found in
+          let y : isSettled (placeFor (store mst xrf) m .mark) ≡ true = rw (f .place-is, x) in
+          let a : deleteAnswer (store mst xrf) m ≡ cond (true && exceeds mst need) NoRoom Done =
+          rw (o .lengths, o .control, f .known, y, n, f .place-is, f .entry, f .record-fine, w) in
+          s ∙ room-planned mst xrf m end need pl l (f .place-is) (f .leader-is) (reached .0) (deleteAnswer (store mst xrf) m) true (exceeds mst need) refl a
+          ∙ ap (λ (b : Bool). planIf (deleteAnswer (store mst xrf) m) b (store mst xrf) m) (sym y)
+
+pub ruleset delete-plans = (delete-unreached, delete-deleted, own-need-asked, own-room-asked, delete-in-place, delete-planned)
 
 -- ---- settle and revert
 
-module _ (mst xrf : List ℕ) (m : ℕ) (g : Gate) (p : g ≡ gateOf (store mst xrf)) where
-  pub settle-shut : (a r : Answer) → g ≡ Shut a → r ≡ gateAnswer g → Refused r ≡ settlePlan (store mst xrf) m
-  unfolding settlePlan knownIf settleAnswer
-  settle-shut a r q s =
-      let e = sym p ∙ q in
-      let t : r ≡ a = rw q at s in
-      rw t (refused-is (settleAnswer (store mst xrf) m) _ Refused a (shut-answer mst xrf a _ e) (gate-shut mst xrf a e .refusing))
+module _ (mst xrf : List ℕ) (m : ℕ) (r : Reached) (p : r ≡ reachedOf (store mst xrf) m) where
+  pub settle-unreached : (a : Answer) → r ≡ Unreached a → r ≡ settlePlan (store mst xrf) m
+  unfolding settlePlan reachedIf settleAnswer
+  settle-unreached a q =
+      let f = reach-refused mst xrf m a (sym p ∙ q) in
+      q ∙ refused-is (settleAnswer (store mst xrf) m) _ Unreached a (f .answers (refuse NotPending (isSettled (placeFor (store mst xrf) m .mark)) ∷ [])) (f .refusing)
 
-  pub revert-shut : (a r : Answer) → g ≡ Shut a → r ≡ gateAnswer g → Refused r ≡ revertPlan (store mst xrf) m
-  unfolding revertPlan knownIf revertAnswer
-  revert-shut a r q s =
-      let e = sym p ∙ q in
-      let t : r ≡ a = rw q at s in
-      rw t (refused-is (revertAnswer (store mst xrf) m) _ Refused a (shut-answer mst xrf a _ e) (gate-shut mst xrf a e .refusing))
+  module _ (end : ℕ) (pl : Place) (l : Leader) (q : r ≡ There end pl l) where
+    settling : (end ≡ endOf mst) × Planned mst xrf m pl l
+    settling = reached-facts mst xrf m end pl l (sym p ∙ q)
 
-  module _ (next : Mfn) (end : ℕ) (q : g ≡ Open next end) (k : Known) where
-    module _ (u : k ≡ knownOf (store mst xrf) m) where
-      pub settle-unknown : (a : Answer) → k ≡ Refused a → k ≡ settlePlan (store mst xrf) m
-      unfolding settlePlan knownIf settleAnswer
-      settle-unknown a v =
-          let o = opened mst xrf g p next end q in
-          let f = known-refused mst xrf m a (sym u ∙ v) in
-          let rest : (x : Answer) → namedAnswer mst xrf m (fine (store mst xrf) m) x ≡ a = λ x. f .answers (refuse x true ∷ []) in
-          v ∙ refused-is (settleAnswer (store mst xrf) m) _ Refused a (rw (o .lengths, o .control) (rest _)) (f .refusing)
+    settle-answer : settleAnswer (store mst xrf) m ≡ cond (isSettled (pl .mark)) NotPending Done
+    unfolding settleAnswer
+    settle-answer =
+        let o = settling .1 .gate in
+        let f = settling .1 .found in
+        rw (o .lengths, o .control, f .known, f .entry, f .record-fine)
 
-      module _ (pl : Place) (l : Leader) (v : k ≡ Record pl l) where
-        settle-answer : settleAnswer (store mst xrf) m ≡ cond (isSettled (pl .mark)) NotPending Done
-        unfolding settleAnswer
-        settle-answer =
-            let o = opened mst xrf g p next end q in
-            let f = known-facts mst xrf m pl l (sym u ∙ v) in
-            rw (o .lengths, o .control, f .known, f .entry, f .record-fine)
+    pub settle-settled : pl .mark ≡ Settled → Unreached NotPending ≡ settlePlan (store mst xrf) m
+    unfolding settlePlan reachedIf numberOf
+    settle-settled x = refused-is (settleAnswer (store mst xrf) m) _ Unreached NotPending (settle-answer ∙ rw x) (λ z. omega arith)
 
-        pub settle-settled : pl .mark ≡ Settled → Refused NotPending ≡ settlePlan (store mst xrf) m
-        unfolding settlePlan knownIf numberOf
-        settle-settled x = refused-is (settleAnswer (store mst xrf) m) _ Refused NotPending (settle-answer ∙ rw x) (λ z. omega arith)
+    pub settle-planned : OneOf (1 ∷ 2 ∷ []) (tagOf mark.the-type (pl .mark)) → There end pl l ≡ settlePlan (store mst xrf) m
+    unfolding settlePlan reachedIf
+    settle-planned x =
+        let f = settling .1 .found in
+        done-is (settleAnswer (store mst xrf) m) _ Unreached (There end pl l) (settle-answer ∙ rw (not-settled (pl .mark) x))
+        (rw (settling .0, f .place-is, ← f .leader-is))
 
-        pub settle-planned : OneOf (1 ∷ 2 ∷ []) (tagOf mark.the-type (pl .mark)) → Record pl l ≡ settlePlan (store mst xrf) m
-        unfolding settlePlan knownIf
-        settle-planned x =
-            let f = known-facts mst xrf m pl l (sym u ∙ v) in
-            done-is (settleAnswer (store mst xrf) m) _ Refused (Record pl l) (settle-answer ∙ rw (not-settled (pl .mark) x)) (rw (f .place-is, ← f .leader-is))
+module _ (mst xrf : List ℕ) (m : ℕ) (r : Reached) (p : r ≡ reachedBoth (store mst xrf) m) where
+  pub revert-unreached : (a : Answer) → r ≡ Unreached a → r ≡ revertPlan (store mst xrf) m
+  unfolding revertPlan reachedIf revertAnswer
+  revert-unreached a q =
+      let f = both-unreached mst xrf m a (sym p ∙ q) in
+      q ∙ refused-is (revertAnswer (store mst xrf) m) _ Unreached a
+      (f .answers
+      (refuse NotPending (isSettled (placeFor (store mst xrf) m .mark)) ∷ refuse NeverSettled (isNew (placeFor (store mst xrf) m .mark)) ∷ []))
+      (f .refusing)
 
-    module _ (u : k ≡ knownBoth (store mst xrf) m) where
-      pub revert-unknown : (a : Answer) → k ≡ Refused a → k ≡ revertPlan (store mst xrf) m
-      unfolding revertPlan knownIf revertAnswer
-      revert-unknown a v =
-          let o = opened mst xrf g p next end q in
-          let f = both-refused mst xrf m a (sym u ∙ v) in
-          let rest : (x : Answer) → namedAnswer mst xrf m (bothFine (store mst xrf) m) x ≡ a = λ x. f .answers (refuse x true ∷ []) in
-          v ∙ refused-is (revertAnswer (store mst xrf) m) _ Refused a (rw (o .lengths, o .control) (rest _)) (f .refusing)
+  module _ (end : ℕ) (pl : Place) (l : Leader) (q : r ≡ There end pl l) where
+    reverting : (end ≡ endOf mst) × BothPlanned mst xrf m pl l
+    reverting = reached-both-facts mst xrf m end pl l (sym p ∙ q)
 
-      module _ (pl : Place) (l : Leader) (v : k ≡ Record pl l) where
-        revert-answer : revertAnswer (store mst xrf) m ≡ cond (isSettled (pl .mark)) NotPending (cond (isNew (pl .mark)) NeverSettled Done)
-        unfolding revertAnswer
-        revert-answer =
-            let o = opened mst xrf g p next end q in
-            let f = both-facts mst xrf m pl l (sym u ∙ v) in
-            rw (o .lengths, o .control, f .current .known, f .current .entry, f .current .record-fine, f .version-fine)
+    revert-answer : revertAnswer (store mst xrf) m ≡ cond (isSettled (pl .mark)) NotPending (cond (isNew (pl .mark)) NeverSettled Done)
+    unfolding revertAnswer
+    revert-answer =
+        let o = reverting .1 .gate in
+        let f = reverting .1 .both in
+        rw (o .lengths, o .control, f .current .known, f .current .entry, f .current .record-fine, f .version-fine)
 
-        pub revert-settled : pl .mark ≡ Settled → Refused NotPending ≡ revertPlan (store mst xrf) m
-        unfolding revertPlan knownIf numberOf
-        revert-settled x = refused-is (revertAnswer (store mst xrf) m) _ Refused NotPending (revert-answer ∙ rw x) (λ z. omega arith)
+    pub revert-settled : pl .mark ≡ Settled → Unreached NotPending ≡ revertPlan (store mst xrf) m
+    unfolding revertPlan reachedIf numberOf
+    revert-settled x = refused-is (revertAnswer (store mst xrf) m) _ Unreached NotPending (revert-answer ∙ rw x) (λ z. omega arith)
 
-        pub revert-new : pl .mark ≡ New → Refused NeverSettled ≡ revertPlan (store mst xrf) m
-        unfolding revertPlan knownIf numberOf
-        revert-new x = refused-is (revertAnswer (store mst xrf) m) _ Refused NeverSettled (revert-answer ∙ rw x) (λ z. omega arith)
+    pub revert-new : pl .mark ≡ New → Unreached NeverSettled ≡ revertPlan (store mst xrf) m
+    unfolding revertPlan reachedIf numberOf
+    revert-new x = refused-is (revertAnswer (store mst xrf) m) _ Unreached NeverSettled (revert-answer ∙ rw x) (λ z. omega arith)
 
-        pub revert-planned : pl .mark ≡ Changed → Record pl l ≡ revertPlan (store mst xrf) m
-        unfolding revertPlan knownIf
-        revert-planned x =
-            let f = both-facts mst xrf m pl l (sym u ∙ v) .current in
-            done-is (revertAnswer (store mst xrf) m) _ Refused (Record pl l) (revert-answer ∙ rw x) (rw (f .place-is, ← f .leader-is))
+    pub revert-planned : pl .mark ≡ Changed → There end pl l ≡ revertPlan (store mst xrf) m
+    unfolding revertPlan reachedIf
+    revert-planned x =
+        let f = reverting .1 .both .current in
+        done-is (revertAnswer (store mst xrf) m) _ Unreached (There end pl l) (revert-answer ∙ rw x) (rw (reverting .0, f .place-is, ← f .leader-is))
 
-pub ruleset settle-plans = (gate-is, settle-shut, settle-unknown, settle-settled, settle-planned)
-
-pub ruleset revert-plans = (gate-is, revert-shut, revert-unknown, revert-settled, revert-planned, revert-new)
+pub ruleset settle-plans = (settle-unreached, settle-settled, settle-planned, revert-unreached, revert-settled, revert-new, revert-planned)

@@ -15,21 +15,21 @@ use Rattle.record.specs.Bytes.{needFor}
 use Rattle.store.specs.Store.{Store, Draft, fieldsIn}
 use Rattle.store.specs.Answer.{refuse, lowest, after}
 use Rattle.store.specs.Reading.{placeFor, isSettled, leaderAt}
-use Rattle.store.specs.Gate.{knownIf}
+use Rattle.store.specs.Gate.{reachedIf}
 use Rattle.store.specs.declared.answer.Answer.{Answer}
 use Rattle.store.specs.declared.answer.Answer.the-variants.{Done, NoSlot, BadEntry, NoRoom}
-use Rattle.store.specs.declared.gate.Known.{Known}
+use Rattle.store.specs.declared.gate.Reached.{Reached}
 use Rattle.writing.specs.Refusals.{exceeds, createAnswer, updateAppends, updateAnswer, deleteAnswer, settleAnswer, revertAnswer}
 use Rattle.writing.specs.declared.create.Creating.{Creating}
 use Rattle.writing.specs.declared.create.Creating.the-variants.{Write, Unwritten}
 use Rattle.writing.specs.declared.versions.Plan.{Plan}
-use Rattle.writing.specs.declared.versions.Plan.the-variants.{Append, InPlace, Refuse}
+use Rattle.writing.specs.declared.versions.Plan.the-variants.{NewVersion, Refuse}
 
-unfoldable pub settlePlan : Store → ℕ → Known
-settlePlan s m = knownIf (settleAnswer s m) s m
+unfoldable pub settlePlan : Store → ℕ → Reached
+settlePlan s m = reachedIf (settleAnswer s m) s m
 
-unfoldable pub revertPlan : Store → ℕ → Known
-revertPlan s m = knownIf (revertAnswer s m) s m
+unfoldable pub revertPlan : Store → ℕ → Reached
+revertPlan s m = reachedIf (revertAnswer s m) s m
 
 -- 5, 6 and 13 of a create, behind an open gate and with a right draft of a need
 unfoldable pub slotAnswer : Store → ℕ → Answer
@@ -59,14 +59,13 @@ abbrev pub creatingAnswer : Creating → Answer
 creatingAnswer (Write next end need) = Done
 creatingAnswer (Unwritten a) = a
 
--- where a new version of MFN m's record goes, where the answer is done
+-- where a new version of MFN m's record goes, at the end or in place, where the answer is done
 unfoldable pub planIf : Answer → Bool → Store → ℕ → Plan
-planIf a appends s m =
-    after a
-    (cond appends
-    (Append (endOf (s .mst)) (placeFor s m) (leaderAt (s .mst) (placeFor s m)))
-    (InPlace (placeFor s m) (leaderAt (s .mst) (placeFor s m))))
-    (Refuse a)
+planIf a appends s m = after a (NewVersion (endOf (s .mst)) (placeFor s m) (leaderAt (s .mst) (placeFor s m)) appends) (Refuse a)
+
+abbrev pub planAnswer : Plan → Answer
+planAnswer (NewVersion end p l appends) = Done
+planAnswer (Refuse a) = a
 
 unfoldable pub updatePlan : Store → ℕ → Draft → Plan
 updatePlan s m d =
@@ -77,4 +76,4 @@ deletePlan s m = planIf (deleteAnswer s m) (isSettled (placeFor s m .mark)) s m
 
 -- where a version of a need goes in an MST of a length: at the end if it is to be appended, where there is room
 unfoldable pub roomPlan : ℕ → ℕ → ℕ → Bool → Place → Leader → Plan
-roomPlan room end need appends p l = cond appends (cond (ltb room (end + need)) (Refuse NoRoom) (Append end p l)) (InPlace p l)
+roomPlan room end need appends p l = cond (appends && ltb room (end + need)) (Refuse NoRoom) (NewVersion end p l appends)

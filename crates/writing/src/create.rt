@@ -71,7 +71,7 @@ fn plan_create(mst: &[u8], xrf: &[u8], tags: &[u16], lens: &[u16], data: &[u8]) 
 }
 
 // The place at the end.
-pub fn end_place(end: usize, deleted: bool, mark: Mark) -> Place
+pub(crate) fn end_place(end: usize, deleted: bool, mark: Mark) -> Place
     requires { ⌜ end ≤ 536870400 ⌝ }
     ensures is { λ r. ⌜ r ≡ placed (blockAt end) (offsetAt end) deleted mark ⌝ }
     ensures numbers { λ r. ⌜ (r .block .0 ≡ end / 512 + 1) × (r .offset ≡ end % 512) ⌝ }
@@ -85,7 +85,14 @@ pub fn end_place(end: usize, deleted: bool, mark: Mark) -> Place
 }
 
 // Writes a draft's record at the end, and moves the end.
-pub fn append_draft(mst: &mut [u8], end: usize, l: Leader, tags: &[u16], lens: &[u16], data: &[u8])
+pub(crate) fn append_draft(
+    mst: &mut [u8],
+    end: usize,
+    l: Leader,
+    tags: &[u16],
+    lens: &[u16],
+    data: &[u8],
+)
     requires { ⌜ draftRight (now tags) (now lens) (now «data») ≡ true ⌝ }
     requires { ⌜ (AtEnd (now mst) end (l .mfrl)) × (needOf (length (now tags)) (length (now «data»)) ≤ l .mfrl) ⌝ }
     ensures { λ _. ⌜ now (mst .exit) ≡ appended (now (mst .entry)) l (draftFields (now (tags .entry)) (now (lens .entry)) (now («data» .entry))) ⌝ }
@@ -134,8 +141,7 @@ fn create_at_end(
 
 pub fn create(mst: &mut [u8], xrf: &mut [u8], tags: &[u16], lens: &[u16], data: &[u8]) -> Created
     ensures answers { λ r. ⌜ r ≡ createOf (store (now (mst .entry)) (now (xrf .entry))) (draft (now (tags .entry)) (now (lens .entry)) (now («data» .entry))) ⌝ }
-    ensures master { λ _. ⌜ now (mst .exit) ≡ createLeaves (store (now (mst .entry)) (now (xrf .entry))) (draft (now (tags .entry)) (now (lens .entry)) (now («data» .entry))) .mst ⌝ }
-    ensures cross { λ _. ⌜ now (xrf .exit) ≡ createLeaves (store (now (mst .entry)) (now (xrf .entry))) (draft (now (tags .entry)) (now (lens .entry)) (now («data» .entry))) .xrf ⌝ }
+    ensures left { λ _. ⌜ store (now (mst .exit)) (now (xrf .exit)) ≡ createLeaves (store (now (mst .entry)) (now (xrf .entry))) (draft (now (tags .entry)) (now (lens .entry)) (now («data» .entry))) ⌝ }
 {
     let plan = plan_create(mst, xrf, tags, lens, data);
     let Creating::Write { next, end, need } = plan else {

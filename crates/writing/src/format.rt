@@ -7,8 +7,7 @@ ghost use Rattle.store.specs.Store.{store};
 
 pub fn format(mst: &mut [u8], xrf: &mut [u8]) -> Answer
     ensures answers { λ r. ⌜ r ≡ formatAnswer (store (now (mst .entry)) (now (xrf .entry))) ⌝ }
-    ensures master { λ _. ⌜ now (mst .exit) ≡ formatLeaves (store (now (mst .entry)) (now (xrf .entry))) .mst ⌝ }
-    ensures cross { λ _. ⌜ now (xrf .exit) ≡ formatLeaves (store (now (mst .entry)) (now (xrf .entry))) .xrf ⌝ }
+    ensures left { λ _. ⌜ store (now (mst .exit)) (now (xrf .exit)) ≡ formatLeaves (store (now (mst .entry)) (now (xrf .entry))) ⌝ }
 {
     if !store::gate::lengths_permitted(mst, xrf) {
         return Answer::BadLength;

@@ -3,8 +3,7 @@ use layout::entry::Mark;
 use layout::entry::Place;
 use layout::sizes::Mfn;
 use store::answer::Answer;
-use store::gate::Gate;
-use store::gate::Known;
+use store::gate::Reached;
 ghost use mathlib.Core.Path.{_≡_};
 ghost use Rattle.layout.specs.Control.{endOf};
 ghost use Rattle.store.specs.Reading.{leaderAt};
@@ -14,22 +13,23 @@ ghost use Rattle.writing.specs.Plans.{settlePlan, revertPlan};
 ghost use Rattle.writing.specs.Asked.{HasSlot, RecordRead};
 ghost use Rattle.store.specs.Store.{store};
 
-fn plan_settle(mst: &[u8], xrf: &[u8], m: Mfn) -> Known
+fn plan_settle(mst: &[u8], xrf: &[u8], m: Mfn) -> Reached
     ensures { λ r. ⌜ r ≡ settlePlan (store (now (mst .entry)) (now (xrf .entry))) (m .0) ⌝ }
 {
-    let g = store::gate::open_gate(mst, xrf);
-    let Gate::Open { next, end } = g else {
-        return Known::Refused(store::gate::gate_answer(g));
-    };
-    let k = store::gate::find_record(mst, xrf, next, end, m);
-    let Known::Record { place, leader: _ } = k else {
-        return k;
+    let r = store::gate::reach(mst, xrf, m);
+    let Reached::There {
+        end: _,
+        place,
+        leader: _,
+    } = r
+    else {
+        return r;
     };
     let mark = place.mark;
     if let Mark::Settled = mark {
-        return Known::Refused(Answer::NotPending);
+        return Reached::Refused(Answer::NotPending);
     }
-    k
+    r
 }
 
 // Clears the back pointer and the mark of a pending record.
@@ -53,51 +53,61 @@ fn settle_place(mst: &mut [u8], xrf: &mut [u8], m: Mfn, place: Place)
 
 pub fn settle(mst: &mut [u8], xrf: &mut [u8], m: Mfn) -> Answer
     ensures answers { λ r. ⌜ r ≡ settleAnswer (store (now (mst .entry)) (now (xrf .entry))) (m .0) ⌝ }
-    ensures master { λ _. ⌜ now (mst .exit) ≡ settleLeaves (store (now (mst .entry)) (now (xrf .entry))) (m .0) .mst ⌝ }
-    ensures cross { λ _. ⌜ now (xrf .exit) ≡ settleLeaves (store (now (mst .entry)) (now (xrf .entry))) (m .0) .xrf ⌝ }
+    ensures left { λ _. ⌜ store (now (mst .exit)) (now (xrf .exit)) ≡ settleLeaves (store (now (mst .entry)) (now (xrf .entry))) (m .0) ⌝ }
 {
-    let k = plan_settle(mst, xrf, m);
-    let Known::Record { place, leader: _ } = k else {
-        return store::gate::known_answer(k);
+    let r = plan_settle(mst, xrf, m);
+    let Reached::There {
+        end: _,
+        place,
+        leader: _,
+    } = r
+    else {
+        return store::gate::reached_answer(r);
     };
     settle_place(mst, xrf, m, place);
     Answer::Done
 }
 
-fn plan_revert(mst: &[u8], xrf: &[u8], m: Mfn) -> Known
+fn plan_revert(mst: &[u8], xrf: &[u8], m: Mfn) -> Reached
     ensures { λ r. ⌜ r ≡ revertPlan (store (now (mst .entry)) (now (xrf .entry))) (m .0) ⌝ }
 {
-    let g = store::gate::open_gate(mst, xrf);
-    let Gate::Open { next, end } = g else {
-        return Known::Refused(store::gate::gate_answer(g));
-    };
-    let k = store::gate::find_both(mst, xrf, next, end, m);
-    let Known::Record { place, leader: _ } = k else {
-        return k;
+    let r = store::gate::reach_both(mst, xrf, m);
+    let Reached::There {
+        end: _,
+        place,
+        leader: _,
+    } = r
+    else {
+        return r;
     };
     let mark = place.mark;
     match mark {
-        Mark::Settled => Known::Refused(Answer::NotPending),
-        Mark::Changed => k,
-        Mark::New => Known::Refused(Answer::NeverSettled),
+        Mark::Settled => Reached::Refused(Answer::NotPending),
+        Mark::Changed => r,
+        Mark::New => Reached::Refused(Answer::NeverSettled),
     }
 }
 
 pub fn revert(mst: &[u8], xrf: &mut [u8], m: Mfn) -> Answer
     ensures answers { λ r. ⌜ r ≡ revertAnswer (store (now (mst .entry)) (now (xrf .entry))) (m .0) ⌝ }
-    ensures cross { λ _. ⌜ now (xrf .exit) ≡ revertLeaves (store (now (mst .entry)) (now (xrf .entry))) (m .0) .xrf ⌝ }
+    ensures left { λ _. ⌜ store (now (mst .entry)) (now (xrf .exit)) ≡ revertLeaves (store (now (mst .entry)) (now (xrf .entry))) (m .0) ⌝ }
 {
-    let k = plan_revert(mst, xrf, m);
-    let Known::Record { place: _, leader } = k else {
-        return store::gate::known_answer(k);
+    let r = plan_revert(mst, xrf, m);
+    let Reached::There {
+        end: _,
+        place: _,
+        leader,
+    } = r
+    else {
+        return store::gate::reached_answer(r);
     };
     let block = leader.mfbwb;
-    let p = Place {
+    let back = Place {
         block,
         offset: leader.mfbwp,
         deleted: false,
         mark: Mark::Settled,
     };
-    layout::cross_reference::put_entry(xrf, m, p);
+    layout::cross_reference::put_entry(xrf, m, back);
     Answer::Done
 }

@@ -6,6 +6,7 @@ use layout::sizes::Mfn;
 use store::answer::Answer;
 use store::gate::Gate;
 use store::gate::Known;
+use store::gate::Reached;
 ghost use mathlib.Core.Path.{_≡_};
 ghost use mathlib.Core.Bool.{true, false};
 ghost use Prim.Native.Nat.{_+_, _≤_};
@@ -18,22 +19,34 @@ ghost use Rattle.record.specs.Bytes.{needFor};
 ghost use Rattle.writing.specs.Refusals.{updateAppends, updateAnswer, deleteAnswer};
 ghost use Rattle.store.specs.Reading.{leaderAt, currentFields};
 ghost use Rattle.writing.specs.Calls.{appended, placeAtEnd, pendingMark, versionLeader, versionAppended, versionInPlace, updateLeaves, deleteLeaves};
-ghost use Rattle.writing.specs.Plans.{updatePlan, deletePlan, roomPlan};
+ghost use Rattle.writing.specs.Plans.{planAnswer, updatePlan, deletePlan, roomPlan};
 ghost use Rattle.writing.specs.Asked.{HasSlot, AtEnd, DraftFits, RecordRead};
 ghost use Rattle.store.specs.Store.{store, draft};
 
-// Where a new version goes, or the refusal.
+// Where a new version goes, at the end or in place, or the refusal. One variant carries all, so that it stays at one place in memory.
 pub enum Plan {
-    Append {
+    NewVersion {
         end: usize,
         place: Place,
         leader: Leader,
-    },
-    InPlace {
-        place: Place,
-        leader: Leader,
+        appends: bool,
     },
     Refuse(Answer),
+}
+
+// The refusal of a call that is not to write.
+fn plan_answer(plan: Plan) -> Answer
+    ensures { λ r. ⌜ r ≡ planAnswer plan ⌝ }
+{
+    match plan {
+        Plan::NewVersion {
+            end: _,
+            place: _,
+            leader: _,
+            appends: _,
+        } => Answer::Done,
+        Plan::Refuse(a) => a,
+    }
 }
 
 // Where a version of `need` bytes goes: at the end if `appends`, where there is room.
@@ -48,13 +61,17 @@ fn plan_room(
     requires { ⌜ (end ≤ 536870400) × (need ≤ 65536) ⌝ }
     ensures { λ r. ⌜ r ≡ roomPlan room end need appends place leader ⌝ }
 {
-    if !appends {
-        return Plan::InPlace { place, leader };
+    if appends {
+        if room < end + need {
+            return Plan::Refuse(Answer::NoRoom);
+        }
     }
-    if room < end + need {
-        return Plan::Refuse(Answer::NoRoom);
+    Plan::NewVersion {
+        end,
+        place,
+        leader,
+        appends,
     }
-    Plan::Append { end, place, leader }
 }
 
 // Whether the record is settled, or its MFRL is less than the need.
@@ -105,29 +122,24 @@ fn own_need(mst: &[u8], end: usize, place: Place, leader: Leader) -> usize
 fn plan_delete(mst: &[u8], xrf: &[u8], m: Mfn) -> Plan
     ensures { λ r. ⌜ r ≡ deletePlan (store (now (mst .entry)) (now (xrf .entry))) (m .0) ⌝ }
 {
-    let g = store::gate::open_gate(mst, xrf);
-    let Gate::Open { next, end } = g else {
-        return Plan::Refuse(store::gate::gate_answer(g));
-    };
-    let k = store::gate::find_record(mst, xrf, next, end, m);
-    let Known::Record { place, leader } = k else {
-        return Plan::Refuse(store::gate::known_answer(k));
+    let r = store::gate::reach(mst, xrf, m);
+    let Reached::There { end, place, leader } = r else {
+        return Plan::Refuse(store::gate::reached_answer(r));
     };
     if place.deleted {
         return Plan::Refuse(Answer::Deleted);
     }
     let mark = place.mark;
     let Mark::Settled = mark else {
-        return Plan::InPlace { place, leader };
+        return Plan::NewVersion {
+            end,
+            place,
+            leader,
+            appends: false,
+        };
     };
-    plan_room(
-        mst.len(),
-        end,
-        own_need(mst, end, place, leader),
-        true,
-        place,
-        leader,
-    )
+    let need = own_need(mst, end, place, leader);
+    plan_room(mst.len(), end, need, true, place, leader)
 }
 
 // The leader of a new version: its back pointer is to the old version if that is settled, else the old version's own.
@@ -217,21 +229,24 @@ pub fn update(
     data: &[u8],
 ) -> Answer
     ensures answers { λ r. ⌜ r ≡ updateAnswer (store (now (mst .entry)) (now (xrf .entry))) (m .0) (draft (now (tags .entry)) (now (lens .entry)) (now («data» .entry))) ⌝ }
-    ensures master { λ _. ⌜ now (mst .exit) ≡ updateLeaves (store (now (mst .entry)) (now (xrf .entry))) (m .0) (draft (now (tags .entry)) (now (lens .entry)) (now («data» .entry))) .mst ⌝ }
-    ensures cross { λ _. ⌜ now (xrf .exit) ≡ updateLeaves (store (now (mst .entry)) (now (xrf .entry))) (m .0) (draft (now (tags .entry)) (now (lens .entry)) (now («data» .entry))) .xrf ⌝ }
+    ensures left { λ _. ⌜ store (now (mst .exit)) (now (xrf .exit)) ≡ updateLeaves (store (now (mst .entry)) (now (xrf .entry))) (m .0) (draft (now (tags .entry)) (now (lens .entry)) (now («data» .entry))) ⌝ }
 {
     let plan = plan_update(mst, xrf, m, tags, lens, data);
-    match plan {
-        Plan::Append { end, place, leader } => {
-            update_at_end(mst, xrf, m, end, place, leader, tags, lens, data);
-            Answer::Done
-        }
-        Plan::InPlace { place, leader } => {
-            update_in_place(mst, m, place, leader, tags, lens, data);
-            Answer::Done
-        }
-        Plan::Refuse(a) => a,
+    let Plan::NewVersion {
+        end,
+        place,
+        leader,
+        appends,
+    } = plan
+    else {
+        return plan_answer(plan);
+    };
+    if appends {
+        update_at_end(mst, xrf, m, end, place, leader, tags, lens, data);
+        return Answer::Done;
     }
+    update_in_place(mst, m, place, leader, tags, lens, data);
+    Answer::Done
 }
 
 // Copies the fields of the record at a place to the end, under the leader `l`, and moves the end.
@@ -284,19 +299,22 @@ fn delete_in_place(mst: &mut [u8], xrf: &mut [u8], m: Mfn, place: Place, leader:
 
 pub fn delete(mst: &mut [u8], xrf: &mut [u8], m: Mfn) -> Answer
     ensures answers { λ r. ⌜ r ≡ deleteAnswer (store (now (mst .entry)) (now (xrf .entry))) (m .0) ⌝ }
-    ensures master { λ _. ⌜ now (mst .exit) ≡ deleteLeaves (store (now (mst .entry)) (now (xrf .entry))) (m .0) .mst ⌝ }
-    ensures cross { λ _. ⌜ now (xrf .exit) ≡ deleteLeaves (store (now (mst .entry)) (now (xrf .entry))) (m .0) .xrf ⌝ }
+    ensures left { λ _. ⌜ store (now (mst .exit)) (now (xrf .exit)) ≡ deleteLeaves (store (now (mst .entry)) (now (xrf .entry))) (m .0) ⌝ }
 {
     let plan = plan_delete(mst, xrf, m);
-    match plan {
-        Plan::Append { end, place, leader } => {
-            delete_at_end(mst, xrf, m, end, place, leader);
-            Answer::Done
-        }
-        Plan::InPlace { place, leader } => {
-            delete_in_place(mst, xrf, m, place, leader);
-            Answer::Done
-        }
-        Plan::Refuse(a) => a,
+    let Plan::NewVersion {
+        end,
+        place,
+        leader,
+        appends,
+    } = plan
+    else {
+        return plan_answer(plan);
+    };
+    if appends {
+        delete_at_end(mst, xrf, m, end, place, leader);
+        return Answer::Done;
     }
+    delete_in_place(mst, xrf, m, place, leader);
+    Answer::Done
 }

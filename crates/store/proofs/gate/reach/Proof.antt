@@ -18,6 +18,12 @@ gate-answer-requires c κs = search needs
 returns : tie.Need-returns
 returns c = search reach-answers
 
+slice-aggregate-find-record : tie.Need-slice-aggregate-find-record
+slice-aggregate-find-record c = search reach-answers
+
+slice-aggregate-find-record-2 : tie.Need-slice-aggregate-find-record-2
+slice-aggregate-find-record-2 c = search reach-answers
+
 find-record-requires : tie.Need-find-record-requires
 find-record-requires c κs = search reach-answers
 
@@ -45,6 +51,8 @@ reach-spec =
     enum-told
     gate-answer-requires
     returns
+    slice-aggregate-find-record
+    slice-aggregate-find-record-2
     find-record-requires
     enum-known-k
     enum-told-2

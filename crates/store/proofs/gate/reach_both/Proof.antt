@@ -18,6 +18,12 @@ gate-answer-requires c κs = search needs
 returns : tie.Need-returns
 returns c = search reach-answers
 
+slice-aggregate-find-both : tie.Need-slice-aggregate-find-both
+slice-aggregate-find-both c = search reach-answers
+
+slice-aggregate-find-both-2 : tie.Need-slice-aggregate-find-both-2
+slice-aggregate-find-both-2 c = search reach-answers
+
 find-both-requires : tie.Need-find-both-requires
 find-both-requires c κs = search reach-answers
 
@@ -45,6 +51,8 @@ reach-both-spec =
     enum-told
     gate-answer-requires
     returns
+    slice-aggregate-find-both
+    slice-aggregate-find-both-2
     find-both-requires
     enum-known-k
     enum-told-2

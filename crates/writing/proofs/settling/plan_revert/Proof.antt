@@ -1,34 +1,22 @@
-use Rattle.writing.proofs.Plans.{revert-plans}
 use borrow.Author.Needs.{needs}
+use Rattle.writing.proofs.Plans.{settle-plans}
 use Rattle.writing.proofs.settling.plan_revert.Statement.{statement}
 use Rattle.writing.proofs.settling.plan_revert.Tie as tie
 
-open-gate-requires : tie.Need-open-gate-requires
-open-gate-requires c κs = search needs
+reach-both-requires : tie.Need-reach-both-requires
+reach-both-requires c κs = search needs
 
-enum-known-g : tie.Need-enum-known-g
-enum-known-g c = search needs
+enum-known-r : tie.Need-enum-known-r
+enum-known-r c = search needs
 
 enum-told : tie.Need-enum-told
 enum-told c = search needs
 
-gate-answer-requires : tie.Need-gate-answer-requires
-gate-answer-requires c κs = search needs
-
 returns : tie.Need-returns
-returns c = search revert-plans
-
-find-both-requires : tie.Need-find-both-requires
-find-both-requires c κs = search revert-plans
-
-enum-known-k : tie.Need-enum-known-k
-enum-known-k c = search needs
+returns c = search settle-plans
 
 enum-told-2 : tie.Need-enum-told-2
 enum-told-2 c = search needs
-
-returns-2 : tie.Need-returns-2
-returns-2 c = search revert-plans
 
 enum-told-3 : tie.Need-enum-told-3
 enum-told-3 c = search needs
@@ -36,34 +24,26 @@ enum-told-3 c = search needs
 enum-told-4 : tie.Need-enum-told-4
 enum-told-4 c = search needs
 
-enum-told-5 : tie.Need-enum-told-5
-enum-told-5 c = search needs
+returns-2 : tie.Need-returns-2
+returns-2 c = search settle-plans
 
 returns-3 : tie.Need-returns-3
-returns-3 c = search revert-plans
+returns-3 c = search settle-plans
 
 returns-4 : tie.Need-returns-4
-returns-4 c = search revert-plans
-
-returns-5 : tie.Need-returns-5
-returns-5 c = search revert-plans
+returns-4 c = search settle-plans
 
 pub plan-revert-spec : {M : Type 1} → statement M
 plan-revert-spec =
     tie.close
     (tie.spec
-    open-gate-requires
-    enum-known-g
+    reach-both-requires
+    enum-known-r
     enum-told
-    gate-answer-requires
     returns
-    find-both-requires
-    enum-known-k
     enum-told-2
-    returns-2
     enum-told-3
     enum-told-4
-    enum-told-5
+    returns-2
     returns-3
-    returns-4
-    returns-5)
+    returns-4)
