@@ -71,7 +71,7 @@ leaderRight m deleted left l = extentRight m left l && baseRight l && statusRigh
 unfoldable pub recordRight : List ℕ → ℕ → Bool → Bool
 recordRight rec m deleted = leaderRight m deleted (length rec) (leaderOf rec) && fieldsRight rec (leaderOf rec)
 
--- what is enough to read a record's fields: its leader's lengths and its directory are right
+-- what follows of the sentences for whoever reads the fields, in numbers (`right-readable` of proofs/Facts)
 pub record Readable (rec : List ℕ) : Type 0 where
   pub base-is : leaderOf rec .base ≡ 18 + 6 * leaderOf rec .nvf
   pub base-in : leaderOf rec .base ≤ leaderOf rec .mfrl

@@ -253,7 +253,7 @@ module _ (mst xrf : List ℕ) (m : ℕ) (k : Known) (e : k ≡ knownOf (store ms
         module _ (w : Bool) (s : w ≡ settledFrom mst end m at) where
           version-is : versionFine mst m p ≡ w
           unfolding versionFine settledFrom
-          version-is = rw (c, settled-both mst m p, ← facts .leader-is, ← h, ← a, s)
+          version-is = rw (settled-both mst m p, c, ← facts .leader-is, ← h, ← a, s)
 
           pub both-broken : w ≡ false → Refused BadRecord ≡ knownBoth (store mst xrf) m
           unfolding knownBoth knownIf after numberOf
