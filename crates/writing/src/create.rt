@@ -71,7 +71,7 @@ fn plan_create(mst: &[u8], xrf: &[u8], tags: &[u16], lens: &[u16], data: &[u8]) 
 }
 
 // The place at the end.
-pub fn end_place(end: usize, deleted: bool, mark: Mark) -> Place
+pub(crate) fn end_place(end: usize, deleted: bool, mark: Mark) -> Place
     requires { ⌜ end ≤ 536870400 ⌝ }
     ensures is { λ r. ⌜ r ≡ placed (blockAt end) (offsetAt end) deleted mark ⌝ }
     ensures numbers { λ r. ⌜ (r .block .0 ≡ end / 512 + 1) × (r .offset ≡ end % 512) ⌝ }
@@ -85,7 +85,14 @@ pub fn end_place(end: usize, deleted: bool, mark: Mark) -> Place
 }
 
 // Writes a draft's record at the end, and moves the end.
-pub fn append_draft(mst: &mut [u8], end: usize, l: Leader, tags: &[u16], lens: &[u16], data: &[u8])
+pub(crate) fn append_draft(
+    mst: &mut [u8],
+    end: usize,
+    l: Leader,
+    tags: &[u16],
+    lens: &[u16],
+    data: &[u8],
+)
     requires { ⌜ draftRight (now tags) (now lens) (now «data») ≡ true ⌝ }
     requires { ⌜ (AtEnd (now mst) end (l .mfrl)) × (needOf (length (now tags)) (length (now «data»)) ≤ l .mfrl) ⌝ }
     ensures { λ _. ⌜ now (mst .exit) ≡ appended (now (mst .entry)) l (draftFields (now (tags .entry)) (now (lens .entry)) (now («data» .entry))) ⌝ }

@@ -102,12 +102,12 @@ pub fn revert(mst: &[u8], xrf: &mut [u8], m: Mfn) -> Answer
         return store::gate::reached_answer(r);
     };
     let block = leader.mfbwb;
-    let p = Place {
+    let back = Place {
         block,
         offset: leader.mfbwp,
         deleted: false,
         mark: Mark::Settled,
     };
-    layout::cross_reference::put_entry(xrf, m, p);
+    layout::cross_reference::put_entry(xrf, m, back);
     Answer::Done
 }
