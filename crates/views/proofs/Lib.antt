@@ -2,3 +2,5 @@ pub mod Lowest
 pub mod VersionAnswers
 pub mod ViewAnswers
 pub mod WalkAnswers
+pub mod ListAnswers
+pub mod StateAnswers
