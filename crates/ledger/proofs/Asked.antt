@@ -9,7 +9,6 @@ use borrow.Author.Tests.{ltb-false}
 use Rattle.layout.specs.Control.{endOf}
 use Rattle.layout.specs.declared.entry.Mark.the-variants.{Changed}
 use Rattle.layout.specs.declared.entry.Entry.the-variants.{At}
-use Rattle.record.specs.Draft.{draftRight, draftFields}
 use Rattle.record.specs.Bytes.{needFor}
 use Rattle.store.specs.Answer.{Refusal, refuse, lowest, numberOf}
 use Rattle.store.specs.Reading.{mfnKnown, entryFor, placeFor, isGone, isSettled, isNew, leaderAt, currentFields}
@@ -17,6 +16,7 @@ use Rattle.store.specs.Refusals.{named, fine, bothFine, exceeds, updateAppends,
 use Rattle.store.specs.declared.answer.Answer.the-variants.{Done, BadDraft, NoSuchMfn, PhysicallyDeleted, Deleted, NotPending, NeverSettled, NoRoom}
 use Rattle.store.proofs.Gates.{Refusing, passed, holds}
 use Rattle.store.proofs.Results.{only-changed}
+use Rattle.ledger.specs.Store.{Draft, isRight, fieldsIn}
 use Rattle.soundness.proofs.Standing.{Sound, gated-sound, named-fine, named-both, entry-for-place}
 
 -- ---- the answers of the rows are refusals
@@ -76,27 +76,27 @@ module _ {mst xrf : List ℕ} (s : Sound mst xrf) (m : ℕ) where
   room-for appends need e a = ltb-false (length mst) (endOf mst + need) (rw a at e)
 
   -- an update that is done
-  pub record UpdateAsked (tags lens bytes : List ℕ) : Type 0 where
-    pub draft : draftRight tags lens bytes ≡ true
+  pub record UpdateAsked (d : Draft) : Type 0 where
+    pub draft : isRight d ≡ true
     pub here : There mst xrf m
     pub live : placeFor mst xrf m .deleted ≡ false
-    pub room : updateAppends (placeFor mst xrf m) (leaderAt mst (placeFor mst xrf m)) (needFor (draftFields tags lens bytes)) ≡ true
-        → endOf mst + needFor (draftFields tags lens bytes) ≤ length mst
+    pub room : updateAppends (placeFor mst xrf m) (leaderAt mst (placeFor mst xrf m)) (needFor (fieldsIn d)) ≡ true
+        → endOf mst + needFor (fieldsIn d) ≤ length mst
 
-  pub update-asked : (tags lens bytes : List ℕ) → updateAnswer mst xrf m tags lens bytes ≡ Done → UpdateAsked tags lens bytes
+  pub update-asked : (d : Draft) → updateAnswer mst xrf m (d .tags) (d .lens) (d .bytes) ≡ Done → UpdateAsked d
   unfolding updateAnswer
-  update-asked tags lens bytes e =
-      let need = needFor (draftFields tags lens bytes) in
+  update-asked d e =
+      let need = needFor (fieldsIn d) in
       let p = placeFor mst xrf m in
       let last : List Refusal = refuse NoRoom (updateAppends p (leaderAt mst p) need && exceeds mst need) ∷ [] in
       let rest : List Refusal = refuse Deleted (p .deleted) ∷ last in
-      let d =
-      holds (draftRight tags lens bytes) BadDraft (lowest (named mst xrf m (fine mst xrf m) rest)) no-draft
-      (sym (gated-sound s (refuse BadDraft (not (draftRight tags lens bytes)) ∷ named mst xrf m (fine mst xrf m) rest)) ∙ e) in
-      let h = there rest (d .1) in
+      let r =
+      holds (isRight d) BadDraft (lowest (named mst xrf m (fine mst xrf m) rest)) no-draft
+      (sym (gated-sound s (refuse BadDraft (not (isRight d)) ∷ named mst xrf m (fine mst xrf m) rest)) ∙ e) in
+      let h = there rest (r .1) in
       let l = passed (p .deleted) Deleted (lowest last) no-live (h .1) in
-      let r = passed (updateAppends p (leaderAt mst p) need && exceeds mst need) NoRoom Done no-room (l .1) in
-      record { draft = d .0; here = h .0; live = l .0; room = λ a. room-for (updateAppends p (leaderAt mst p) need) need (r .0) a }
+      let w = passed (updateAppends p (leaderAt mst p) need && exceeds mst need) NoRoom Done no-room (l .1) in
+      record { draft = r .0; here = h .0; live = l .0; room = λ a. room-for (updateAppends p (leaderAt mst p) need) need (w .0) a }
 
   -- a delete that is done
   pub record DeleteAsked : Type 0 where

@@ -9,7 +9,7 @@ use Rattle.store.specs.declared.answer.Answer.{Answer}
 use Rattle.store.specs.declared.answer.Answer.the-variants.{Done}
 use Rattle.store.proofs.Gates.{number-done, after-done, after-refused}
 use Rattle.ledger.specs.Ledger.{Ledger}
-use Rattle.ledger.specs.StoreRun.{Store, store}
+use Rattle.ledger.specs.Store.{Store, store}
 use Rattle.ledger.specs.LedgerOf.{ledgerOf, SoundStore}
 
 -- what a call leaves, and the ledger after it

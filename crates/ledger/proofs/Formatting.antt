@@ -18,7 +18,8 @@ use Rattle.soundness.proofs.Standing.{sound}
 use Rattle.soundness.proofs.Writes.{format-sound}
 use Rattle.ledger.specs.Call.{format}
 use Rattle.ledger.specs.Ledger.{empty}
-use Rattle.ledger.specs.StoreRun.{Store, nextS}
+use Rattle.ledger.specs.Store.{Store}
+use Rattle.ledger.specs.StoreRun.{nextS}
 use Rattle.ledger.specs.LedgerOf.{tabulate, ledgerOf, SoundStore}
 
 -- a store just formatted

@@ -10,7 +10,7 @@ use Rattle.layout.specs.declared.entry.Entry.the-variants.{Gone, At}
 use Rattle.store.specs.Reading.{lengthsPermitted, controlFine, mfnKnown, entryFor, recordFine, versionFine}
 use Rattle.store.proofs.Gates.{mfn-facts}
 use Rattle.ledger.specs.Ledger.{nextMfn, itemOf, lengthsFine, mfnIn}
-use Rattle.ledger.specs.StoreRun.{Store}
+use Rattle.ledger.specs.Store.{Store}
 use Rattle.ledger.specs.LedgerOf.{itemAt, ledgerOf}
 use Rattle.ledger.proofs.Items.{tabulate-length, tabulate-at}
 

@@ -22,9 +22,11 @@ use Rattle.store.specs.Calls.{foundStart, foundLength, shownAt, viewOf, settled
 use Rattle.store.specs.declared.answer.Answer.{Answer}
 use Rattle.store.specs.declared.answer.Answer.the-variants.{NoSuchMfn, PhysicallyDeleted}
 use Rattle.store.proofs.Gates.{Refusing, after-refused, fine-reads, settled-fine-reads}
-use Rattle.ledger.specs.Call.{Outcome, view, viewSettled}
-use Rattle.ledger.specs.Ledger.{itemOf, fieldsIn, standingIn, settledFields, bytesOf, answerL}
-use Rattle.ledger.specs.StoreRun.{Store, answerS}
+use Rattle.ledger.specs.Call.{outcome, view, viewSettled}
+use Rattle.ledger.specs.Ledger.{itemOf, keptFields, settledFields}
+use Rattle.ledger.specs.LedgerAnswers.{bytesOf, givesL, answerL}
+use Rattle.ledger.specs.Store.{Store}
+use Rattle.ledger.specs.StoreRun.{answerS}
 use Rattle.ledger.specs.LedgerOf.{ledgerOf}
 use Rattle.ledger.proofs.Reading.{Opened, Seen, absent, physically, present}
 use Rattle.ledger.proofs.Showing.{shown-done}
@@ -53,7 +55,7 @@ unfolding numberOf
 refusing-gone a e z = let y : _≡_ {A = ℕ} 7 0 = sym (ap numberOf e) ∙ z in omega arith
 
 -- two outcomes are equal by their parts
-same-outcome : (a b : Answer) (x y : List ℕ) → a ≡ b → x ≡ y → _≡_ {A = Outcome} (record { answer = a; mfn = 0; shown = x }) (record { answer = b; mfn = 0; shown = y })
+same-outcome : (a b : Answer) (x y : List ℕ) → a ≡ b → x ≡ y → outcome a 0 x ≡ outcome b 0 y
 same-outcome a b x y p q = rw (p, q)
 
 module _ (s : Store) (o : Opened s) where
@@ -66,7 +68,7 @@ module _ (s : Store) (o : Opened s) where
   view-gone m tag occ k e = rw (o .lengths, o .control, k, e)
 
   view-shown : (m tag occ : ℕ) → Seen s m
-      → shownBytes (s .mst) (viewOf (s .mst) (s .xrf) m tag occ) ≡ after (viewAnswer (s .mst) (s .xrf) m tag occ) (bytesOf (fieldNamed (fieldsIn (itemOf (ledgerOf s) m)) tag occ)) []
+      → shownBytes (s .mst) (viewOf (s .mst) (s .xrf) m tag occ) ≡ after (viewAnswer (s .mst) (s .xrf) m tag occ) (bytesOf (fieldNamed (keptFields (itemOf (ledgerOf s) m)) tag occ)) []
   unfolding viewOf
   view-shown m tag occ (absent k) = shown-none (s .mst) (viewAnswer (s .mst) (s .xrf) m tag occ) _ _ _ (refusing-absent _ (view-absent m tag occ k))
   view-shown m tag occ (physically k e) = shown-none (s .mst) (viewAnswer (s .mst) (s .xrf) m tag occ) _ _ _ (refusing-gone _ (view-gone m tag occ k e))
@@ -79,10 +81,10 @@ module _ (s : Store) (o : Opened s) where
       )
 
   pub view-outcome : (m tag occ : ℕ) → Seen s m → answerS s (view m tag occ) ≡ answerL (ledgerOf s) (view m tag occ)
-  unfolding answerS answerL viewOf shownAt
+  unfolding answerS answerL givesL viewOf shownAt
   view-outcome m tag occ w =
       same-outcome _ _ _ _ (view-answer s o m tag occ w)
-      (view-shown m tag occ w ∙ ap (λ (a : Answer). after a (bytesOf (fieldNamed (fieldsIn (itemOf (ledgerOf s) m)) tag occ)) []) (view-answer s o m tag occ w))
+      (view-shown m tag occ w ∙ ap (λ (a : Answer). after a (bytesOf (fieldNamed (keptFields (itemOf (ledgerOf s) m)) tag occ)) []) (view-answer s o m tag occ w))
 
   -- the record of the settled view, by the mark
   version-shown : (m tag occ : ℕ) (p : Place) → recordFine (s .mst) m p ≡ true → versionFine (s .mst) m p ≡ true → (k : Mark) → p .mark ≡ k
@@ -105,7 +107,7 @@ module _ (s : Store) (o : Opened s) where
 
   settled-shown : (m tag occ : ℕ) → Seen s m
       → shownBytes (s .mst) (settledViewOf (s .mst) (s .xrf) m tag occ)
-      ≡ after (settledViewAnswer (s .mst) (s .xrf) m tag occ) (bytesOf (fieldNamed (settledFields (fieldsIn (itemOf (ledgerOf s) m)) (standingIn (itemOf (ledgerOf s) m))) tag occ)) []
+      ≡ after (settledViewAnswer (s .mst) (s .xrf) m tag occ) (bytesOf (fieldNamed (settledFields (itemOf (ledgerOf s) m)) tag occ)) []
   unfolding settledViewOf
   settled-shown m tag occ (absent k) = shown-none (s .mst) (settledViewAnswer (s .mst) (s .xrf) m tag occ) _ _ _ (refusing-absent _ (settled-absent m tag occ k))
   settled-shown m tag occ (physically k e) = shown-none (s .mst) (settledViewAnswer (s .mst) (s .xrf) m tag occ) _ _ _ (refusing-gone _ (settled-gone m tag occ k e))
@@ -119,9 +121,9 @@ module _ (s : Store) (o : Opened s) where
       )
 
   pub settled-view-outcome : (m tag occ : ℕ) → Seen s m → answerS s (viewSettled m tag occ) ≡ answerL (ledgerOf s) (viewSettled m tag occ)
-  unfolding answerS answerL settledViewOf shownAt
+  unfolding answerS answerL givesL settledViewOf shownAt
   settled-view-outcome m tag occ w =
       same-outcome _ _ _ _ (settled-view-answer s o m tag occ w)
       (settled-shown m tag occ w
-      ∙ ap (λ (a : Answer). after a (bytesOf (fieldNamed (settledFields (fieldsIn (itemOf (ledgerOf s) m)) (standingIn (itemOf (ledgerOf s) m))) tag occ)) [])
+      ∙ ap (λ (a : Answer). after a (bytesOf (fieldNamed (settledFields (itemOf (ledgerOf s) m)) tag occ)) [])
       (settled-view-answer s o m tag occ w))
