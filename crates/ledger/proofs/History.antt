@@ -16,7 +16,7 @@ use Rattle.ledger.specs.LedgerSteps.{nextL, afterL}
 use Rattle.ledger.specs.StoreRun.{answerS, nextS, afterS}
 use Rattle.ledger.specs.LedgerOf.{markingAt, ledgerOf, SoundStore}
 use Rattle.ledger.specs.Demand3.{Kept}
-use Rattle.ledger.specs.History.{Every, none, more, LiveSettled, Changes, LeavesPending, SettledVersion, LeavesNew, NeverSettledYet}
+use Rattle.ledger.specs.History.{Every, none, more, LiveSettled, UpdatesOrDeletes, LeavesPending, SettledVersion, LeavesNew, NeverSettledYet}
 use Rattle.ledger.proofs.Reading.{lengths-are, mfn-is}
 use Rattle.ledger.proofs.Answering.{item-at}
 use Rattle.ledger.proofs.Theorem.{opened, step, answers-are-the-ledgers}
@@ -82,7 +82,7 @@ module _ (s : Store) (h : SoundStore s) (m : ℕ) (a : LiveSettled s m) where
   viewed : (tag occ : ℕ) → answerS s (view m tag occ) ≡ fieldShown fields tag occ
   viewed tag occ = answered (holds-own s h) (view m tag occ) ∙ live-view (ledgerOf s) m known fields settled item tag occ
 
-  pub settled-version : (c : Call) → Changes m c → answerS s c .answer ≡ Done → (cs : List Call) → Every (LeavesPending m) cs → SettledVersion s m c cs
+  pub settled-version : (c : Call) → UpdatesOrDeletes m c → answerS s c .answer ≡ Done → (cs : List Call) → Every (LeavesPending m) cs → SettledVersion s m c cs
   settled-version c b e cs q =
       record {
         readable = λ done rest z tag occ.

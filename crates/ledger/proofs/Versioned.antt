@@ -15,7 +15,7 @@ use Rattle.ledger.specs.Call.{Call, view, viewSettled, create, update, d
 use Rattle.ledger.specs.Ledger.{Marking, settled, new, changed, Item, held, Ledger, nextMfn, lengthsFine, itemOf, settledFields}
 use Rattle.ledger.specs.LedgerAnswers.{isNone, bytesOf, appends, refusalsL, numberL, theField, givesL, outcomeOf, answerL}
 use Rattle.ledger.specs.LedgerSteps.{applied, endWith, effectOf, nextL}
-use Rattle.ledger.specs.History.{Changes, updates, deletes}
+use Rattle.ledger.specs.History.{UpdatesOrDeletes, updates, deletes}
 use Rattle.ledger.proofs.Effects.{Known, known-in, create-lengths, set-own, added-long, added-own}
 use Rattle.ledger.proofs.Between.{Marked, Over, Fresh, marked-own}
 
@@ -33,7 +33,7 @@ module _ (L : Ledger) (m : ℕ) (k : Known L m) where
   settled-view fs i tag occ = rw (k .lengths, known-in k, i)
 
   -- an update or a delete of a settled record that is done is a change over the fields that it had
-  pub change-pends : (fs : List Field) → itemOf L m ≡ held fs false settled → (c : Call) → Changes m c → numberL L c ≡ Done → Marked (Over fs) m (nextL L c)
+  pub change-pends : (fs : List Field) → itemOf L m ≡ held fs false settled → (c : Call) → UpdatesOrDeletes m c → numberL L c ≡ Done → Marked (Over fs) m (nextL L c)
   unfolding nextL effectOf appends
   change-pends fs i _ (updates d) e =
       rw (after-done (numberL L (update m d)) (applied L (effectOf L (update m d))) L e, i)

@@ -22,7 +22,7 @@ use Rattle.store.proofs.Gates.{MfnFacts, mfn-facts}
 use Rattle.soundness.proofs.Standing.{Sound, sound}
 use Rattle.soundness.proofs.Writes.{Leaves, update-appends, update-stays, delete-appends, delete-stays, settled-leaves, reverted-leaves}
 use Rattle.ledger.specs.Call.{update, delete, settle, revert}
-use Rattle.ledger.specs.Ledger.{changed, held, Ledger, keptLength, itemOf, settledOr}
+use Rattle.ledger.specs.Ledger.{settled, changed, held, Ledger, itemOf, keptLength, settledOr, settledFields}
 use Rattle.ledger.specs.LedgerAnswers.{appends}
 use Rattle.ledger.specs.LedgerSteps.{Effect, itemSet, applied, versionMark, effectOf}
 use Rattle.ledger.specs.Store.{store, Draft, fieldsIn}
@@ -130,13 +130,19 @@ module _ (mst xrf : List ℕ) (s : Sound mst xrf) (m : ℕ) (o : Opened (store m
   unfolding effectOf
   settle-left = left-set (settled-leaves s m p (range .low) (range .high) (t .entry)) (effectOf L (settle m)) (rw (item, end-is))
 
+  abbrev settledEnd : List Field → ℕ → Effect
+  settledEnd fs end = itemSet m (held fs false settled) end
+
   changed-fields : (k : Mark) → k ≡ Changed → settledOr (currentFields mst p) (markingAt mst p k) ≡ fieldsOf (settledRecord mst p)
   changed-fields Settled e = let z : _≡_ {A = ℕ} 0 1 = cc in absurd (omega arith)
   changed-fields Changed e = refl
   changed-fields New e = let z : _≡_ {A = ℕ} 0 1 = cc in absurd (omega arith)
 
+  reverted-fields : p .mark ≡ Changed → fieldsOf (settledRecord mst p) ≡ settledFields (itemOf L m)
+  reverted-fields c = rw item (sym (changed-fields (p .mark) c))
+
   pub revert-left : p .mark ≡ Changed → Left (store mst (revertedXrf mst xrf m p)) (applied L (effectOf L (revert m)))
   unfolding effectOf
   revert-left c =
       left-set (reverted-leaves s m p (range .low) (range .high) (t .entry) c) (effectOf L (revert m))
-      (rw (item, end-is, changed-fields (p .mark) c))
+      (ap (λ (fs : List Field). settledEnd fs (endOf mst)) (reverted-fields c) ∙ ap (settledEnd (settledFields (itemOf L m))) (sym end-is))

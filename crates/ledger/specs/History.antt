@@ -34,9 +34,9 @@ pub record LiveSettled (s : Store) (m : ℕ) : Type 0 where
   pub settled : place .mark ≡ Settled
 
 -- a call is an update or a delete of m
-pub data Changes (m : ℕ) : Call → Type 0 where
-  updates : (d : Draft) → Changes m (update m d)
-  deletes : Changes m (delete m)
+pub data UpdatesOrDeletes (m : ℕ) : Call → Type 0 where
+  updates : (d : Draft) → UpdatesOrDeletes m (update m d)
+  deletes : UpdatesOrDeletes m (delete m)
 
 -- it neither settles nor reverts m, nor formats
 pub record LeavesPending (m : ℕ) (c : Call) : Type 0 where
