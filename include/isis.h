@@ -13,9 +13,29 @@
  * Every function may be called on any bytes with any arguments; it stays inside
  * what it is lent and always ends. C's own rules are all that is asked for:
  *   - every pointer is valid for its length, counted in elements;
+ *   - a pointer may be NULL where its length is 0; an output's may not;
  *   - no area that is written overlaps another area.
- * A refused call (any answer but 0) changes no byte of the MST or the XRF and
- * sets its outputs to 0. Nothing is kept between calls and nothing is allocated.
+ * A refused call (any answer but 0) changes no byte of the MST, the XRF or a list
+ * that it is lent for its outputs, and sets its other outputs to 0. A call that is done writes its outputs and the bytes that
+ * its paragraph names under "Touches", and no other; what is lent as const is
+ * only read. So firmware needs to flush no more than these.
+ *
+ * Nothing is kept between calls and nothing is allocated: every function may be
+ * entered again while it runs, from an interrupt or another thread, as long as no
+ * call writes a buffer that another one is using.
+ *
+ * The archive. `rt staticlib isis` writes it for x86-64, `./key-archive` for
+ * cortex-m0, cortex-m3, cortex-m4 and 64-bit Arm, all from one proved module.
+ * Lengths have 64 bits on every one of them, see isis_size. What it needs from
+ * the program that it is linked into:
+ *   x86-64     memset
+ *   aarch64    memset
+ *   cortex-m0  __aeabi_lmul __aeabi_memclr __aeabi_memcpy __aeabi_uldivmod
+ *   cortex-m3  __aeabi_memclr __aeabi_memcpy __aeabi_uldivmod
+ *   cortex-m4  __aeabi_memclr __aeabi_memcpy __aeabi_uldivmod
+ * The C library and the compiler's own have them. The code for cortex-m3 and
+ * cortex-m4 reads and writes words at any address, so UNALIGN_TRP stays 0, as it
+ * is after reset.
  */
 #ifndef ISIS_H
 #define ISIS_H
@@ -27,114 +47,196 @@
 extern "C" {
 #endif
 
+/* The interface. The first number rises when a function that was here changes, the second when something is added. */
+#define ISIS_VERSION_MAJOR 1
+#define ISIS_VERSION_MINOR 1
+
+/* The format. */
+#define ISIS_BLOCK           512     /* bytes of a block, of either file */
+#define ISIS_MST_BLOCKS_MAX  1048575 /* an MST has 1 to so many blocks */
+#define ISIS_XRF_BLOCKS_MAX  4096    /* an XRF has 1 to so many blocks */
+#define ISIS_MFNS_PER_BLOCK  127     /* MFNs that a block of the XRF has entries for */
+#define ISIS_FIRST_RECORD    64      /* the first record's place; the control record stands before it */
+#define ISIS_LEADER          18      /* bytes of a record's leader, and so of the shortest record */
+#define ISIS_DIRECTORY_ENTRY 6       /* bytes of a record's directory for each field */
+#define ISIS_RECORD_MAX      32766   /* bytes of the longest record */
+#define ISIS_TAG_MAX         32767   /* the highest tag; the lowest is 1 */
+#define ISIS_FIELDS_MAX      5458    /* the most fields of a record */
+
+/* Bytes that a draft of so many fields and so many bytes of data takes in the MST: always even. */
+#define ISIS_NEED(fields, data) ((ISIS_LEADER + ISIS_DIRECTORY_ENTRY * (fields) + (data) + 1) / 2 * 2)
+
+/* Where the four bytes of an MFN's entry begin in the XRF. */
+#define ISIS_ENTRY_AT(mfn) \
+    (((mfn) - 1) / ISIS_MFNS_PER_BLOCK * ISIS_BLOCK + 4 + ((mfn) - 1) % ISIS_MFNS_PER_BLOCK * 4)
+
+/* A length, a start or an index: 64 bits wide on every processor, as in the library's proofs. */
+#if SIZE_MAX == UINT64_MAX
+typedef size_t isis_size;
+#else
+typedef uint64_t isis_size;
+#endif
+
+/* No compiler accepts this where isis_size is not what the archive passes. */
+typedef char isis_size_has_64_bits[sizeof(isis_size) == 8 && (isis_size)-1 > 0 ? 1 : -1];
+
 /* The answers. Where more than one refusal applies, the lowest number is given. */
 enum isis_answer {
-    ISIS_DONE          = 0,  /* done */
-    ISIS_BAD_LENGTH    = 1,  /* a buffer is not 1 to 1048575 (MST) or 1 to 4096 (XRF) blocks of 512 bytes */
-    ISIS_BAD_CONTROL   = 2,  /* the control record (MST bytes 0 to 15) is not right */
-    ISIS_BAD_DRAFT     = 3,  /* the draft is not right, see isis_create */
-    ISIS_NO_MFN        = 4,  /* the MFN is 0 or was never given out */
-    ISIS_NO_SLOT       = 5,  /* create: every MFN of the XRF is given out */
-    ISIS_BAD_ENTRY     = 6,  /* the MFN's entry is malformed, or its XRF block is misnumbered */
-    ISIS_GONE          = 7,  /* the record is physically deleted */
-    ISIS_BAD_RECORD    = 8,  /* the record, or the settled version that is needed, is not well formed */
-    ISIS_DELETED       = 9,  /* the record is deleted */
-    ISIS_NOT_PENDING   = 10, /* settle, revert: nothing is pending */
-    ISIS_NEVER_SETTLED = 11, /* revert, a field of the settled version: the record was never settled */
-    ISIS_NO_FIELD      = 12, /* no field of that tag and occurrence, or of that index */
-    ISIS_NO_ROOM       = 13, /* the record does not fit before the end of the MST */
-    ISIS_NOT_SOUND     = 14  /* check: the store is not sound */
+    ISIS_DONE            = 0,  /* done */
+    ISIS_BAD_LENGTH      = 1,  /* a buffer is not 1 to 1048575 (MST) or 1 to 4096 (XRF) blocks of 512 bytes */
+    ISIS_BAD_CONTROL     = 2,  /* the control record (MST bytes 0 to 15) is not right */
+    ISIS_BAD_DRAFT       = 3,  /* the draft is not right, see isis_create */
+    ISIS_NO_MFN          = 4,  /* the MFN is 0 or was never given out */
+    ISIS_NO_SLOT         = 5,  /* create: every MFN of the XRF is given out */
+    ISIS_BAD_ENTRY       = 6,  /* the MFN's entry names no place that a record can have, holds both marks, or is 0;
+                                  the first integer of its XRF block is wrong; create: the next MFN's entry is not 0 */
+    ISIS_GONE            = 7,  /* the record is physically deleted */
+    ISIS_BAD_RECORD      = 8,  /* the record, or the settled version that is needed, is not well formed */
+    ISIS_DELETED         = 9,  /* the record is deleted, pending or settled; where the settled version is asked for:
+                                  deleted, and the deletion is settled */
+    ISIS_NOT_PENDING     = 10, /* settle, revert: nothing is pending */
+    ISIS_NEVER_SETTLED   = 11, /* revert, a field of the settled version: the record was never settled */
+    ISIS_NO_FIELD        = 12, /* no field of that tag and occurrence, or of that index */
+    ISIS_NO_ROOM         = 13, /* the record does not fit before the end of the MST */
+    ISIS_NOT_SOUND       = 14, /* check: the store is not sound */
+    ISIS_NO_ROOM_IN_LIST = 17  /* a list that is lent for outputs is too short for them */
 };
 
 /*
  * Empties a card: both buffers are filled with zero and get the control record
  * and the block numbers of an empty catalogue. Answers 0 or 1.
+ * Touches every byte of both.
  */
-uint32_t isis_format(uint8_t *mst, size_t mst_len, uint8_t *xrf, size_t xrf_len);
+uint32_t isis_format(uint8_t *mst, isis_size mst_len, uint8_t *xrf, isis_size xrf_len);
 
 /*
  * Shows a field of the current version of a record. The field is the part
- * mst[*start] to mst[*start + *len - 1]; it may be empty. Changes nothing.
+ * mst[*start] to mst[*start + *len - 1]; it may be empty.
  * Answers 0, 1, 2, 4, 6, 7, 8, 9 or 12.
  */
-uint32_t isis_view(const uint8_t *mst, size_t mst_len, const uint8_t *xrf, size_t xrf_len,
+uint32_t isis_view(const uint8_t *mst, isis_size mst_len, const uint8_t *xrf, isis_size xrf_len,
                    uint32_t mfn, uint16_t tag, uint32_t occurrence,
-                   size_t *start, size_t *len);
+                   isis_size *start, isis_size *len);
 
 /*
  * Shows a field of the settled version of a record: the version before the
  * pending change, or the current one if nothing is pending. It is there even
- * while the deletion of the record is pending. Changes nothing.
+ * while the deletion of the record is pending.
  * Answers 0, 1, 2, 4, 6, 7, 8, 9, 11 or 12.
  */
-uint32_t isis_view_settled(const uint8_t *mst, size_t mst_len, const uint8_t *xrf, size_t xrf_len,
+uint32_t isis_view_settled(const uint8_t *mst, isis_size mst_len, const uint8_t *xrf, isis_size xrf_len,
                            uint32_t mfn, uint16_t tag, uint32_t occurrence,
-                           size_t *start, size_t *len);
+                           isis_size *start, isis_size *len);
 
 /*
  * Hands out a field of the current version of a record by its index in the
  * record's directory, counted from 0: its tag, and where it lies as in isis_view.
  * The indexes from 0 up to the first answer 12 give every field, in the order of
- * the draft that wrote them. Changes nothing.
- * Answers 0, 1, 2, 4, 6, 7, 8, 9 or 12.
+ * the draft that wrote them. Answers 0, 1, 2, 4, 6, 7, 8, 9 or 12.
  */
-uint32_t isis_field(const uint8_t *mst, size_t mst_len, const uint8_t *xrf, size_t xrf_len,
-                    uint32_t mfn, size_t index, uint16_t *tag, size_t *start, size_t *len);
+uint32_t isis_field(const uint8_t *mst, isis_size mst_len, const uint8_t *xrf, isis_size xrf_len,
+                    uint32_t mfn, isis_size index, uint16_t *tag, isis_size *start, isis_size *len);
 
 /*
- * The same for the settled version, as in isis_view_settled. Changes nothing.
+ * The same for the settled version, as in isis_view_settled.
  * Answers 0, 1, 2, 4, 6, 7, 8, 9, 11 or 12.
  */
-uint32_t isis_field_settled(const uint8_t *mst, size_t mst_len, const uint8_t *xrf, size_t xrf_len,
-                            uint32_t mfn, size_t index, uint16_t *tag, size_t *start, size_t *len);
+uint32_t isis_field_settled(const uint8_t *mst, isis_size mst_len, const uint8_t *xrf, isis_size xrf_len,
+                            uint32_t mfn, isis_size index, uint16_t *tag, isis_size *start, isis_size *len);
+
+/*
+ * Hands out all fields of the current version of a record in one call, in the
+ * order of the record's directory: tags[i], and the part of the MST that begins
+ * at starts[i] and has lens[i] bytes. *count is the number of fields; the first so
+ * many elements of each list are written and the others kept. A record has at
+ * most ISIS_FIELDS_MAX fields.
+ * Answers 0, 1, 2, 4, 6, 7, 8, 9 or 17, the last where one of the three lists has
+ * fewer elements than the record has fields.
+ */
+uint32_t isis_fields(const uint8_t *mst, isis_size mst_len, const uint8_t *xrf, isis_size xrf_len,
+                     uint32_t mfn, uint16_t *tags, isis_size tags_len,
+                     isis_size *starts, isis_size starts_len,
+                     isis_size *lens, isis_size lens_len, isis_size *count);
+
+/*
+ * The same for the settled version, as in isis_view_settled.
+ * Answers 0, 1, 2, 4, 6, 7, 8, 9, 11 or 17.
+ */
+uint32_t isis_fields_settled(const uint8_t *mst, isis_size mst_len, const uint8_t *xrf, isis_size xrf_len,
+                             uint32_t mfn, uint16_t *tags, isis_size tags_len,
+                             isis_size *starts, isis_size starts_len,
+                             isis_size *lens, isis_size lens_len, isis_size *count);
+
+/*
+ * Tells what the next create is given: its MFN, and the end, where its record
+ * begins in the MST. Answers 0, 1 or 2.
+ */
+uint32_t isis_next(const uint8_t *mst, isis_size mst_len, const uint8_t *xrf, isis_size xrf_len,
+                   uint32_t *next, isis_size *end);
+
+/*
+ * Tells the state of a record: *mark is 0 if nothing is pending, 1 if a settled
+ * record was changed, 2 if the record was never settled; *deleted is 1 if it is
+ * deleted, pending or settled, and 0 if not. Answers 0, 1, 2, 4, 6, 7 or 8.
+ */
+uint32_t isis_state(const uint8_t *mst, isis_size mst_len, const uint8_t *xrf, isis_size xrf_len,
+                    uint32_t mfn, uint32_t *mark, uint32_t *deleted);
 
 /*
  * Writes a new record at the end of the MST, pending, and gives its MFN.
  * The draft is three lists: the fields' tags, their lengths, and their bytes one
  * after the other. It is right if tags_len equals lens_len, every tag is in 1 to
- * 32767, the lengths sum to data_len, and 18 + 6 for each field + data_len,
- * rounded up to even, is at most 32766. No fields and empty fields are permitted.
+ * 32767, the lengths sum to data_len, and ISIS_NEED(tags_len, data_len) is at most
+ * 32766. No fields and empty fields are permitted.
  * Answers 0, 1, 2, 3, 5, 6 or 13.
+ * Touches bytes 4 to 13 of the MST, as many bytes as the draft needs from the end
+ * on, and the four bytes of the MFN's entry in the XRF.
  */
-uint32_t isis_create(uint8_t *mst, size_t mst_len, uint8_t *xrf, size_t xrf_len,
-                     const uint16_t *tags, size_t tags_len,
-                     const uint16_t *lens, size_t lens_len,
-                     const uint8_t *data, size_t data_len, uint32_t *mfn);
+uint32_t isis_create(uint8_t *mst, isis_size mst_len, uint8_t *xrf, isis_size xrf_len,
+                     const uint16_t *tags, isis_size tags_len,
+                     const uint16_t *lens, isis_size lens_len,
+                     const uint8_t *data, isis_size data_len, uint32_t *mfn);
 
 /*
  * Replaces all fields of a record by a draft's; the change is pending. The
  * settled version, if there is one, is kept.
  * Answers 0, 1, 2, 3, 4, 6, 7, 8, 9 or 13.
+ * Touches the record's own bytes in the MST if it was pending and is long enough
+ * for the draft; otherwise bytes 8 to 13 of the MST, as many bytes as the draft
+ * needs from the end on, and the four bytes of the entry in the XRF.
  */
-uint32_t isis_update(uint8_t *mst, size_t mst_len, uint8_t *xrf, size_t xrf_len, uint32_t mfn,
-                     const uint16_t *tags, size_t tags_len,
-                     const uint16_t *lens, size_t lens_len,
-                     const uint8_t *data, size_t data_len);
+uint32_t isis_update(uint8_t *mst, isis_size mst_len, uint8_t *xrf, isis_size xrf_len, uint32_t mfn,
+                     const uint16_t *tags, isis_size tags_len,
+                     const uint16_t *lens, isis_size lens_len,
+                     const uint8_t *data, isis_size data_len);
 
 /*
  * Deletes a record; the deletion is pending. Its settled version, if there is
  * one, is kept. Answers 0, 1, 2, 4, 6, 7, 8, 9 or 13.
+ * Touches the four bytes of the entry in the XRF; in the MST the record's own
+ * bytes if it was pending, otherwise bytes 8 to 13 and, from the end on, as many
+ * bytes as a draft of its fields needs.
  */
-uint32_t isis_delete(uint8_t *mst, size_t mst_len, uint8_t *xrf, size_t xrf_len, uint32_t mfn);
+uint32_t isis_delete(uint8_t *mst, isis_size mst_len, uint8_t *xrf, isis_size xrf_len, uint32_t mfn);
 
 /*
  * Makes the pending change of a record final: to be called once the search index
  * describes the current version. Answers 0, 1, 2, 4, 6, 7, 8 or 10.
+ * Touches bytes 6 to 11 of the record and the four bytes of its entry in the XRF.
  */
-uint32_t isis_settle(uint8_t *mst, size_t mst_len, uint8_t *xrf, size_t xrf_len, uint32_t mfn);
+uint32_t isis_settle(uint8_t *mst, isis_size mst_len, uint8_t *xrf, isis_size xrf_len, uint32_t mfn);
 
 /*
  * Makes the settled version of a record current again, whatever was done since;
- * a pending deletion is undone too. No byte of the MST changes.
- * Answers 0, 1, 2, 4, 6, 7, 8, 10 or 11.
+ * a pending deletion is undone too. Answers 0, 1, 2, 4, 6, 7, 8, 10 or 11.
+ * Touches the four bytes of the entry in the XRF, and nothing of the MST.
  */
-uint32_t isis_revert(uint8_t *mst, size_t mst_len, uint8_t *xrf, size_t xrf_len, uint32_t mfn);
+uint32_t isis_revert(uint8_t *mst, isis_size mst_len, uint8_t *xrf, isis_size xrf_len, uint32_t mfn);
 
 /*
  * Checks the whole store: 0 exactly if it is sound, otherwise 1, 2 or 14.
- * Changes nothing.
  */
-uint32_t isis_check(const uint8_t *mst, size_t mst_len, const uint8_t *xrf, size_t xrf_len);
+uint32_t isis_check(const uint8_t *mst, isis_size mst_len, const uint8_t *xrf, isis_size xrf_len);
 
 #ifdef __cplusplus
 }

@@ -4,18 +4,20 @@ use layout::sizes::Tag;
 use store::answer::number;
 ghost use mathlib.Core.Path.{_≡_};
 ghost use Rattle.store.specs.Answer.{numberOf};
-ghost use Rattle.store.specs.Refusals.{formatAnswer, updateAnswer, deleteAnswer, settleAnswer, revertAnswer};
-ghost use Rattle.store.specs.Calls.{formatMst, formatXrf, viewOf, settledViewOf, fieldOf, settledFieldOf, createOf, createMst, createXrf, updateMst, updateXrf, deleteMst, deleteXrf, settleMst, settleXrf, revertXrf};
+ghost use Rattle.writing.specs.Refusals.{formatAnswer, updateAnswer, deleteAnswer, settleAnswer, revertAnswer};
+ghost use Rattle.writing.specs.Calls.{formatLeaves, createOf, createLeaves, updateLeaves, deleteLeaves, settleLeaves, revertLeaves};
+ghost use Rattle.views.specs.Views.{viewOf, settledViewOf};
+ghost use Rattle.views.specs.Fields.{fieldOf, settledFieldOf};
 ghost use Rattle.soundness.specs.Sound.{checkAnswer};
+ghost use Rattle.store.specs.Store.{store, draft};
 
 // Empties both buffers.
 #[no_mangle]
 pub extern "C" fn isis_format(mst: &mut [u8], xrf: &mut [u8]) -> u32
-    ensures answers { λ r. ⌜ r ≡ numberOf (formatAnswer (now (mst .entry)) (now (xrf .entry))) ⌝ }
-    ensures master { λ _. ⌜ now (mst .exit) ≡ formatMst (now (mst .entry)) (now (xrf .entry)) ⌝ }
-    ensures cross { λ _. ⌜ now (xrf .exit) ≡ formatXrf (now (mst .entry)) (now (xrf .entry)) ⌝ }
+    ensures answers { λ r. ⌜ r ≡ numberOf (formatAnswer (store (now (mst .entry)) (now (xrf .entry)))) ⌝ }
+    ensures left { λ _. ⌜ store (now (mst .exit)) (now (xrf .exit)) ≡ formatLeaves (store (now (mst .entry)) (now (xrf .entry))) ⌝ }
 {
-    number(store::format::format(mst, xrf))
+    number(writing::format::format(mst, xrf))
 }
 
 // Where a field of the current version lies in the MST.
@@ -29,11 +31,11 @@ pub extern "C" fn isis_view(
     start: &mut usize,
     len: &mut usize,
 ) -> u32
-    ensures answers { λ r. ⌜ r ≡ numberOf (viewOf (now (mst .entry)) (now (xrf .entry)) mfn tag occurrence .answer) ⌝ }
-    ensures first { λ _. ⌜ now (start .exit) ≡ viewOf (now (mst .entry)) (now (xrf .entry)) mfn tag occurrence .start ⌝ }
-    ensures size { λ _. ⌜ now (len .exit) ≡ viewOf (now (mst .entry)) (now (xrf .entry)) mfn tag occurrence .len ⌝ }
+    ensures answers { λ r. ⌜ r ≡ numberOf (viewOf (store (now (mst .entry)) (now (xrf .entry))) mfn tag occurrence .answer) ⌝ }
+    ensures first { λ _. ⌜ now (start .exit) ≡ viewOf (store (now (mst .entry)) (now (xrf .entry))) mfn tag occurrence .start ⌝ }
+    ensures size { λ _. ⌜ now (len .exit) ≡ viewOf (store (now (mst .entry)) (now (xrf .entry))) mfn tag occurrence .len ⌝ }
 {
-    let shown = store::views::view(mst, xrf, Mfn(mfn), Tag(tag), occurrence);
+    let shown = views::views::view(mst, xrf, Mfn(mfn), Tag(tag), occurrence);
     *start = shown.start;
     *len = shown.len;
     let a = shown.answer;
@@ -51,11 +53,11 @@ pub extern "C" fn isis_view_settled(
     start: &mut usize,
     len: &mut usize,
 ) -> u32
-    ensures answers { λ r. ⌜ r ≡ numberOf (settledViewOf (now (mst .entry)) (now (xrf .entry)) mfn tag occurrence .answer) ⌝ }
-    ensures first { λ _. ⌜ now (start .exit) ≡ settledViewOf (now (mst .entry)) (now (xrf .entry)) mfn tag occurrence .start ⌝ }
-    ensures size { λ _. ⌜ now (len .exit) ≡ settledViewOf (now (mst .entry)) (now (xrf .entry)) mfn tag occurrence .len ⌝ }
+    ensures answers { λ r. ⌜ r ≡ numberOf (settledViewOf (store (now (mst .entry)) (now (xrf .entry))) mfn tag occurrence .answer) ⌝ }
+    ensures first { λ _. ⌜ now (start .exit) ≡ settledViewOf (store (now (mst .entry)) (now (xrf .entry))) mfn tag occurrence .start ⌝ }
+    ensures size { λ _. ⌜ now (len .exit) ≡ settledViewOf (store (now (mst .entry)) (now (xrf .entry))) mfn tag occurrence .len ⌝ }
 {
-    let shown = store::views::view_settled(mst, xrf, Mfn(mfn), Tag(tag), occurrence);
+    let shown = views::views::view_settled(mst, xrf, Mfn(mfn), Tag(tag), occurrence);
     *start = shown.start;
     *len = shown.len;
     let a = shown.answer;
@@ -73,12 +75,12 @@ pub extern "C" fn isis_field(
     start: &mut usize,
     len: &mut usize,
 ) -> u32
-    ensures answers { λ r. ⌜ r ≡ numberOf (fieldOf (now (mst .entry)) (now (xrf .entry)) mfn index .answer) ⌝ }
-    ensures tagged { λ _. ⌜ now (tag .exit) ≡ fieldOf (now (mst .entry)) (now (xrf .entry)) mfn index .tag .0 ⌝ }
-    ensures first { λ _. ⌜ now (start .exit) ≡ fieldOf (now (mst .entry)) (now (xrf .entry)) mfn index .start ⌝ }
-    ensures size { λ _. ⌜ now (len .exit) ≡ fieldOf (now (mst .entry)) (now (xrf .entry)) mfn index .len ⌝ }
+    ensures answers { λ r. ⌜ r ≡ numberOf (fieldOf (store (now (mst .entry)) (now (xrf .entry))) mfn index .answer) ⌝ }
+    ensures tagged { λ _. ⌜ now (tag .exit) ≡ fieldOf (store (now (mst .entry)) (now (xrf .entry))) mfn index .tag .0 ⌝ }
+    ensures first { λ _. ⌜ now (start .exit) ≡ fieldOf (store (now (mst .entry)) (now (xrf .entry))) mfn index .start ⌝ }
+    ensures size { λ _. ⌜ now (len .exit) ≡ fieldOf (store (now (mst .entry)) (now (xrf .entry))) mfn index .len ⌝ }
 {
-    let shown = store::walk::field_at(mst, xrf, Mfn(mfn), index);
+    let shown = views::walk::field_at(mst, xrf, Mfn(mfn), index);
     *tag = shown.tag.0;
     *start = shown.start;
     *len = shown.len;
@@ -97,12 +99,12 @@ pub extern "C" fn isis_field_settled(
     start: &mut usize,
     len: &mut usize,
 ) -> u32
-    ensures answers { λ r. ⌜ r ≡ numberOf (settledFieldOf (now (mst .entry)) (now (xrf .entry)) mfn index .answer) ⌝ }
-    ensures tagged { λ _. ⌜ now (tag .exit) ≡ settledFieldOf (now (mst .entry)) (now (xrf .entry)) mfn index .tag .0 ⌝ }
-    ensures first { λ _. ⌜ now (start .exit) ≡ settledFieldOf (now (mst .entry)) (now (xrf .entry)) mfn index .start ⌝ }
-    ensures size { λ _. ⌜ now (len .exit) ≡ settledFieldOf (now (mst .entry)) (now (xrf .entry)) mfn index .len ⌝ }
+    ensures answers { λ r. ⌜ r ≡ numberOf (settledFieldOf (store (now (mst .entry)) (now (xrf .entry))) mfn index .answer) ⌝ }
+    ensures tagged { λ _. ⌜ now (tag .exit) ≡ settledFieldOf (store (now (mst .entry)) (now (xrf .entry))) mfn index .tag .0 ⌝ }
+    ensures first { λ _. ⌜ now (start .exit) ≡ settledFieldOf (store (now (mst .entry)) (now (xrf .entry))) mfn index .start ⌝ }
+    ensures size { λ _. ⌜ now (len .exit) ≡ settledFieldOf (store (now (mst .entry)) (now (xrf .entry))) mfn index .len ⌝ }
 {
-    let shown = store::walk::settled_field_at(mst, xrf, Mfn(mfn), index);
+    let shown = views::walk::settled_field_at(mst, xrf, Mfn(mfn), index);
     *tag = shown.tag.0;
     *start = shown.start;
     *len = shown.len;
@@ -120,12 +122,11 @@ pub extern "C" fn isis_create(
     data: &[u8],
     mfn: &mut u32,
 ) -> u32
-    ensures answers { λ r. ⌜ r ≡ numberOf (createOf (now (mst .entry)) (now (xrf .entry)) (now (tags .entry)) (now (lens .entry)) (now («data» .entry)) .answer) ⌝ }
-    ensures returned { λ _. ⌜ now (mfn .exit) ≡ createOf (now (mst .entry)) (now (xrf .entry)) (now (tags .entry)) (now (lens .entry)) (now («data» .entry)) .mfn .0 ⌝ }
-    ensures master { λ _. ⌜ now (mst .exit) ≡ createMst (now (mst .entry)) (now (xrf .entry)) (now (tags .entry)) (now (lens .entry)) (now («data» .entry)) ⌝ }
-    ensures cross { λ _. ⌜ now (xrf .exit) ≡ createXrf (now (mst .entry)) (now (xrf .entry)) (now (tags .entry)) (now (lens .entry)) (now («data» .entry)) ⌝ }
+    ensures answers { λ r. ⌜ r ≡ numberOf (createOf (store (now (mst .entry)) (now (xrf .entry))) (draft (now (tags .entry)) (now (lens .entry)) (now («data» .entry))) .answer) ⌝ }
+    ensures returned { λ _. ⌜ now (mfn .exit) ≡ createOf (store (now (mst .entry)) (now (xrf .entry))) (draft (now (tags .entry)) (now (lens .entry)) (now («data» .entry))) .mfn .0 ⌝ }
+    ensures left { λ _. ⌜ store (now (mst .exit)) (now (xrf .exit)) ≡ createLeaves (store (now (mst .entry)) (now (xrf .entry))) (draft (now (tags .entry)) (now (lens .entry)) (now («data» .entry))) ⌝ }
 {
-    let made = store::create::create(mst, xrf, tags, lens, data);
+    let made = writing::create::create(mst, xrf, tags, lens, data);
     *mfn = made.mfn.0;
     let a = made.answer;
     number(a)
@@ -141,41 +142,37 @@ pub extern "C" fn isis_update(
     lens: &[u16],
     data: &[u8],
 ) -> u32
-    ensures answers { λ r. ⌜ r ≡ numberOf (updateAnswer (now (mst .entry)) (now (xrf .entry)) mfn (now (tags .entry)) (now (lens .entry)) (now («data» .entry))) ⌝ }
-    ensures master { λ _. ⌜ now (mst .exit) ≡ updateMst (now (mst .entry)) (now (xrf .entry)) mfn (now (tags .entry)) (now (lens .entry)) (now («data» .entry)) ⌝ }
-    ensures cross { λ _. ⌜ now (xrf .exit) ≡ updateXrf (now (mst .entry)) (now (xrf .entry)) mfn (now (tags .entry)) (now (lens .entry)) (now («data» .entry)) ⌝ }
+    ensures answers { λ r. ⌜ r ≡ numberOf (updateAnswer (store (now (mst .entry)) (now (xrf .entry))) mfn (draft (now (tags .entry)) (now (lens .entry)) (now («data» .entry)))) ⌝ }
+    ensures left { λ _. ⌜ store (now (mst .exit)) (now (xrf .exit)) ≡ updateLeaves (store (now (mst .entry)) (now (xrf .entry))) mfn (draft (now (tags .entry)) (now (lens .entry)) (now («data» .entry))) ⌝ }
 {
-    number(store::versions::update(mst, xrf, Mfn(mfn), tags, lens, data))
+    number(writing::versions::update(mst, xrf, Mfn(mfn), tags, lens, data))
 }
 
 // Deletes a record.
 #[no_mangle]
 pub extern "C" fn isis_delete(mst: &mut [u8], xrf: &mut [u8], mfn: u32) -> u32
-    ensures answers { λ r. ⌜ r ≡ numberOf (deleteAnswer (now (mst .entry)) (now (xrf .entry)) mfn) ⌝ }
-    ensures master { λ _. ⌜ now (mst .exit) ≡ deleteMst (now (mst .entry)) (now (xrf .entry)) mfn ⌝ }
-    ensures cross { λ _. ⌜ now (xrf .exit) ≡ deleteXrf (now (mst .entry)) (now (xrf .entry)) mfn ⌝ }
+    ensures answers { λ r. ⌜ r ≡ numberOf (deleteAnswer (store (now (mst .entry)) (now (xrf .entry))) mfn) ⌝ }
+    ensures left { λ _. ⌜ store (now (mst .exit)) (now (xrf .exit)) ≡ deleteLeaves (store (now (mst .entry)) (now (xrf .entry))) mfn ⌝ }
 {
-    number(store::versions::delete(mst, xrf, Mfn(mfn)))
+    number(writing::versions::delete(mst, xrf, Mfn(mfn)))
 }
 
 // Makes a pending change the settled version.
 #[no_mangle]
 pub extern "C" fn isis_settle(mst: &mut [u8], xrf: &mut [u8], mfn: u32) -> u32
-    ensures answers { λ r. ⌜ r ≡ numberOf (settleAnswer (now (mst .entry)) (now (xrf .entry)) mfn) ⌝ }
-    ensures master { λ _. ⌜ now (mst .exit) ≡ settleMst (now (mst .entry)) (now (xrf .entry)) mfn ⌝ }
-    ensures cross { λ _. ⌜ now (xrf .exit) ≡ settleXrf (now (mst .entry)) (now (xrf .entry)) mfn ⌝ }
+    ensures answers { λ r. ⌜ r ≡ numberOf (settleAnswer (store (now (mst .entry)) (now (xrf .entry))) mfn) ⌝ }
+    ensures left { λ _. ⌜ store (now (mst .exit)) (now (xrf .exit)) ≡ settleLeaves (store (now (mst .entry)) (now (xrf .entry))) mfn ⌝ }
 {
-    number(store::settling::settle(mst, xrf, Mfn(mfn)))
+    number(writing::settling::settle(mst, xrf, Mfn(mfn)))
 }
 
 // Makes the settled version current again.
 #[no_mangle]
 pub extern "C" fn isis_revert(mst: &mut [u8], xrf: &mut [u8], mfn: u32) -> u32
-    ensures answers { λ r. ⌜ r ≡ numberOf (revertAnswer (now (mst .entry)) (now (xrf .entry)) mfn) ⌝ }
-    ensures master { λ _. ⌜ now (mst .exit) ≡ now (mst .entry) ⌝ }
-    ensures cross { λ _. ⌜ now (xrf .exit) ≡ revertXrf (now (mst .entry)) (now (xrf .entry)) mfn ⌝ }
+    ensures answers { λ r. ⌜ r ≡ numberOf (revertAnswer (store (now (mst .entry)) (now (xrf .entry))) mfn) ⌝ }
+    ensures left { λ _. ⌜ store (now (mst .exit)) (now (xrf .exit)) ≡ revertLeaves (store (now (mst .entry)) (now (xrf .entry))) mfn ⌝ }
 {
-    number(store::settling::revert(mst, xrf, Mfn(mfn)))
+    number(writing::settling::revert(mst, xrf, Mfn(mfn)))
 }
 
 // Checks the whole store.

@@ -13,9 +13,9 @@ use mir.Syntax.{w32}
 use mir.Val.{toZ, ofZ}
 use lib.ListN.{length, replicate, length-replicate}
 use borrow.Author.Tests.{le-leb, lt-leb, eq-eqb, ne-eqb, not-true, not-false}
-use Rattle.word.proofs.Place.{lt-or-ge, place-whole, place-next}
+use Rattle.word.proofs.Overwrite.{lt-or-ge, overwrite-whole, overwrite-next}
 use Rattle.word.specs.Integer.{u16At, u32At, le}
-use Rattle.word.specs.Place.{place}
+use Rattle.word.specs.Overwrite.{overwrite}
 use Rattle.word.specs.Signed.{signedOf, bitsOf}
 use Rattle.word.proofs.TwosComplement.{back-of}
 use Rattle.layout.specs.Sizes.{blocksWithin, mstPermitted, xrfPermitted, addressOf, blockAt, offsetAt, endMoved, recordLength, tagPermitted}
@@ -267,11 +267,11 @@ module _ (xrf : List ℕ) where
     entry-told at z r h i j k l = rw (← e, not-false right h, l, back-of j k, i)
 
   pub entry-put : (m at : ℕ) (pl : Place) (z : ℤ) (out : List ℕ) → at ≡ slotAt m → mag z < 2 ^ 31 → z ≡ encodeOf pl
-      → out ≡ place xrf at (le 4 (bitsOf (toZ w32 (ofZ w32 z)))) → out ≡ withEntry xrf m pl
+      → out ≡ overwrite xrf at (le 4 (bitsOf (toZ w32 (ofZ w32 z)))) → out ≡ withEntry xrf m pl
   unfolding withEntry
   entry-put m at pl z out h i j k = rw (k, h, back-of i j)
 
-  pub head-put : (n k h : ℕ) (cur out : List ℕ) → cur ≡ withHeads n k xrf → h ≡ headBits n (k + 1) → out ≡ place cur (k * 512) (le 4 h)
+  pub head-put : (n k h : ℕ) (cur out : List ℕ) → cur ≡ withHeads n k xrf → h ≡ headBits n (k + 1) → out ≡ overwrite cur (k * 512) (le 4 h)
       → out ≡ withHeads n (k + 1) xrf
   head-put n k h cur out e i j = rw (j, e, i, heads-more n xrf k)
 
@@ -279,33 +279,33 @@ pub ruleset xrf-answers = (head-last, head-plain, head-tested, slot-tested, entr
 
 -- ---- writes
 
-module _ (mst zero : List ℕ) (h : mstPermitted (length mst) ≡ true) (e : zero ≡ place mst 0 (replicate (length mst) 0)) where
+module _ (mst zero : List ℕ) (h : mstPermitted (length mst) ≡ true) (e : zero ≡ overwrite mst 0 (replicate (length mst) 0)) where
   pub long-zero : 64 ≤ length zero
   long-zero =
       let f = blocks-facts 1048575 (length mst) h in
       let l : length (replicate {A = ℕ} (length mst) 0) ≡ length mst = length-replicate (length mst) 0 in
-      rw (e, place-whole mst (replicate (length mst) 0) l) (omega arith)
+      rw (e, overwrite-whole mst (replicate (length mst) 0) l) (omega arith)
 
   pub long-next : (n : ℕ) (next : List ℕ) → next ≡ withNext zero n → 64 ≤ length next
   long-next n next q = rw (q, next-length zero n long-zero) long-zero
 
 module _ (mst out : List ℕ) where
-  pub next-put : (n : ℕ) → out ≡ place mst 4 (le 4 n) → out ≡ withNext mst n
+  pub next-put : (n : ℕ) → out ≡ overwrite mst 4 (le 4 n) → out ≡ withNext mst n
   unfolding withNext
   next-put n e = e
 
-  pub end-put : (b p e : ℕ) (half : List ℕ) → half ≡ place mst 8 (le 4 b) → b ≡ blockAt e → out ≡ place half 12 (le 2 p) → p ≡ offsetAt e
+  pub end-put : (b p e : ℕ) (half : List ℕ) → half ≡ overwrite mst 8 (le 4 b) → b ≡ blockAt e → out ≡ overwrite half 12 (le 2 p) → p ≡ offsetAt e
       → 64 ≤ length mst → out ≡ withEnd mst e
   unfolding withEnd
-  end-put b p e half h i j k long = rw (j, h, i, k) (place-next mst 8 (le 4 (blockAt e)) (le 2 (offsetAt e)) (omega arith))
+  end-put b p e half h i j k long = rw (j, h, i, k) (overwrite-next mst 8 (le 4 (blockAt e)) (le 2 (offsetAt e)) (omega arith))
 
-  pub mst-put : (zero next : List ℕ) → zero ≡ place mst 0 (replicate (length mst) 0) → next ≡ withNext zero 1 → out ≡ withEnd next 64 → out ≡ formattedMst (length mst)
+  pub mst-put : (zero next : List ℕ) → zero ≡ overwrite mst 0 (replicate (length mst) 0) → next ≡ withNext zero 1 → out ≡ withEnd next 64 → out ≡ formattedMst (length mst)
   unfolding formattedMst
-  mst-put zero next h i j = rw (j, i, h, place-whole mst (replicate (length mst) 0) (length-replicate (length mst) 0))
+  mst-put zero next h i j = rw (j, i, h, overwrite-whole mst (replicate (length mst) 0) (length-replicate (length mst) 0))
 
-module _ (xrf zero : List ℕ) (h : xrfPermitted (length xrf) ≡ true) (e : zero ≡ place xrf 0 (replicate (length xrf) 0)) where
+module _ (xrf zero : List ℕ) (h : xrfPermitted (length xrf) ≡ true) (e : zero ≡ overwrite xrf 0 (replicate (length xrf) 0)) where
   zero-is : zero ≡ replicate (length xrf) 0
-  zero-is = e ∙ place-whole xrf (replicate (length xrf) 0) (length-replicate (length xrf) 0)
+  zero-is = e ∙ overwrite-whole xrf (replicate (length xrf) 0) (length-replicate (length xrf) 0)
 
   pub zero-permitted : xrfPermitted (length zero) ≡ true
   zero-permitted = rw (zero-is, length-replicate) h
@@ -327,7 +327,7 @@ module _ (s : List ℕ) where
   pub leader-read : (b : List ℕ) (l : Leader) → b ≡ firstBytes s → l ≡ leaderOf b → l ≡ leaderOf s
   leader-read b l e f = f ∙ ap leaderOf e ∙ first-bytes-leader s
 
-  pub leader-put : (b out : List ℕ) (l : Leader) → b ≡ leaderBytes l → out ≡ place s 0 b → out ≡ place s 0 (leaderBytes l)
-  leader-put b out l e f = f ∙ ap (place s 0) e
+  pub leader-put : (b out : List ℕ) (l : Leader) → b ≡ leaderBytes l → out ≡ overwrite s 0 b → out ≡ overwrite s 0 (leaderBytes l)
+  leader-put b out l e f = f ∙ ap (overwrite s 0) e
 
 pub ruleset leader-answers = (leader-told, leader-read, leader-put)

@@ -9,8 +9,8 @@ use mathlib.Core.Bool.{Bool, true, false, cond}
 use mathlib.Core.List.{List, [], _++_}
 use lib.ListN.{length, getD, length-replicate}
 use Rattle.word.specs.Integer.{u16At, u32At, le}
-use Rattle.word.specs.Place.{place}
-use Rattle.word.proofs.Place.{place-length, place-before, place-after}
+use Rattle.word.specs.Overwrite.{overwrite}
+use Rattle.word.proofs.Overwrite.{overwrite-length, overwrite-before, overwrite-after}
 use Rattle.word.proofs.Integers.{u16-same, u32-same, u16-inside, u32-inside, u16-other, u32-other, u32-placed, u16-le-at, u32-le}
 use Rattle.layout.specs.Sizes.{mstPermitted, blockAt, offsetAt}
 use Rattle.layout.specs.Control.{nextOf, endOf, numbersRight, endRight, controlRight, controlOf, withNext, withEnd, formattedMst}
@@ -107,29 +107,29 @@ module _ (x y : List ℕ) (same : (i : ℕ) → i < 16 → getD x i 0 ≡ getD y
 
 -- a place from byte 16 on
 module _ (mst : List ℕ) (at : ℕ) (xs : List ℕ) (low : 16 ≤ at) (fits : at + length xs ≤ length mst) where
-  kept : (i : ℕ) → i < 16 → getD (place mst at xs) i 0 ≡ getD mst i 0
-  kept i h = place-before mst at xs i (omega arith) (omega arith)
+  kept : (i : ℕ) → i < 16 → getD (overwrite mst at xs) i 0 ≡ getD mst i 0
+  kept i h = overwrite-before mst at xs i (omega arith) (omega arith)
 
-  pub next-placed : nextOf (place mst at xs) ≡ nextOf mst
-  next-placed = next-same (place mst at xs) mst kept
+  pub next-placed : nextOf (overwrite mst at xs) ≡ nextOf mst
+  next-placed = next-same (overwrite mst at xs) mst kept
 
-  pub end-placed : endOf (place mst at xs) ≡ endOf mst
-  end-placed = end-same (place mst at xs) mst kept
+  pub end-placed : endOf (overwrite mst at xs) ≡ endOf mst
+  end-placed = end-same (overwrite mst at xs) mst kept
 
-  pub control-right-placed : (capacity : ℕ) → controlRight (place mst at xs) capacity ≡ controlRight mst capacity
-  control-right-placed capacity = control-right-same (place mst at xs) mst kept (place-length mst at xs fits) capacity
+  pub control-right-placed : (capacity : ℕ) → controlRight (overwrite mst at xs) capacity ≡ controlRight mst capacity
+  control-right-placed capacity = control-right-same (overwrite mst at xs) mst kept (overwrite-length mst at xs fits) capacity
 
 -- ---- NXTMFN is written
 
 module _ (mst : List ℕ) (n : ℕ) where
   pub next-byte : (i : ℕ) → 8 ≤ i → getD (withNext mst n) i 0 ≡ getD mst i 0
   unfolding withNext
-  next-byte i h = place-after mst 4 (le 4 n) i h
+  next-byte i h = overwrite-after mst 4 (le 4 n) i h
 
   module _ (long : 64 ≤ length mst) where
     pub next-length : length (withNext mst n) ≡ length mst
     unfolding withNext
-    next-length = place-length mst 4 (le 4 n) (omega arith)
+    next-length = overwrite-length mst 4 (le 4 n) (omega arith)
 
     pub next-of-next : n < 4294967296 → nextOf (withNext mst n) ≡ n
     unfolding withNext nextOf
@@ -173,12 +173,12 @@ endBytes e = le 4 (blockAt e) ++ le 2 (offsetAt e)
 module _ (mst : List ℕ) (e : ℕ) where
   pub end-byte : (i : ℕ) → 14 ≤ i → getD (withEnd mst e) i 0 ≡ getD mst i 0
   unfolding withEnd
-  end-byte i h = place-after mst 8 (endBytes e) i h
+  end-byte i h = overwrite-after mst 8 (endBytes e) i h
 
   module _ (long : 64 ≤ length mst) where
     pub end-length : length (withEnd mst e) ≡ length mst
     unfolding withEnd
-    end-length = place-length mst 8 (endBytes e) (omega arith)
+    end-length = overwrite-length mst 8 (endBytes e) (omega arith)
 
     pub next-of-end : nextOf (withEnd mst e) ≡ nextOf mst
     unfolding withEnd nextOf

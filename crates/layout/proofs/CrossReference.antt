@@ -12,9 +12,9 @@ use lib.Dec.{eqb}
 use lib.ListN.{length, getD, length-replicate}
 use borrow.Author.Tests.{eq-eqb}
 use Rattle.word.specs.Integer.{u32At, le}
-use Rattle.word.specs.Place.{place}
+use Rattle.word.specs.Overwrite.{overwrite}
 use Rattle.word.specs.Signed.{signedOf, bitsOf}
-use Rattle.word.proofs.Place.{lt-or-ge, place-length, place-other}
+use Rattle.word.proofs.Overwrite.{lt-or-ge, overwrite-length, overwrite-other}
 use Rattle.word.proofs.Integers.{u32-placed, u32-other}
 use Rattle.layout.specs.Sizes.{capacityOf, xrfPermitted}
 use Rattle.layout.specs.Entry.{wellPlaced, entryOf, encodeOf}
@@ -92,11 +92,11 @@ module _ (xrf : List ℕ) (m : ℕ) (pl : Place) where
   module _ (in-slot : slotAt m + 4 ≤ length xrf) where
     pub with-entry-length : length (withEntry xrf m pl) ≡ length xrf
     unfolding withEntry
-    with-entry-length = place-length xrf (slotAt m) (le 4 (bitsOf (encodeOf pl))) in-slot
+    with-entry-length = overwrite-length xrf (slotAt m) (le 4 (bitsOf (encodeOf pl))) in-slot
 
     pub with-entry-byte : (i : ℕ) → (i < slotAt m) ⊎ (slotAt m + 4 ≤ i) → getD (withEntry xrf m pl) i 0 ≡ getD xrf i 0
     unfolding withEntry
-    with-entry-byte i side = place-other xrf (slotAt m) (le 4 (bitsOf (encodeOf pl))) i (omega arith) side
+    with-entry-byte i side = overwrite-other xrf (slotAt m) (le 4 (bitsOf (encodeOf pl))) i (omega arith) side
 
     -- a number that stands apart
     pub with-entry-u32 : (at : ℕ) → Apart at (slotAt m) → u32At (withEntry xrf m pl) at ≡ u32At xrf at
@@ -137,7 +137,7 @@ head-bound n k h l = either (eqb k n)
 
 module _ (n : ℕ) (xrf : List ℕ) where
   -- k first integers, of the file with one more
-  pub heads-more : (k : ℕ) → withHeads n (k + 1) xrf ≡ place (withHeads n k xrf) (k * 512) (le 4 (headBits n (k + 1)))
+  pub heads-more : (k : ℕ) → withHeads n (k + 1) xrf ≡ overwrite (withHeads n k xrf) (k * 512) (le 4 (headBits n (k + 1)))
   unfolding withHeads
   heads-more k = rw (add-one k)
 
@@ -146,7 +146,7 @@ module _ (n : ℕ) (xrf : List ℕ) where
   heads-length zero h = refl
   heads-length (suc k) h =
       let l : length (withHeads n k xrf) ≡ length xrf = heads-length k (omega arith) in
-      place-length (withHeads n k xrf) (k * 512) (le 4 (headBits n (suc k))) (omega arith) ∙ l
+      overwrite-length (withHeads n k xrf) (k * 512) (le 4 (headBits n (suc k))) (omega arith) ∙ l
 
   -- what stands in a slot is kept
   pub heads-slot : (k m : ℕ) → k * 512 ≤ length xrf → u32At (withHeads n k xrf) (slotAt m) ≡ u32At xrf (slotAt m)
@@ -169,11 +169,11 @@ module _ (n : ℕ) (xrf : List ℕ) where
       long = heads-length k (omega arith)
 
       before : j < k → u32At (withHeads n k xrf) (j * 512) ≡ headBits n (suc j)
-          → u32At (place (withHeads n k xrf) (k * 512) (le 4 (headBits n (suc k)))) (j * 512) ≡ headBits n (suc j)
+          → u32At (overwrite (withHeads n k xrf) (k * 512) (le 4 (headBits n (suc k)))) (j * 512) ≡ headBits n (suc j)
       before g e =
           u32-other (withHeads n k xrf) (k * 512) (le 4 (headBits n (suc k))) (j * 512) (omega (arith, long)) (inl (omega arith)) ∙ e
 
-      last : k ≤ j → u32At (place (withHeads n k xrf) (k * 512) (le 4 (headBits n (suc k)))) (j * 512) ≡ headBits n (suc j)
+      last : k ≤ j → u32At (overwrite (withHeads n k xrf) (k * 512) (le 4 (headBits n (suc k)))) (j * 512) ≡ headBits n (suc j)
       last g =
           let e : j ≡ k = omega arith in
           rw e

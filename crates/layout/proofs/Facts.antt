@@ -6,7 +6,7 @@ use mathlib.Core.Path.{_≡_}
 use mathlib.Core.Logic.{⊎-elim}
 use mathlib.Core.Bool.{true}
 use borrow.Author.Tests.{le-leb, lt-leb}
-use Rattle.word.proofs.Place.{lt-or-ge}
+use Rattle.word.proofs.Overwrite.{lt-or-ge}
 use Rattle.layout.specs.Sizes.{blocksWithin, addressOf, blockAt, offsetAt, endMoved, recordLength, tagPermitted}
 use Rattle.layout.specs.Entry.{wellPlaced}
 use Rattle.layout.proofs.Tests.{tests}

@@ -7,8 +7,8 @@ use mathlib.Core.List.{List, _++_}
 use lib.ListN.{length, getD, take, drop}
 use lib.Seq.{getD-take, getD-drop}
 use Rattle.word.specs.Integer.{u16At, u32At, le}
-use Rattle.word.specs.Place.{part}
-use Rattle.word.proofs.Place.{part-add}
+use Rattle.word.specs.Overwrite.{part}
+use Rattle.word.proofs.Overwrite.{part-add}
 use Rattle.word.proofs.Integers.{Bytes, u16-same, u32-same, u32-le, u16-le-at, u32-le-at, u16-back, u32-back}
 use Rattle.layout.specs.Leader.{leaderBytes, leaderOf, firstBytes}
 use Rattle.layout.specs.declared.leader.Leader.{Leader}

@@ -5,7 +5,7 @@ use mathlib.Core.Logic.{⊎-elim}
 use mathlib.Core.List.{List}
 use lib.ListN.{getD, replicate, length-replicate, getD-replicate, List·getD-eq-default}
 use Rattle.word.specs.Integer.{u16At, u32At}
-use Rattle.word.proofs.Place.{lt-or-ge}
+use Rattle.word.proofs.Overwrite.{lt-or-ge}
 
 abbrev pub zeros : ℕ → List ℕ
 zeros n = replicate n 0

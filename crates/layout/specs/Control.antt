@@ -13,7 +13,7 @@ use mathlib.Core.List.{List, _++_}
 use lib.Dec.{eqb, leb}
 use lib.ListN.{length, replicate}
 use Rattle.word.specs.Integer.{u16At, u32At, le}
-use Rattle.word.specs.Place.{place}
+use Rattle.word.specs.Overwrite.{overwrite}
 use Rattle.layout.specs.Sizes.{addressOf, blockAt, offsetAt}
 use Rattle.layout.specs.declared.control.Control.{Control}
 use Rattle.layout.specs.declared.control.Control.the-variants.{Right, Wrong}
@@ -50,11 +50,11 @@ controlOf mst capacity = cond (controlRight mst capacity) (Right (record { 0 = n
 
 -- the MST with another NXTMFN
 unfoldable pub withNext : List ℕ → ℕ → List ℕ
-withNext mst n = place mst 4 (le 4 n)
+withNext mst n = overwrite mst 4 (le 4 n)
 
 -- the MST with another end
 unfoldable pub withEnd : List ℕ → ℕ → List ℕ
-withEnd mst e = place mst 8 (le 4 (blockAt e) ++ le 2 (offsetAt e))
+withEnd mst e = overwrite mst 8 (le 4 (blockAt e) ++ le 2 (offsetAt e))
 
 -- what format leaves in an MST of n bytes: zero, but for NXTMFN 1 and the end 64
 unfoldable pub formattedMst : ℕ → List ℕ

@@ -5,7 +5,7 @@ use mathlib.Core.List.{List}
 use lib.Dec.{eqb}
 use lib.ListN.{length, replicate}
 use Rattle.word.specs.Integer.{u32At, le}
-use Rattle.word.specs.Place.{place}
+use Rattle.word.specs.Overwrite.{overwrite}
 use Rattle.word.specs.Signed.{signedOf, bitsOf}
 use Rattle.layout.specs.Entry.{entryOf, encodeOf}
 use Rattle.layout.specs.declared.entry.Place.{Place}
@@ -38,12 +38,12 @@ slotFree xrf m = eqb (u32At xrf (slotAt m)) 0
 
 -- the XRF with the place p as the entry of MFN m
 unfoldable pub withEntry : List ℕ → ℕ → Place → List ℕ
-withEntry xrf m p = place xrf (slotAt m) (le 4 (bitsOf (encodeOf p)))
+withEntry xrf m p = overwrite xrf (slotAt m) (le 4 (bitsOf (encodeOf p)))
 
 -- the first integers of the first k blocks, of n, written
 unfoldable pub withHeads : ℕ → ℕ → List ℕ → List ℕ
 withHeads n zero xrf = xrf
-withHeads n (suc k) xrf = place (withHeads n k xrf) (k * 512) (le 4 (headBits n (suc k)))
+withHeads n (suc k) xrf = overwrite (withHeads n k xrf) (k * 512) (le 4 (headBits n (suc k)))
 
 -- what format leaves in an XRF of n bytes: zero, but for each block's first integer
 unfoldable pub formattedXrf : ℕ → List ℕ

@@ -4,7 +4,7 @@ use crate::sizes::Mfn;
 ghost use mathlib.Core.Path.{_≡_};
 ghost use Prim.Native.Nat.{_+_, _*_, _≤_};
 ghost use lib.ListN.{length};
-ghost use Rattle.word.specs.Place.{place};
+ghost use Rattle.word.specs.Overwrite.{overwrite};
 ghost use Rattle.layout.specs.Leader.{leaderBytes, leaderOf, firstBytes};
 
 pub struct Leader {
@@ -98,7 +98,7 @@ pub fn read_leader(rec: &[u8]) -> Leader
 // Writes a leader to the front of a record.
 pub fn put_leader(rec: &mut [u8], l: Leader)
     requires { ⌜ 18 ≤ length (now rec) ⌝ }
-    ensures { λ _. ⌜ now (rec .exit) ≡ place (now (rec .entry)) 0 (leaderBytes l) ⌝ }
+    ensures { λ _. ⌜ now (rec .exit) ≡ overwrite (now (rec .entry)) 0 (leaderBytes l) ⌝ }
 {
     let bytes = leader_bytes(l);
     word::bytes::copy_to(rec, 0, &bytes);

@@ -15,11 +15,12 @@ use Rattle.layout.specs.declared.entry.Place.{Place}
 use Rattle.layout.specs.declared.entry.Entry.the-variants.{Gone, At}
 use Rattle.record.specs.Fields.{fieldsOf}
 use Rattle.record.specs.Bytes.{needFor}
-use Rattle.store.specs.Reading.{mfnKnown, entryFor, isSettled, isChanged, isNew, recordAt, leaderAt, settledRecord, shownSettled, currentFields}
-use Rattle.store.specs.Refusals.{exceeds, formatAnswer, viewAnswer, settledViewAnswer, createAnswer, updateAppends, updateAnswer, deleteAnswer, settleAnswer, revertAnswer}
-use Rattle.store.specs.declared.answer.Answer.the-variants.{Done, BadDraft, Full, BadEntry, NoRoom}
+use Rattle.store.specs.Reading.{mfnInRange, entryFor, isSettled, isChanged, isNew, recordAt, leaderAt, settledRecord, shownSettled, currentFields}
+use Rattle.writing.specs.Refusals.{exceeds, formatAnswer, createAnswer, updateAppends, updateAnswer, deleteAnswer, settleAnswer, revertAnswer}
+use Rattle.views.specs.Views.{viewAnswer, settledViewAnswer}
+use Rattle.store.specs.declared.answer.Answer.the-variants.{Done, BadDraft, NoSlot, BadEntry, NoRoom}
 use Rattle.soundness.specs.Sound.{bodySound, checkAnswer}
-use Rattle.ledger.specs.Store.{Store, Draft, isRight, fieldsIn}
+use Rattle.store.specs.Store.{Store, Draft, isRight, fieldsIn}
 use Rattle.ledger.specs.Call.{format, view, viewSettled, create, update, delete, settle, revert, check}
 use Rattle.ledger.specs.Ledger.{gone, held, itemOf, isSettledMark, isNewMark, settledOr}
 use Rattle.ledger.specs.LedgerAnswers.{overfull, appends, refusalsL, numberL}
@@ -54,11 +55,11 @@ settled-fields mst p New = refl
 
 module _ (s : Store) (o : Opened s) where
   -- the item of an MFN that is there
-  pub item-at : (m : ℕ) (p : Place) → mfnKnown (s .mst) m ≡ true → entryFor (s .mst) (s .xrf) m ≡ At p
+  pub item-at : (m : ℕ) (p : Place) → mfnInRange (s .mst) m ≡ true → entryFor s m ≡ At p
       → itemOf (ledgerOf s) m ≡ held (currentFields (s .mst) p) (p .deleted) (markingAt (s .mst) p (p .mark))
   item-at m p k e = item-is s o m k ∙ ap (itemFor (s .mst)) e
 
-  pub item-gone : (m : ℕ) → mfnKnown (s .mst) m ≡ true → entryFor (s .mst) (s .xrf) m ≡ Gone → itemOf (ledgerOf s) m ≡ gone
+  pub item-gone : (m : ℕ) → mfnInRange (s .mst) m ≡ true → entryFor s m ≡ Gone → itemOf (ledgerOf s) m ≡ gone
   item-gone m k e = item-is s o m k ∙ ap (itemFor (s .mst)) e
 
   pub room-is : (need : ℕ) → overfull (ledgerOf s) need ≡ exceeds (s .mst) need
@@ -69,18 +70,18 @@ module _ (s : Store) (o : Opened s) where
   unfolding ledgerOf
   xrf-is = refl
 
-  pub format-answer : formatAnswer (s .mst) (s .xrf) ≡ numberL (ledgerOf s) format
+  pub format-answer : formatAnswer s ≡ numberL (ledgerOf s) format
   unfolding formatAnswer numberL refusalsL
   format-answer = rw (o .lengths, lengths-are s o)
 
-  pub view-answer : (m tag occ : ℕ) → Seen s m → viewAnswer (s .mst) (s .xrf) m tag occ ≡ numberL (ledgerOf s) (view m tag occ)
+  pub view-answer : (m tag occ : ℕ) → Seen s m → viewAnswer s m tag occ ≡ numberL (ledgerOf s) (view m tag occ)
   unfolding viewAnswer numberL refusalsL
   view-answer m tag occ (absent k) = rw (o .lengths, o .control, lengths-are s o, mfn-is s o m, k)
   view-answer m tag occ (physically k e) = rw (o .lengths, o .control, lengths-are s o, mfn-is s o m, k, e, item-gone m k e)
   view-answer m tag occ (present p k e f v) =
       rw (o .lengths, o .control, lengths-are s o, mfn-is s o m, k, e, f, item-at m p k e, missing-is (recordAt (s .mst) p) tag occ)
 
-  pub settled-view-answer : (m tag occ : ℕ) → Seen s m → settledViewAnswer (s .mst) (s .xrf) m tag occ ≡ numberL (ledgerOf s) (viewSettled m tag occ)
+  pub settled-view-answer : (m tag occ : ℕ) → Seen s m → settledViewAnswer s m tag occ ≡ numberL (ledgerOf s) (viewSettled m tag occ)
   unfolding settledViewAnswer numberL refusalsL
   settled-view-answer m tag occ (absent k) = rw (o .lengths, o .control, lengths-are s o, mfn-is s o m, k)
   settled-view-answer m tag occ (physically k e) = rw (o .lengths, o .control, lengths-are s o, mfn-is s o m, k, e, item-gone m k e)
@@ -101,7 +102,7 @@ module _ (s : Store) (o : Opened s) where
         missing-is (shownSettled (s .mst) p) tag occ,
       )
 
-  pub update-answer : (m : ℕ) (d : Draft) → Seen s m → updateAnswer (s .mst) (s .xrf) m (d .tags) (d .lens) (d .bytes) ≡ numberL (ledgerOf s) (update m d)
+  pub update-answer : (m : ℕ) (d : Draft) → Seen s m → updateAnswer s m d ≡ numberL (ledgerOf s) (update m d)
   unfolding updateAnswer numberL refusalsL updateAppends
   update-answer m d (absent k) = rw (o .lengths, o .control, lengths-are s o, mfn-is s o m, k)
   update-answer m d (physically k e) = rw (o .lengths, o .control, lengths-are s o, mfn-is s o m, k, e, item-gone m k e)
@@ -119,7 +120,7 @@ module _ (s : Store) (o : Opened s) where
         room-is (needFor (fieldsIn d)),
       )
 
-  pub delete-answer : (m : ℕ) → Seen s m → deleteAnswer (s .mst) (s .xrf) m ≡ numberL (ledgerOf s) (delete m)
+  pub delete-answer : (m : ℕ) → Seen s m → deleteAnswer s m ≡ numberL (ledgerOf s) (delete m)
   unfolding deleteAnswer numberL refusalsL
   delete-answer m (absent k) = rw (o .lengths, o .control, lengths-are s o, mfn-is s o m, k)
   delete-answer m (physically k e) = rw (o .lengths, o .control, lengths-are s o, mfn-is s o m, k, e, item-gone m k e)
@@ -127,14 +128,14 @@ module _ (s : Store) (o : Opened s) where
       rw
       (o .lengths, o .control, lengths-are s o, mfn-is s o m, k, e, f, item-at m p k e, settled-mark (s .mst) p (p .mark), room-is (needFor (currentFields (s .mst) p)))
 
-  pub settle-answer : (m : ℕ) → Seen s m → settleAnswer (s .mst) (s .xrf) m ≡ numberL (ledgerOf s) (settle m)
+  pub settle-answer : (m : ℕ) → Seen s m → settleAnswer s m ≡ numberL (ledgerOf s) (settle m)
   unfolding settleAnswer numberL refusalsL
   settle-answer m (absent k) = rw (o .lengths, o .control, lengths-are s o, mfn-is s o m, k)
   settle-answer m (physically k e) = rw (o .lengths, o .control, lengths-are s o, mfn-is s o m, k, e, item-gone m k e)
   settle-answer m (present p k e f v) =
       rw (o .lengths, o .control, lengths-are s o, mfn-is s o m, k, e, f, item-at m p k e, settled-mark (s .mst) p (p .mark))
 
-  pub revert-answer : (m : ℕ) → Seen s m → revertAnswer (s .mst) (s .xrf) m ≡ numberL (ledgerOf s) (revert m)
+  pub revert-answer : (m : ℕ) → Seen s m → revertAnswer s m ≡ numberL (ledgerOf s) (revert m)
   unfolding revertAnswer numberL refusalsL
   revert-answer m (absent k) = rw (o .lengths, o .control, lengths-are s o, mfn-is s o m, k)
   revert-answer m (physically k e) = rw (o .lengths, o .control, lengths-are s o, mfn-is s o m, k, e, item-gone m k e)
@@ -145,7 +146,7 @@ module _ (s : Store) (o : Opened s) where
   -- create, whose row 6 does not apply below the capacity
   pub create-answer : (d : Draft)
       → (eqb (nextOf (s .mst)) (capacityOf (length (s .xrf)) + 1) ≡ false → (headRight (s .xrf) (xrfBlock (nextOf (s .mst))) && slotFree (s .xrf) (nextOf (s .mst))) ≡ true)
-      → createAnswer (s .mst) (s .xrf) (d .tags) (d .lens) (d .bytes) ≡ numberL (ledgerOf s) (create d)
+      → createAnswer s d ≡ numberL (ledgerOf s) (create d)
   unfolding createAnswer numberL refusalsL
   create-answer d free =
       rw (o .lengths, o .control, lengths-are s o, room-is (needFor (fieldsIn d)), next-is s o, xrf-is)
@@ -153,12 +154,12 @@ module _ (s : Store) (o : Opened s) where
     where
       go : (full : Bool) → (full ≡ false → (headRight (s .xrf) (xrfBlock (nextOf (s .mst))) && slotFree (s .xrf) (nextOf (s .mst))) ≡ true)
           → cond (not (isRight d)) BadDraft
-          (cond full Full (cond (not (headRight (s .xrf) (xrfBlock (nextOf (s .mst))) && slotFree (s .xrf) (nextOf (s .mst)))) BadEntry
+          (cond full NoSlot (cond (not (headRight (s .xrf) (xrfBlock (nextOf (s .mst))) && slotFree (s .xrf) (nextOf (s .mst)))) BadEntry
           (cond (exceeds (s .mst) (needFor (fieldsIn d))) NoRoom Done)))
-          ≡ cond (not (isRight d)) BadDraft (cond full Full (cond (exceeds (s .mst) (needFor (fieldsIn d))) NoRoom Done))
+          ≡ cond (not (isRight d)) BadDraft (cond full NoSlot (cond (exceeds (s .mst) (needFor (fieldsIn d))) NoRoom Done))
       go true f = refl
       go false f = rw (f refl)
 
-  pub check-answer : bodySound (s .mst) (s .xrf) ≡ true → checkAnswer (s .mst) (s .xrf) ≡ numberL (ledgerOf s) check
+  pub check-answer : bodySound s ≡ true → checkAnswer s ≡ numberL (ledgerOf s) check
   unfolding checkAnswer numberL refusalsL
   check-answer b = rw (o .lengths, o .control, lengths-are s o, b)

@@ -11,10 +11,10 @@ use Rattle.layout.specs.declared.entry.Place.{Place}
 use Rattle.layout.specs.declared.entry.Entry.the-variants.{At}
 use Rattle.record.specs.Fields.{Field}
 use Rattle.store.specs.Reading.{entryFor}
-use Rattle.soundness.proofs.Standing.{Sound, EntryStands, is-gone, is-at}
+use Rattle.soundness.proofs.SoundEntries.{Sound, EntryStands, is-gone, is-at}
 use Rattle.soundness.proofs.Moves.{SameReading}
-use Rattle.soundness.proofs.Writes.{Leaves}
-use Rattle.ledger.specs.Store.{store}
+use Rattle.soundness.proofs.Leaving.{Leaves}
+use Rattle.store.specs.Store.{store}
 use Rattle.ledger.specs.Ledger.{Marking, settled, new, changed, Item, held}
 use Rattle.ledger.specs.LedgerSteps.{itemSet, itemAdded, applied}
 use Rattle.ledger.specs.LedgerOf.{markingAt, itemFor, itemAt, tabulate, ledgerOf}
@@ -37,10 +37,10 @@ item-same mst mst′ p r = rw (r .fields, marking-same mst mst′ p r (p .mark) 
 
 module _ {mst xrf mst′ xrf′ : List ℕ} {m end next : ℕ} {p : Place} {mfrl : ℕ} {fs old : List Field} (s : Sound mst xrf)
     (l : Leaves mst xrf mst′ xrf′ m end next p mfrl fs old) where
-  item-kept : (o : ℕ) → (o ≡ m → ⊥) → 1 ≤ o → o < nextOf mst → itemAt mst′ xrf′ o ≡ itemAt mst xrf o
+  item-kept : (o : ℕ) → (o ≡ m → ⊥) → 1 ≤ o → o < nextOf mst → itemAt (store mst′ xrf′) o ≡ itemAt (store mst xrf) o
   item-kept o ne low high = ap (itemFor mst′) (l .others o ne low high) ∙ go (s .entries o low high)
     where
-      go : EntryStands mst xrf o → itemFor mst′ (entryFor mst xrf o) ≡ itemFor mst (entryFor mst xrf o)
+      go : EntryStands mst xrf o → itemFor mst′ (entryFor (store mst xrf) o) ≡ itemFor mst (entryFor (store mst xrf) o)
       go (is-gone e) = rw e
       go (is-at q e f) = rw e (item-same mst mst′ q (l .same o q ne low high e))
 
@@ -50,7 +50,7 @@ module _ {mst xrf mst′ xrf′ : List ℕ} {m end next : ℕ} {p : Place} {mfrl
   own-marking Changed e = rw (l .settled-fields e, l .record-length)
   own-marking New e = rw (l .record-length)
 
-  own-item : itemAt mst′ xrf′ m ≡ held fs (p .deleted) (markingFor (p .mark) mfrl old)
+  own-item : itemAt (store mst′ xrf′) m ≡ held fs (p .deleted) (markingFor (p .mark) mfrl old)
   own-item = ap (itemFor mst′) (l .entry) ∙ rw (l .fields, own-marking (p .mark) refl)
 
   -- an MFN that was there
@@ -64,21 +64,21 @@ module _ {mst xrf mst′ xrf′ : List ℕ} {m end next : ℕ} {p : Place} {mfrl
         l .xrf-long,
         l .end-is,
         same,
-        tabulate-set (nextOf mst - 1) (itemAt mst xrf) (itemAt mst′ xrf′) m (held fs (p .deleted) (markingFor (p .mark) mfrl old)) low (omega arith) own-item
+        tabulate-set (nextOf mst - 1) (itemAt (store mst xrf)) (itemAt (store mst′ xrf′)) m (held fs (p .deleted) (markingFor (p .mark) mfrl old)) low (omega arith) own-item
             (λ k lo hi ne. item-kept k ne lo (omega arith)),
       )
 
   -- a new MFN
   items-more : 1 ≤ nextOf mst → nextOf mst′ ≡ nextOf mst + 1 → m ≡ nextOf mst
-      → tabulate (nextOf mst′ - 1) (itemAt mst′ xrf′) ≡ tabulate (nextOf mst - 1) (itemAt mst xrf) ++ (held fs (p .deleted) (markingFor (p .mark) mfrl old) ∷ [])
+      → tabulate (nextOf mst′ - 1) (itemAt (store mst′ xrf′)) ≡ tabulate (nextOf mst - 1) (itemAt (store mst xrf)) ++ (held fs (p .deleted) (markingFor (p .mark) mfrl old) ∷ [])
   unfolding tabulate
   items-more low e fresh =
       let k : nextOf mst′ - 1 ≡ suc (nextOf mst - 1) = omega arith in
       let q : suc (nextOf mst - 1) ≡ m = omega arith in
       rw k
-      (ap (λ (is : List Item). is ++ (itemAt mst′ xrf′ (suc (nextOf mst - 1)) ∷ []))
-      (tabulate-same (nextOf mst - 1) (itemAt mst′ xrf′) (itemAt mst xrf) (λ o lo hi. item-kept o (λ z. omega arith) lo (omega arith)))
-      ∙ ap (λ (j : Item). tabulate (nextOf mst - 1) (itemAt mst xrf) ++ (j ∷ [])) (ap (itemAt mst′ xrf′) q ∙ own-item))
+      (ap (λ (is : List Item). is ++ (itemAt (store mst′ xrf′) (suc (nextOf mst - 1)) ∷ []))
+      (tabulate-same (nextOf mst - 1) (itemAt (store mst′ xrf′)) (itemAt (store mst xrf)) (λ o lo hi. item-kept o (λ z. omega arith) lo (omega arith)))
+      ∙ ap (λ (j : Item). tabulate (nextOf mst - 1) (itemAt (store mst xrf)) ++ (j ∷ [])) (ap (itemAt (store mst′ xrf′)) q ∙ own-item))
 
   pub ledger-more : 1 ≤ nextOf mst → next ≡ nextOf mst + 1 → m ≡ nextOf mst
       → ledgerOf (store mst′ xrf′)

@@ -13,12 +13,13 @@ use borrow.Author.Tests.{ltb-false}
 use Rattle.layout.specs.declared.entry.Mark.the-variants.{New}
 use Rattle.record.specs.Bytes.{needFor}
 use Rattle.record.proofs.Draftable.{draft-draftable}
-use Rattle.store.specs.Refusals.{exceeds, createAnswer}
-use Rattle.store.specs.Calls.{placeAtEnd, createdMst, createdXrf}
-use Rattle.store.specs.declared.answer.Answer.the-variants.{Done, BadDraft, Full, BadEntry, NoRoom}
-use Rattle.soundness.proofs.Standing.{Sound, below-capacity, sound}
-use Rattle.soundness.proofs.Writes.{Leaves, created-leaves}
-use Rattle.ledger.specs.Store.{store, Draft, isRight, fieldsIn}
+use Rattle.writing.specs.Refusals.{exceeds, createAnswer}
+use Rattle.writing.specs.Calls.{placeAtEnd, createdMst, createdXrf}
+use Rattle.store.specs.declared.answer.Answer.the-variants.{Done, BadDraft, NoSlot, BadEntry, NoRoom}
+use Rattle.soundness.proofs.SoundEntries.{Sound, below-capacity, sound}
+use Rattle.soundness.proofs.Leaving.{Leaves}
+use Rattle.soundness.proofs.Writes.{created-leaves}
+use Rattle.store.specs.Store.{store, Draft, isRight, fieldsIn}
 use Rattle.ledger.specs.Call.{create}
 use Rattle.ledger.specs.LedgerSteps.{applied, effectOf}
 use Rattle.ledger.specs.LedgerOf.{ledgerOf}
@@ -31,7 +32,7 @@ pub record CreateAsked (mst xrf : List ℕ) (d : Draft) : Type 0 where
   pub below : nextOf mst ≤ capacityOf (length xrf)
   pub room : endOf mst + needFor (fieldsIn d) ≤ length mst
 
-rows : (d f h r : Bool) → cond (not d) BadDraft (cond f Full (cond (not h) BadEntry (cond r NoRoom Done))) ≡ Done → (d ≡ true) × (f ≡ false) × (r ≡ false)
+rows : (d f h r : Bool) → cond (not d) BadDraft (cond f NoSlot (cond (not h) BadEntry (cond r NoRoom Done))) ≡ Done → (d ≡ true) × (f ≡ false) × (r ≡ false)
 rows true true h r e = let z : _≡_ {A = ℕ} 0 1 = cc in absurd (omega arith)
 rows true false true true e = let z : _≡_ {A = ℕ} 0 1 = cc in absurd (omega arith)
 rows true false true false e = (refl, refl, refl)
@@ -39,7 +40,7 @@ rows true false false r e = let z : _≡_ {A = ℕ} 0 1 = cc in absurd (omega ar
 rows false f h r e = let z : _≡_ {A = ℕ} 0 1 = cc in absurd (omega arith)
 
 module _ (mst xrf : List ℕ) (d : Draft) (s : Sound mst xrf) where
-  pub create-asked : createAnswer mst xrf (d .tags) (d .lens) (d .bytes) ≡ Done → CreateAsked mst xrf d
+  pub create-asked : createAnswer (store mst xrf) d ≡ Done → CreateAsked mst xrf d
   unfolding createAnswer exceeds
   create-asked e =
       let q =

@@ -14,10 +14,10 @@ use Rattle.record.specs.Fields.{Field}
 use Rattle.record.specs.Bytes.{needFor}
 use Rattle.store.specs.Answer.{numberOf, after}
 use Rattle.store.specs.declared.answer.Answer.{Answer}
-use Rattle.store.specs.declared.answer.Answer.the-variants.{Done, BadLength, NoSuchMfn, NeverSettled}
+use Rattle.store.specs.declared.answer.Answer.the-variants.{Done, BadLength, NoMfn, NeverSettled}
 use Rattle.store.proofs.Gates.{number-done, after-done, after-refused}
 use Rattle.store.proofs.Lowest.{Applies}
-use Rattle.ledger.specs.Store.{Draft, fieldsIn}
+use Rattle.store.specs.Store.{store, Draft, fieldsIn}
 use Rattle.ledger.specs.Call.{Call, format, view, viewSettled, create, update, delete, settle, revert, check}
 use Rattle.ledger.specs.Ledger.{new, Item, gone, held, Ledger, nextMfn, lengthsFine, mfnIn, itemOf, keptMark, isSettledMark, isNewMark}
 use Rattle.ledger.specs.LedgerAnswers.{appends, refusalsL, numberL}
@@ -64,14 +64,14 @@ module _ (L : Ledger) (c : Call) (d : numberL L c ≡ Done) where
   fine : (not (lengthsFine L) ≡ true → Applies (refusalsL L c) BadLength) → lengthsFine L ≡ true
   fine f = row-not BadLength (lengthsFine L) f
 
-  known : (k : ℕ) → (not (lengthsFine L) ≡ true → Applies (refusalsL L c) BadLength) → (not (mfnIn L k) ≡ true → Applies (refusalsL L c) NoSuchMfn) → Known L k
+  known : (k : ℕ) → (not (lengthsFine L) ≡ true → Applies (refusalsL L c) BadLength) → (not (mfnIn L k) ≡ true → Applies (refusalsL L c) NoMfn) → Known L k
   known k f g =
-      let r = in-range L k (row-not NoSuchMfn (mfnIn L k) g) in
+      let r = in-range L k (row-not NoMfn (mfnIn L k) g) in
       record { lengths = fine f; low = r .0; high = r .1 }
 
 pub create-lengths : (L : Ledger) (f : Draft) → numberL L (create f) ≡ Done → lengthsFine L ≡ true
 unfolding refusalsL
-create-lengths L f d = fine L (create f) d (λ e. inl (refl, e))
+create-lengths L f d = fine (store L (create f)) d (λ e. inl (refl, e))
 
 pub does : (L : Ledger) (c : Call) → numberL L c ≡ Done → Does L c (effectOf L c)
 unfolding effectOf refusalsL

@@ -6,7 +6,7 @@ use Rattle.ledger.specs.Call.{Call}
 use Rattle.ledger.specs.Ledger.{Ledger}
 use Rattle.ledger.specs.LedgerAnswers.{answerL}
 use Rattle.ledger.specs.LedgerSteps.{nextL, answersL, afterL}
-use Rattle.ledger.specs.Store.{Store}
+use Rattle.store.specs.Store.{Store}
 use Rattle.ledger.specs.StoreRun.{answerS, nextS, answersS, afterS}
 use Rattle.ledger.specs.LedgerOf.{ledgerOf, SoundStore}
 

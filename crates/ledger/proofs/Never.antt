@@ -8,13 +8,13 @@ use mathlib.Core.Bool.{Bool, true, false, not}
 use mathlib.Core.List.{List, [], _∷_}
 use mathlib.Core.Logic.{⊎-elim}
 use lib.ListN.{length}
-use Rattle.word.proofs.Place.{lt-or-ge}
+use Rattle.word.proofs.Overwrite.{lt-or-ge}
 use Rattle.layout.proofs.Tests.{tests, false-true}
 use Rattle.store.specs.Answer.{Refusal, refuse, lowest, numberOf}
 use Rattle.store.specs.Reading.{lengthsPermitted}
 use Rattle.store.specs.declared.answer.Answer.{Answer}
-use Rattle.store.specs.declared.answer.Answer.the-variants.{Done, NoSuchMfn}
-use Rattle.ledger.specs.Store.{store}
+use Rattle.store.specs.declared.answer.Answer.the-variants.{Done, NoMfn}
+use Rattle.store.specs.Store.{store}
 use Rattle.ledger.specs.Call.{Call, format, view, viewSettled, create, update, delete, settle, revert, check, Outcome}
 use Rattle.ledger.specs.Ledger.{new, Item, gone, held, Ledger, nextMfn, empty, lengthsFine, mfnIn, itemOf, isGoneItem}
 use Rattle.ledger.specs.LedgerAnswers.{measured, named, refusalsL, numberL, answerL}
@@ -58,7 +58,7 @@ module _ (L : Ledger) (w : Whole L) where
     no-length : {rs : List Refusal} → RowsMay c rs → RowsMay c (measured L rs)
     no-length q = row (λ e. absurd (false-true (sym (ap not (w .lengths)) ∙ e))) (λ e. q)
 
-    no-gone : (m : ℕ) {rs : List Refusal} → MayCome c NoSuchMfn → RowsMay c rs → RowsMay c (named L m rs)
+    no-gone : (m : ℕ) {rs : List Refusal} → MayCome c NoMfn → RowsMay c rs → RowsMay c (named L m rs)
     no-gone m p q = row (λ e. p) (λ e. row (λ g. absurd (false-true (sym (w .held m (known (mfnIn L m) e)) ∙ g))) (λ g. q))
       where
         known : (b : Bool) → not b ≡ false → b ≡ true
@@ -124,12 +124,12 @@ unfolding answersL
 all-may-come L w [] = none
 all-may-come L w (c ∷ cs) = more (answer-may L w c) (all-may-come (nextL L c) (whole-next L w c) cs)
 
-permitted : (mst xrf : List ℕ) → lengthsPermitted mst xrf ≡ true → lengthsFine (empty (length mst) (length xrf)) ≡ true
+permitted : (mst xrf : List ℕ) → lengthsPermitted (store mst xrf) ≡ true → lengthsFine (empty (length mst) (length xrf)) ≡ true
 unfolding lengthsPermitted lengthsFine empty
 permitted mst xrf h = h
 
 -- IN A LIST FROM FORMAT, 1, 2, 6, 7, 8 AND 14 NEVER COME: the library's own answers
-pub never-come : (mst xrf : List ℕ) → lengthsPermitted mst xrf ≡ true → (cs : List Call) → AllMayCome cs (answersS (nextS (store mst xrf) format) cs)
+pub never-come : (mst xrf : List ℕ) → lengthsPermitted (store mst xrf) ≡ true → (cs : List Call) → AllMayCome cs (answersS (nextS (store mst xrf) format) cs)
 never-come mst xrf h cs =
     rw (demand-3 mst xrf h cs .answers)
     (all-may-come (empty (length mst) (length xrf)) (whole-empty (length mst) (length xrf) (permitted mst xrf h)) cs)

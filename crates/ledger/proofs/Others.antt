@@ -9,11 +9,11 @@ use mathlib.Core.Logic.{⊎-elim}
 use lib.Dec.{ltb}
 use lib.ListN.{length}
 use borrow.Author.Tests.{eqb-false, lt-ltb, le-ltb}
-use Rattle.word.proofs.Place.{lt-or-ge}
+use Rattle.word.proofs.Overwrite.{lt-or-ge}
 use Rattle.layout.proofs.Tests.{false-true}
 use Rattle.store.specs.Answer.{after, numberOf}
-use Rattle.store.specs.declared.answer.Answer.the-variants.{BadLength, NoSuchMfn}
-use Rattle.ledger.specs.Store.{Store}
+use Rattle.store.specs.declared.answer.Answer.the-variants.{BadLength, NoMfn}
+use Rattle.store.specs.Store.{Store}
 use Rattle.ledger.specs.Call.{Call, view, viewSettled}
 use Rattle.ledger.specs.Ledger.{Item, held, new, Ledger, nextMfn, lengthsFine, mfnIn, itemOf}
 use Rattle.ledger.specs.LedgerAnswers.{refusalsL, numberL, theField, givesL, outcomeOf, answerL}
@@ -74,7 +74,7 @@ module _ (L : Ledger) (o : ℕ) where
 
 -- an MFN that is not there shows nothing
 unknown-same : (fine : Bool) (x y : List ℕ)
-    → outcomeOf (cond (not fine) BadLength NoSuchMfn) (theField x) ≡ outcomeOf (cond (not fine) BadLength NoSuchMfn) (theField y)
+    → outcomeOf (cond (not fine) BadLength NoMfn) (theField x) ≡ outcomeOf (cond (not fine) BadLength NoMfn) (theField y)
 unfolding after numberOf
 unknown-same true x y = refl
 unknown-same false x y = refl

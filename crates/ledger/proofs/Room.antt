@@ -12,8 +12,8 @@ use Rattle.layout.proofs.Tests.{tests, false-true}
 use Rattle.record.specs.Bytes.{needFor}
 use Rattle.store.specs.Answer.{Refusal, refuse, lowest, numberOf}
 use Rattle.store.specs.declared.answer.Answer.{Answer}
-use Rattle.store.specs.declared.answer.Answer.the-variants.{Done, BadLength, BadDraft, NoSuchMfn, Full, PhysicallyDeleted, Deleted, NoRoom}
-use Rattle.ledger.specs.Store.{Store, Draft, isRight, fieldsIn}
+use Rattle.store.specs.declared.answer.Answer.the-variants.{Done, BadLength, BadDraft, NoMfn, NoSlot, Gone as GoneAnswer, Deleted, NoRoom}
+use Rattle.store.specs.Store.{Store, Draft, isRight, fieldsIn}
 use Rattle.ledger.specs.Call.{Call, create, update, delete, Outcome}
 use Rattle.ledger.specs.Ledger.{Ledger, nextMfn, lengthsFine, mfnIn, itemOf, isGoneItem, keptFields, keptDeleted, keptMark, isSettledMark}
 use Rattle.ledger.specs.LedgerAnswers.{measured, named, overfull, appends, refusalsL, numberL}
@@ -105,7 +105,7 @@ module _ (s : Store) (h : SoundStore s) where
   create-room d =
       rw (answer-is (create d))
       (room-rule
-      (measured L (refuse BadDraft (not (isRight d)) ∷ refuse Full (eqb (nextMfn L) (capacityOf (L .xrfLength) + 1)) ∷ []))
+      (measured L (refuse BadDraft (not (isRight d)) ∷ refuse NoSlot (eqb (nextMfn L) (capacityOf (L .xrfLength) + 1)) ∷ []))
       true (L .end) (needFor (fieldsIn d)) (L .mstLength) refl)
 
   pub update-room : (m : ℕ) (d : Draft) → RoomOf s L (update m d) (appends (keptMark (itemOf L m)) (needFor (fieldsIn d))) (needFor (fieldsIn d))

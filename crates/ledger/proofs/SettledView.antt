@@ -3,9 +3,8 @@ use Prim.Native.Nat.{ℕ}
 use mathlib.Core.Path.{_≡_, refl}
 use mathlib.Core.Bool.{Bool, true, false, _&&_}
 use Rattle.store.specs.Reading.{versionFine}
-use Rattle.store.specs.Refusals.{viewAnswer, settledViewAnswer}
-use Rattle.store.specs.Calls.{viewOf, settledViewOf}
-use Rattle.ledger.specs.Store.{Store}
+use Rattle.views.specs.Views.{viewAnswer, settledViewAnswer, viewOf, settledViewOf}
+use Rattle.store.specs.Store.{Store}
 use Rattle.ledger.specs.StoreRun.{answerS}
 use Rattle.ledger.specs.History.{SettledIsCurrent}
 

@@ -3,7 +3,7 @@ use Prim.Native.Nat.{ℕ, _+_}
 use mathlib.Core.Path.{_≡_, refl, ap, _∙_}
 use mathlib.Core.Bool.{Bool}
 use mathlib.Core.List.{List}
-use Rattle.word.specs.Place.{part}
+use Rattle.word.specs.Overwrite.{part}
 use Rattle.layout.specs.declared.leader.Leader.{Leader}
 use Rattle.record.specs.Fields.{Field, fieldsOf, fieldNamed, findOf, foundBytes}
 use Rattle.record.specs.declared.fields.Found.{Found}
@@ -11,8 +11,7 @@ use Rattle.record.specs.declared.fields.Found.the-variants.{At, Missing}
 use Rattle.record.proofs.Local.{ReadsAs}
 use Rattle.record.proofs.Search.{find-field-is}
 use Rattle.record.proofs.Find.{reads-found, reads-missing}
-use Rattle.store.specs.Refusals.{isMissing}
-use Rattle.store.specs.Calls.{foundStart, foundLength}
+use Rattle.views.specs.Views.{isMissing, foundStart, foundLength}
 use Rattle.ledger.specs.LedgerAnswers.{isNone, bytesOf}
 
 missing-found : (rec : List ℕ) (f : Found) → isMissing f ≡ isNone (foundBytes rec f)

@@ -11,14 +11,14 @@ use Rattle.layout.specs.Control.{nextOf, endOf, formattedMst}
 use Rattle.layout.specs.CrossReference.{formattedXrf}
 use Rattle.record.proofs.Draftable.{draft-draftable}
 use Rattle.store.specs.Answer.{after}
-use Rattle.store.specs.Reading.{lengthsPermitted, mfnKnown, placeFor, currentFields}
-use Rattle.store.specs.Refusals.{formatAnswer, createAnswer, updateAnswer, deleteAnswer, settleAnswer, revertAnswer}
-use Rattle.store.specs.Calls.{formatMst, formatXrf, createOf, createdMst, createdXrf, createMst, createXrf, updatedMst, updatedXrf, updateMst, updateXrf, deletedMst, deletedXrf, deleteMst, deleteXrf, settledMst, settledXrf, settleMst, settleXrf, revertedXrf, revertXrf}
+use Rattle.store.specs.Reading.{lengthsPermitted, mfnInRange}
+use Rattle.writing.specs.Refusals.{formatAnswer, createAnswer, updateAnswer, deleteAnswer, settleAnswer, revertAnswer}
+use Rattle.writing.specs.Calls.{formatLeaves, createOf, createLeaves, updateLeaves, deleteLeaves, settleLeaves, revertLeaves}
 use Rattle.store.specs.declared.answer.Answer.{Answer}
 use Rattle.store.specs.declared.answer.Answer.the-variants.{Done}
 use Rattle.store.proofs.Gates.{after-same}
-use Rattle.soundness.proofs.Standing.{Sound, stands, body-sound, EntryStands, is-gone, is-at, known-stands, create-row, below-capacity, version-fine}
-use Rattle.ledger.specs.Store.{Store, store, Draft, fieldsIn}
+use Rattle.soundness.proofs.SoundEntries.{Sound, stands, body-sound, EntryStands, is-gone, is-at, known-stands, create-row, below-capacity, version-fine}
+use Rattle.store.specs.Store.{Store, store, Draft}
 use Rattle.ledger.specs.Call.{Call, format, view, viewSettled, create, update, delete, settle, revert, check, outcome, plain}
 use Rattle.ledger.specs.Ledger.{Ledger, nextMfn, empty}
 use Rattle.ledger.specs.LedgerAnswers.{numberL, givesL, outcomeOf, answerL}
@@ -46,13 +46,13 @@ module _ (t : Store) (h : SoundStore t) where
   opened = record { lengths = s .lengths; control = s .control; next-low = s .numbers .next-low }
 
   see : (m : ℕ) → Seen t m
-  see m = go (mfnKnown (t .mst) m) refl
+  see m = go (mfnInRange (t .mst) m) refl
     where
-      at : mfnKnown (t .mst) m ≡ true → EntryStands (t .mst) (t .xrf) m → Seen t m
+      at : mfnInRange (t .mst) m ≡ true → EntryStands (t .mst) (t .xrf) m → Seen t m
       at k (is-gone e) = physically k e
       at k (is-at p e f) = present p k e (f .fine) (version-fine (t .mst) m p f)
 
-      go : (b : Bool) → mfnKnown (t .mst) m ≡ b → Seen t m
+      go : (b : Bool) → mfnInRange (t .mst) m ≡ b → Seen t m
       go true k = at k (known-stands s m k)
       go false k = absent k
 
@@ -63,12 +63,11 @@ module _ (t : Store) (h : SoundStore t) where
   asked c a n e =
       record { answer = a; next = rw (n, e, after-same (numberL (ledgerOf t) c) (ledgerOf t)); sound = rw n h }
 
-  written : (c : Call) (a : Answer) (mst′ xrf′ : List ℕ) → a ≡ numberL (ledgerOf t) c → answerS t c ≡ outcomeOf a (givesL (ledgerOf t) c)
-      → nextS t c ≡ store (after a mst′ (t .mst)) (after a xrf′ (t .xrf))
-      → (a ≡ Done → Left (store mst′ xrf′) (applied (ledgerOf t) (effectOf (ledgerOf t) c))) → Step t c
+  written : (c : Call) (a : Answer) (t′ : Store) → a ≡ numberL (ledgerOf t) c → answerS t c ≡ outcomeOf a (givesL (ledgerOf t) c) → nextS t c ≡ after a t′ t
+      → (a ≡ Done → Left t′ (applied (ledgerOf t) (effectOf (ledgerOf t) c))) → Step t c
   unfolding answerL nextL
-  written c a mst′ xrf′ same gives leaves done =
-      let l = either a (numberL (ledgerOf t) c) (t .mst) (t .xrf) mst′ xrf′ (applied (ledgerOf t) (effectOf (ledgerOf t) c)) same h done in
+  written c a t′ same gives leaves done =
+      let l = either a (numberL (ledgerOf t) c) t t′ (applied (ledgerOf t) (effectOf (ledgerOf t) c)) same h done in
       record {
         answer = gives ∙ ap (λ (b : Answer). outcomeOf b (givesL (ledgerOf t) c)) same;
         next = rw leaves (l .ledger);
@@ -80,43 +79,33 @@ module _ (t : Store) (h : SoundStore t) where
   unfolding effectOf ledgerOf
   emptied-left = record { ledger = formatted-ledger (t .mst) (t .xrf) (s .lengths); sound = formatted-sound (t .mst) (t .xrf) (s .lengths) }
 
-  create-gives : (d : Draft) → answerS t (create d) ≡ outcomeOf (createAnswer (t .mst) (t .xrf) (d .tags) (d .lens) (d .bytes)) (givesL (ledgerOf t) (create d))
+  create-gives : (d : Draft) → answerS t (create d) ≡ outcomeOf (createAnswer t d) (givesL (ledgerOf t) (create d))
   unfolding answerS givesL createOf
   create-gives d =
-      ap (λ (n : ℕ). outcome (createAnswer (t .mst) (t .xrf) (d .tags) (d .lens) (d .bytes)) (after (createAnswer (t .mst) (t .xrf) (d .tags) (d .lens) (d .bytes)) n 0) [])
+      ap (λ (n : ℕ). outcome (createAnswer t d) (after (createAnswer t d) n 0) [])
       (sym (next-is t opened))
 
   pub step : (c : Call) → Step t c
-  unfolding answerS answerL givesL nextS effectOf formatMst formatXrf createMst createXrf updateMst updateXrf deleteMst deleteXrf settleMst settleXrf revertXrf
-  step format =
-      written format (formatAnswer (t .mst) (t .xrf)) (formattedMst (length (t .mst))) (formattedXrf (length (t .xrf))) (format-answer t opened) refl refl
-      (λ d. emptied-left)
+  unfolding answerS answerL givesL nextS effectOf formatLeaves createLeaves updateLeaves deleteLeaves settleLeaves revertLeaves
+  step format = written format (formatAnswer t) _ (format-answer t opened) refl refl (λ d. emptied-left)
   step (view m tag occ) = asked (view m tag occ) (view-outcome t opened m tag occ (see m)) refl refl
   step (viewSettled m tag occ) = asked (viewSettled m tag occ) (settled-view-outcome t opened m tag occ (see m)) refl refl
   step (create d) =
-      written (create d) (createAnswer (t .mst) (t .xrf) (d .tags) (d .lens) (d .bytes)) (createdMst (t .mst) (fieldsIn d)) (createdXrf (t .mst) (t .xrf))
-      (create-answer t opened d (λ e. create-row s (below-capacity s e))) (create-gives d) refl
+      written (create d) (createAnswer t d) _ (create-answer t opened d (λ e. create-row s (below-capacity s e))) (create-gives d) refl
       (λ e. create-left (t .mst) (t .xrf) d s (create-asked (t .mst) (t .xrf) d s e))
   step (update m d) =
-      let p = placeFor (t .mst) (t .xrf) m in
-      written (update m d) (updateAnswer (t .mst) (t .xrf) m (d .tags) (d .lens) (d .bytes)) (updatedMst (t .mst) m p (fieldsIn d)) (updatedXrf (t .mst) (t .xrf) m p (fieldsIn d))
-      (update-answer t opened m d (see m)) refl refl
+      written (update m d) (updateAnswer t m d) _ (update-answer t opened m d (see m)) refl refl
       (λ e.
       let a = update-asked s m d e in
       update-left (t .mst) (t .xrf) s m opened (a .here) d (draft-draftable (d .tags) (d .lens) (d .bytes) (a .draft)) (a .live) (a .room))
   step (delete m) =
-      let p = placeFor (t .mst) (t .xrf) m in
-      written (delete m) (deleteAnswer (t .mst) (t .xrf) m) (deletedMst (t .mst) m p (currentFields (t .mst) p)) (deletedXrf (t .mst) (t .xrf) m p)
-      (delete-answer t opened m (see m)) refl refl
+      written (delete m) (deleteAnswer t m) _ (delete-answer t opened m (see m)) refl refl
       (λ e. let a = delete-asked s m e in delete-left (t .mst) (t .xrf) s m opened (a .here) (a .live) (a .room))
   step (settle m) =
-      let p = placeFor (t .mst) (t .xrf) m in
-      written (settle m) (settleAnswer (t .mst) (t .xrf) m) (settledMst (t .mst) p) (settledXrf (t .xrf) m p) (settle-answer t opened m (see m)) refl refl
+      written (settle m) (settleAnswer t m) _ (settle-answer t opened m (see m)) refl refl
       (λ e. settle-left (t .mst) (t .xrf) s m opened (settle-asked s m e .here))
   step (revert m) =
-      let p = placeFor (t .mst) (t .xrf) m in
-      written (revert m) (revertAnswer (t .mst) (t .xrf) m) (t .mst) (revertedXrf (t .mst) (t .xrf) m p) (revert-answer t opened m (see m)) refl
-      (rw (after-same (revertAnswer (t .mst) (t .xrf) m) (t .mst)))
+      written (revert m) (revertAnswer t m) _ (revert-answer t opened m (see m)) refl refl
       (λ e. let a = revert-asked s m e in revert-left (t .mst) (t .xrf) s m opened (a .here) (a .changed))
   step check = asked check (ap plain (check-answer t opened (body-sound (t .mst) (t .xrf) s))) refl refl
 
@@ -138,7 +127,7 @@ answers-are-the-ledgers t h cs =
     record { answers = r .answers; kept = kept (afterS t cs) (r .sound) (afterL (ledgerOf t) cs) (r .last) }
 
 -- DEMAND 3, for two buffers of permitted lengths, whatever they held, and every list of calls after format
-pub demand-3 : (mst xrf : List ℕ) → lengthsPermitted mst xrf ≡ true → (cs : List Call) → Demand3 mst xrf cs
+pub demand-3 : (mst xrf : List ℕ) → lengthsPermitted (store mst xrf) ≡ true → (cs : List Call) → Demand3 mst xrf cs
 demand-3 mst xrf h cs =
     let r = answers-are-the-ledgers (formatted mst xrf) (formatted-sound mst xrf h) cs in
     rw (format-leaves mst xrf h, ← formatted-ledger mst xrf h) r

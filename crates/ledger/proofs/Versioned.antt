@@ -10,7 +10,7 @@ use Rattle.record.specs.Bytes.{needFor}
 use Rattle.store.specs.Answer.{numberOf, after}
 use Rattle.store.specs.declared.answer.Answer.the-variants.{Done, Deleted, NeverSettled, NoField}
 use Rattle.store.proofs.Gates.{after-done}
-use Rattle.ledger.specs.Store.{Draft, fieldsIn}
+use Rattle.store.specs.Store.{Draft, fieldsIn}
 use Rattle.ledger.specs.Call.{Call, view, viewSettled, create, update, delete, revert, Outcome, plain}
 use Rattle.ledger.specs.Ledger.{Marking, settled, new, changed, Item, held, Ledger, nextMfn, lengthsFine, itemOf, settledFields}
 use Rattle.ledger.specs.LedgerAnswers.{isNone, bytesOf, appends, refusalsL, numberL, theField, givesL, outcomeOf, answerL}

@@ -16,16 +16,17 @@ use Rattle.record.specs.Fields.{Field, fieldsOf}
 use Rattle.record.specs.Bytes.{needFor}
 use Rattle.record.proofs.Draftable.{Draftable}
 use Rattle.store.specs.Reading.{placeFor, isSettled, isChanged, recordAt, leaderAt, settledRecord, currentFields}
-use Rattle.store.specs.Refusals.{updateAppends}
-use Rattle.store.specs.Calls.{pendingMark, updatedMst, updatedXrf, deletedMst, deletedXrf, settledMst, settledXrf, revertedXrf}
+use Rattle.writing.specs.Refusals.{updateAppends}
+use Rattle.writing.specs.Calls.{pendingMark, updatedMst, updatedXrf, deletedMst, deletedXrf, settledMst, settledXrf, revertedXrf}
 use Rattle.store.proofs.Gates.{MfnFacts, mfn-facts}
-use Rattle.soundness.proofs.Standing.{Sound, sound}
-use Rattle.soundness.proofs.Writes.{Leaves, update-appends, update-stays, delete-appends, delete-stays, settled-leaves, reverted-leaves}
+use Rattle.soundness.proofs.SoundEntries.{Sound, sound}
+use Rattle.soundness.proofs.Leaving.{Leaves}
+use Rattle.soundness.proofs.Writes.{update-appends, update-stays, delete-appends, delete-stays, settled-leaves, reverted-leaves}
 use Rattle.ledger.specs.Call.{update, delete, settle, revert}
 use Rattle.ledger.specs.Ledger.{settled, changed, held, Ledger, itemOf, keptLength, settledOr, settledFields}
 use Rattle.ledger.specs.LedgerAnswers.{appends}
 use Rattle.ledger.specs.LedgerSteps.{Effect, itemSet, applied, versionMark, effectOf}
-use Rattle.ledger.specs.Store.{store, Draft, fieldsIn}
+use Rattle.store.specs.Store.{store, Draft, fieldsIn}
 use Rattle.ledger.specs.LedgerOf.{markingAt, ledgerOf}
 use Rattle.ledger.proofs.Reading.{Opened}
 use Rattle.ledger.proofs.Answering.{settled-mark, appends-is, item-at}
@@ -65,7 +66,7 @@ in-place p l need e = go (isSettled (p .mark)) (ltb (l .mfrl) need) e
 
 module _ (mst xrf : List ℕ) (s : Sound mst xrf) (m : ℕ) (o : Opened (store mst xrf)) (t : There mst xrf m) where
   abbrev p : Place
-  p = placeFor mst xrf m
+  p = placeFor (store mst xrf) m
 
   range : MfnFacts mst m
   range = mfn-facts mst m (t .known)

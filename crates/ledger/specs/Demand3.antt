@@ -5,7 +5,7 @@ use mathlib.Core.Path.{_≡_}
 use mathlib.Core.List.{List}
 use lib.ListN.{length}
 use Rattle.layout.specs.Control.{nextOf, endOf}
-use Rattle.ledger.specs.Store.{Store, store}
+use Rattle.store.specs.Store.{Store, store}
 use Rattle.ledger.specs.Call.{Call, format}
 use Rattle.ledger.specs.Ledger.{Ledger, nextMfn, empty}
 use Rattle.ledger.specs.LedgerSteps.{answersL, afterL}

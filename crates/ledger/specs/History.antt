@@ -9,10 +9,10 @@ use Rattle.layout.specs.declared.entry.Mark.the-variants.{Settled}
 use Rattle.layout.specs.declared.entry.Place.{Place}
 use Rattle.layout.specs.declared.entry.Entry.the-variants.{At}
 use Rattle.store.specs.Answer.{numberOf, Refusal}
-use Rattle.store.specs.Reading.{mfnKnown, entryFor, placeFor}
+use Rattle.store.specs.Reading.{mfnInRange, entryFor, placeFor}
 use Rattle.store.specs.declared.answer.Answer.{Answer}
 use Rattle.store.specs.declared.answer.Answer.the-variants.{Done, NeverSettled, NoRoom}
-use Rattle.ledger.specs.Store.{Store, Draft}
+use Rattle.store.specs.Store.{Store, Draft}
 use Rattle.ledger.specs.Call.{Call, format, view, viewSettled, create, update, delete, settle, revert, check, Outcome, plain}
 use Rattle.ledger.specs.Ledger.{Ledger}
 use Rattle.ledger.specs.LedgerAnswers.{refusalsL}
@@ -27,9 +27,9 @@ pub data Every (P : Call → Type 0) : List Call → Type 0 where
 
 -- MFN m is live and settled
 pub record LiveSettled (s : Store) (m : ℕ) : Type 0 where
-  pub in-range : mfnKnown (s .mst) m ≡ true
+  pub in-range : mfnInRange (s .mst) m ≡ true
   pub place : Place
-  pub entry : entryFor (s .mst) (s .xrf) m ≡ At place
+  pub entry : entryFor s m ≡ At place
   pub live : place .deleted ≡ false
   pub settled : place .mark ≡ Settled
 
@@ -57,7 +57,7 @@ pub record SettledVersion (s : Store) (m : ℕ) (c : Call) (cs : List Call) : Ty
 
 -- where a record is settled, its settled view is its current one: the same answer and the same bytes, on any two buffers
 abbrev pub SettledIsCurrent : Store → ℕ → Type 0
-SettledIsCurrent s m = placeFor (s .mst) (s .xrf) m .mark ≡ Settled → (tag occ : ℕ) → answerS s (viewSettled m tag occ) ≡ answerS s (view m tag occ)
+SettledIsCurrent s m = placeFor s m .mark ≡ Settled → (tag occ : ℕ) → answerS s (viewSettled m tag occ) ≡ answerS s (view m tag occ)
 
 -- ---- never settled
 

@@ -11,8 +11,8 @@ use Rattle.record.specs.Fields.{fieldNamed}
 use Rattle.record.specs.Bytes.{needFor}
 use Rattle.store.specs.Answer.{Refusal, refuse, lowest, after}
 use Rattle.store.specs.declared.answer.Answer.{Answer}
-use Rattle.store.specs.declared.answer.Answer.the-variants.{BadLength, BadDraft, NoSuchMfn, Full, PhysicallyDeleted, Deleted, NotPending, NeverSettled, NoField, NoRoom}
-use Rattle.ledger.specs.Store.{isRight, fieldsIn}
+use Rattle.store.specs.declared.answer.Answer.the-variants.{BadLength, BadDraft, NoMfn, NoSlot, Gone, Deleted, NotPending, NeverSettled, NoField, NoRoom}
+use Rattle.store.specs.Store.{isRight, fieldsIn}
 use Rattle.ledger.specs.Call.{Call, format, view, viewSettled, create, update, delete, settle, revert, check, Outcome, outcome, plain}
 use Rattle.ledger.specs.Ledger.{Marking, Ledger, nextMfn, lengthsFine, mfnIn, itemOf, isGoneItem, keptFields, keptDeleted, keptMark, isSettledMark, isNewMark, keptLength, settledFields}
 
@@ -24,7 +24,7 @@ measured L rest = refuse BadLength (not (lengthsFine L)) ∷ rest
 
 -- 4 and 7, for calls that name an MFN
 abbrev pub named : Ledger → ℕ → List Refusal → List Refusal
-named L m rest = refuse NoSuchMfn (not (mfnIn L m)) ∷ refuse PhysicallyDeleted (isGoneItem (itemOf L m)) ∷ rest
+named L m rest = refuse NoMfn (not (mfnIn L m)) ∷ refuse Gone (isGoneItem (itemOf L m)) ∷ rest
 
 -- 13, last, for a call that is appended: end + need exceeds the MST length
 unfoldable pub overfull : Ledger → ℕ → Bool
@@ -66,7 +66,7 @@ refusalsL L (viewSettled m tag occ) =
 refusalsL L (create d) =
     measured L
     (refuse BadDraft (not (isRight d))
-    ∷ refuse Full (eqb (nextMfn L) (capacityOf (L .xrfLength) + 1))
+    ∷ refuse NoSlot (eqb (nextMfn L) (capacityOf (L .xrfLength) + 1))
     ∷ roomFor L true (needFor (fieldsIn d)))
 refusalsL L (update m d) =
     measured L

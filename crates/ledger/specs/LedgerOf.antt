@@ -14,7 +14,7 @@ use Rattle.record.specs.Fields.{fieldsOf}
 use Rattle.store.specs.Reading.{entryFor, leaderAt, settledRecord, currentFields}
 use Rattle.soundness.specs.Sound.{soundOf}
 use Rattle.ledger.specs.Ledger.{Marking, settled, new, changed, Item, gone, held, Ledger}
-use Rattle.ledger.specs.Store.{Store}
+use Rattle.store.specs.Store.{Store}
 
 -- the mark of the record at a place, with the record length under new and changed, and under changed the settled version's fields
 abbrev pub markingAt : List ℕ → Place → Mark → Marking
@@ -29,8 +29,8 @@ itemFor mst Malformed = gone
 itemFor mst (At p) = held (currentFields mst p) (p .deleted) (markingAt mst p (p .mark))
 
 -- the item of MFN m
-abbrev pub itemAt : List ℕ → List ℕ → ℕ → Item
-itemAt mst xrf m = itemFor mst (entryFor mst xrf m)
+abbrev pub itemAt : Store → ℕ → Item
+itemAt s m = itemFor (s .mst) (entryFor s m)
 
 -- f of 1 to n
 unfoldable pub tabulate : ℕ → (ℕ → Item) → List Item
@@ -43,9 +43,9 @@ ledgerOf s =
       mstLength = length (s .mst);
       xrfLength = length (s .xrf);
       end = endOf (s .mst);
-      items = tabulate (nextOf (s .mst) - 1) (itemAt (s .mst) (s .xrf));
+      items = tabulate (nextOf (s .mst) - 1) (itemAt s);
     }
 
 -- the store is sound
 abbrev pub SoundStore : Store → Type 0
-SoundStore s = soundOf (s .mst) (s .xrf) ≡ true
+SoundStore s = soundOf s ≡ true

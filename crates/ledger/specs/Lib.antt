@@ -1,4 +1,3 @@
-pub mod Store
 pub mod Call
 pub mod Ledger
 pub mod LedgerAnswers

@@ -8,8 +8,8 @@ use mathlib.Core.Bool.{true}
 use mathlib.Core.List.{List, [], _∷_, _++_}
 use lib.ListN.{length, length-append}
 use Rattle.word.specs.Integer.{le}
-use Rattle.word.specs.Place.{part}
-use Rattle.word.proofs.Place.{part-length, part-add}
+use Rattle.word.specs.Overwrite.{part}
+use Rattle.word.proofs.Overwrite.{part-length, part-add}
 use Rattle.word.proofs.Integers.{Bytes, u16-back}
 use Rattle.layout.specs.Leader.{leaderOf}
 use Rattle.record.specs.Directory.{tagAt, posAt, lenAt, directoryRight}

@@ -7,8 +7,8 @@ use mathlib.Core.Bool.{Bool}
 use mathlib.Core.List.{List}
 use mathlib.Core.Option.{some, none}
 use lib.ListN.{length, drop, length-take}
-use Rattle.word.specs.Place.{part}
-use Rattle.word.proofs.Place.{part-part}
+use Rattle.word.specs.Overwrite.{part}
+use Rattle.word.proofs.Overwrite.{part-part}
 use Rattle.layout.specs.declared.leader.Leader.{Leader}
 use Rattle.record.specs.Fields.{Field, fieldNamed, findOf}
 use Rattle.record.specs.declared.fields.Found.the-variants.{At, Missing}

@@ -11,8 +11,8 @@ use mathlib.Core.List.{List, [], _++_}
 use lib.ListN.{length, getD, take, drop, replicate, length-take, length-drop}
 use lib.Seq.{take-take}
 use Rattle.word.specs.Integer.{u16At, le}
-use Rattle.word.specs.Place.{place, part}
-use Rattle.word.proofs.Place.{part-take, place-length, place-part-after, drop-placed}
+use Rattle.word.specs.Overwrite.{overwrite, part}
+use Rattle.word.proofs.Overwrite.{part-take, overwrite-length, overwrite-part-after, drop-overwritten}
 use Rattle.word.proofs.Integers.{u16-part, u16-other, u32-other, u16-inside, u32-inside, u16-le-at, u32-le}
 use Rattle.word.proofs.Window.{window, window-u16, window-part}
 use Rattle.layout.specs.Leader.{leaderOf}
@@ -194,24 +194,24 @@ status-small false = omega arith
 
 module _ {rec : List ℕ} {m : ℕ} {deleted : Bool} {l : Leader} {fs : List Field} (r : ReadsAs rec m deleted l fs) where
   -- what is placed within the leader leaves the rest
-  reads-patched : (b p at : ℕ) (xs : List ℕ) → at + length xs ≤ 18 → leaderOf (place rec at xs) ≡ withBack l b p → ReadsAs (place rec at xs) m deleted (withBack l b p) fs
+  reads-patched : (b p at : ℕ) (xs : List ℕ) → at + length xs ≤ 18 → leaderOf (overwrite rec at xs) ≡ withBack l b p → ReadsAs (overwrite rec at xs) m deleted (withBack l b p) fs
   reads-patched b p at xs h e =
       let f : LeaderFacts m deleted (length rec) l = reads-leader r in
-      reads-body r (place rec at xs) m deleted (withBack l b p) e (f .mfn) refl refl refl (f .status)
-      (rw (place-length rec at xs (omega arith)) (f .record-in))
-      (place-part-after rec at xs 18 (l .mfrl - 18) h)
+      reads-body r (overwrite rec at xs) m deleted (withBack l b p) e (f .mfn) refl refl refl (f .status)
+      (rw (overwrite-length rec at xs (omega arith)) (f .record-in))
+      (overwrite-part-after rec at xs 18 (l .mfrl - 18) h)
 
 module _ (b p : ℕ) (low : b < 4294967296) (high : p < 65536) where
   -- the six bytes of the back pointer alone
   pub reads-pointer : {rec : List ℕ} {m : ℕ} {deleted : Bool} {l : Leader} {fs : List Field} → ReadsAs rec m deleted l fs
-      → ReadsAs (place rec 6 (le 4 b ++ le 2 p)) m deleted (withBack l b p) fs
+      → ReadsAs (overwrite rec 6 (le 4 b ++ le 2 p)) m deleted (withBack l b p) fs
   unfolding leaderOf
   reads-pointer {rec} {m} {deleted} {l} r =
       let f : LeaderFacts m deleted (length rec) l = reads-leader r in
       let xs : List ℕ = le 4 b ++ le 2 p in
       let h : 6 ≤ length rec = omega arith in
       reads-patched r b p 6 xs (omega arith)
-      (leader-is (place rec 6 xs) (withBack l b p)
+      (leader-is (overwrite rec 6 xs) (withBack l b p)
       (u32-other rec 6 xs 0 h (inl (omega arith)) ∙ ap (λ (x : Leader). x .mfn .0) (r .leader))
       (u16-other rec 6 xs 4 h (inl (omega arith)) ∙ ap (λ (x : Leader). x .mfrl) (r .leader))
       (u32-inside rec 6 xs 0 h (omega arith) ∙ u32-le b (le 2 p) low)
@@ -222,14 +222,14 @@ module _ (b p : ℕ) (low : b < 4294967296) (high : p < 65536) where
 
   -- in a buffer
   module _ (d : List ℕ) (at n : ℕ) {m : ℕ} {deleted : Bool} {l : Leader} {fs : List Field} (r : ReadsAs (part d at n) m deleted l fs) where
-    pub reads-pointer-placed : ReadsAs (part (place d (at + 6) (le 4 b ++ le 2 p)) at n) m deleted (withBack l b p) fs
+    pub reads-pointer-placed : ReadsAs (part (overwrite d (at + 6) (le 4 b ++ le 2 p)) at n) m deleted (withBack l b p) fs
     reads-pointer-placed =
         let c = part-in d at n r in
-        tail-reads (place d (at + 6) (le 4 b ++ le 2 p)) at n
-        (rw (drop-placed d at 6 (le 4 b ++ le 2 p) (omega arith)) (reads-pointer (reads-tail d at n r)))
+        tail-reads (overwrite d (at + 6) (le 4 b ++ le 2 p)) at n
+        (rw (drop-overwritten d at 6 (le 4 b ++ le 2 p) (omega arith)) (reads-pointer (reads-tail d at n r)))
         (c .1)
 
 -- the back pointer 0/0
 pub reads-settled : (d : List ℕ) (at n : ℕ) {m : ℕ} {deleted : Bool} {l : Leader} {fs : List Field} → ReadsAs (part d at n) m deleted l fs
-    → ReadsAs (part (place d (at + 6) (replicate 6 0)) at n) m deleted (withBack l 0 0) fs
+    → ReadsAs (part (overwrite d (at + 6) (replicate 6 0)) at n) m deleted (withBack l 0 0) fs
 reads-settled d at n r = reads-pointer-placed 0 0 (omega arith) (omega arith) d at n r

@@ -10,8 +10,8 @@ use mathlib.Core.List.{List, [], _∷_, _++_, append-assoc}
 use lib.ListN.{length, take, drop, replicate, length-append, length-replicate}
 use lib.Seq.{drop-drop, drop-at, take-at}
 use Rattle.word.specs.Integer.{u16At, le}
-use Rattle.word.specs.Place.{place, part}
-use Rattle.word.proofs.Place.{part-placed}
+use Rattle.word.specs.Overwrite.{overwrite, part}
+use Rattle.word.proofs.Overwrite.{part-overwritten}
 use Rattle.word.proofs.Integers.{u16-drop, u16-le, u16-le-at}
 use Rattle.layout.specs.Sizes.{recordLength, tagPermitted}
 use Rattle.layout.specs.Leader.{leaderOf, leaderBytes}
@@ -177,8 +177,8 @@ module _ (m mfrl b p : ℕ) (deleted : Bool) (fs : List Field) (w : Writable m m
 
   -- placed in a buffer, and read up to an end
   pub written-placed : (d : List ℕ) (at end : ℕ) → at + mfrl ≤ end → end ≤ length d
-      → ReadsAs (part (place d at (recordBytes (leaderFor m mfrl b p deleted (length fs)) fs)) at (end - at)) m deleted (leaderFor m mfrl b p deleted (length fs)) fs
+      → ReadsAs (part (overwrite d at (recordBytes (leaderFor m mfrl b p deleted (length fs)) fs)) at (end - at)) m deleted (leaderFor m mfrl b p deleted (length fs)) fs
   written-placed d at end h k =
       let xs : List ℕ = recordBytes (leaderFor m mfrl b p deleted (length fs)) fs in
       let x : length xs ≡ mfrl = written-length in
-      rw (part-placed d at xs (end - at) (omega arith) (omega arith)) (written-reads (part d (at + length xs) (end - at - length xs)))
+      rw (part-overwritten d at xs (end - at) (omega arith) (omega arith)) (written-reads (part d (at + length xs) (end - at - length xs)))

@@ -11,7 +11,7 @@ use lib.ListN.{length, take, drop}
 use lib.Seq.{drop-nil}
 use borrow.Author.Tests.{le-leb, lt-leb, leb-false}
 use Rattle.word.specs.Integer.{u16At}
-use Rattle.word.specs.Place.{part}
+use Rattle.word.specs.Overwrite.{part}
 use Rattle.layout.specs.Leader.{leaderOf}
 use Rattle.layout.specs.declared.sizes.Tag.{Tag}
 use Rattle.record.specs.Directory.{tagAt, posAt, lenAt, directoryRight}

@@ -4,7 +4,7 @@ use mathlib.Core.Bool.{cond}
 use mathlib.Core.List.{List, [], _∷_}
 use mathlib.Core.Option.{Option, some, none}
 use lib.Dec.{eqb}
-use Rattle.word.specs.Place.{part}
+use Rattle.word.specs.Overwrite.{part}
 use Rattle.layout.specs.Leader.{leaderOf}
 use Rattle.record.specs.Directory.{tagAt, posAt, lenAt}
 use Rattle.record.specs.declared.fields.Found.{Found}

@@ -4,7 +4,7 @@ use Prim.Native.Nat.{ℕ, zero, suc, _+_, _<_}
 use mathlib.Core.Bool.{Bool, cond}
 use mathlib.Core.List.{List, [], _∷_}
 use lib.Dec.{leb}
-use Rattle.word.specs.Place.{part}
+use Rattle.word.specs.Overwrite.{part}
 use Rattle.layout.specs.Leader.{leaderOf}
 use Rattle.record.specs.Directory.{tagAt, posAt, lenAt}
 use Rattle.record.specs.Fields.{Field, fieldAt}

@@ -7,7 +7,7 @@ use word::integer::u16_at;
 ghost use mathlib.Core.Path.{_≡_};
 ghost use Prim.Native.Nat.{_+_, _*_, _-_, _≤_, _<_};
 ghost use lib.ListN.{length};
-ghost use Rattle.word.specs.Place.{part};
+ghost use Rattle.word.specs.Overwrite.{part};
 ghost use Rattle.record.specs.Fields.{fieldsOf, findOf};
 ghost use Rattle.record.specs.Bytes.{dataOf};
 ghost use Rattle.record.specs.Record.{Readable};

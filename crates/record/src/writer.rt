@@ -6,7 +6,7 @@ ghost use mathlib.Core.Path.{_≡_};
 ghost use mathlib.Core.Bool.{true};
 ghost use Prim.Native.Nat.{_+_, _*_, _≤_, _<_};
 ghost use lib.ListN.{length, replicate};
-ghost use Rattle.word.specs.Place.{place};
+ghost use Rattle.word.specs.Overwrite.{overwrite};
 ghost use Rattle.layout.specs.Leader.{leaderOf};
 ghost use Rattle.record.specs.Fields.{fieldsOf};
 ghost use Rattle.record.specs.Record.{Readable};
@@ -32,7 +32,7 @@ pub fn leader_for(mfn: Mfn, mfrl: u16, back: Block, offset: u16, deleted: bool, 
 // Writes one directory entry at `at`.
 fn put_directory_entry(out: &mut [u8], at: usize, tag: u16, pos: u16, len: u16)
     requires { ⌜ at + 6 ≤ length (now out) ⌝ }
-    ensures { λ _. ⌜ now (out .exit) ≡ place (now (out .entry)) at (entryBytes tag pos len) ⌝ }
+    ensures { λ _. ⌜ now (out .exit) ≡ overwrite (now (out .entry)) at (entryBytes tag pos len) ⌝ }
 {
     word::integer::put_u16(out, at, tag);
     word::integer::put_u16(out, at + 2, pos);
@@ -43,7 +43,7 @@ fn put_directory_entry(out: &mut [u8], at: usize, tag: u16, pos: u16, len: u16)
 fn put_directory(out: &mut [u8], tags: &[u16], lens: &[u16], data: &[u8])
     requires { ⌜ draftRight (now tags) (now lens) (now «data») ≡ true ⌝ }
     requires { ⌜ 18 + 6 * length (now tags) ≤ length (now out) ⌝ }
-    ensures { λ _. ⌜ now (out .exit) ≡ place (now (out .entry)) 18 (directoryBytes 0 (draftFields (now (tags .entry)) (now (lens .entry)) (now («data» .entry)))) ⌝ }
+    ensures { λ _. ⌜ now (out .exit) ≡ overwrite (now (out .entry)) 18 (directoryBytes 0 (draftFields (now (tags .entry)) (now (lens .entry)) (now («data» .entry)))) ⌝ }
 {
     let mut i = 0;
     let mut pos: u16 = 0;
@@ -59,7 +59,7 @@ fn put_directory(out: &mut [u8], tags: &[u16], lens: &[u16], data: &[u8])
 pub fn write_record(out: &mut [u8], l: Leader, tags: &[u16], lens: &[u16], data: &[u8])
     requires { ⌜ draftRight (now tags) (now lens) (now «data») ≡ true ⌝ }
     requires { ⌜ (needOf (length (now tags)) (length (now «data»)) ≤ l .mfrl) × (l .mfrl ≤ length (now out)) ⌝ }
-    ensures { λ _. ⌜ now (out .exit) ≡ place (now (out .entry)) 0 (recordBytes l (draftFields (now (tags .entry)) (now (lens .entry)) (now («data» .entry)))) ⌝ }
+    ensures { λ _. ⌜ now (out .exit) ≡ overwrite (now (out .entry)) 0 (recordBytes l (draftFields (now (tags .entry)) (now (lens .entry)) (now («data» .entry)))) ⌝ }
 {
     let mfrl = l.mfrl as usize;
     let base = 18 + 6 * tags.len();
@@ -82,7 +82,7 @@ fn used_by(rec: &[u8]) -> usize
 pub fn rewrite_record(rec: &mut [u8], l: Leader)
     requires { ⌜ Readable (now rec) ⌝ }
     requires { ⌜ l .mfrl ≡ leaderOf (now rec) .mfrl ⌝ }
-    ensures { λ _. ⌜ now (rec .exit) ≡ place (now (rec .entry)) 0 (recordBytes l (fieldsOf (now (rec .entry)))) ⌝ }
+    ensures { λ _. ⌜ now (rec .exit) ≡ overwrite (now (rec .entry)) 0 (recordBytes l (fieldsOf (now (rec .entry)))) ⌝ }
 {
     let mfrl = l.mfrl as usize;
     let used = used_by(rec);
@@ -94,7 +94,7 @@ pub fn rewrite_record(rec: &mut [u8], l: Leader)
 pub fn copy_record(rec: &mut [u8], to: usize, l: Leader)
     requires { ⌜ Readable (now rec) ⌝ }
     requires { ⌜ (leaderOf (now rec) .mfrl ≤ to) × (to + l .mfrl ≤ length (now rec)) × (needFor (fieldsOf (now rec)) ≤ l .mfrl) ⌝ }
-    ensures { λ _. ⌜ now (rec .exit) ≡ place (now (rec .entry)) to (recordBytes l (fieldsOf (now (rec .entry)))) ⌝ }
+    ensures { λ _. ⌜ now (rec .exit) ≡ overwrite (now (rec .entry)) to (recordBytes l (fieldsOf (now (rec .entry)))) ⌝ }
 {
     let mfrl = l.mfrl as usize;
     let used = used_by(rec);
@@ -106,7 +106,7 @@ pub fn copy_record(rec: &mut [u8], to: usize, l: Leader)
 // Sets the back pointer of the record at the front of `rec` to 0/0.
 pub fn clear_back(rec: &mut [u8])
     requires { ⌜ 18 ≤ length (now rec) ⌝ }
-    ensures { λ _. ⌜ now (rec .exit) ≡ place (now (rec .entry)) 6 (replicate 6 0) ⌝ }
+    ensures { λ _. ⌜ now (rec .exit) ≡ overwrite (now (rec .entry)) 6 (replicate 6 0) ⌝ }
 {
     word::bytes::fill(rec, 6, 6, 0);
 }

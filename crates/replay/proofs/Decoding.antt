@@ -12,7 +12,7 @@ use lib.Dec.{leb}
 use lib.ListN.{length, getD, drop}
 use lib.Seq.{getD-drop}
 use borrow.Author.Tests.{le-leb, lt-leb, ne-eqb}
-use Rattle.word.proofs.Place.{lt-or-ge}
+use Rattle.word.proofs.Overwrite.{lt-or-ge}
 use Rattle.layout.proofs.Tests.{tests}
 use Rattle.ledger.specs.Call.{Call}
 use Rattle.replay.specs.Calls.{callSize, Script, noDraft, opIf, opNamed, takenBy, countsFit, opFitting, opIn, callOf, leftOf, firstOp, firstCall}

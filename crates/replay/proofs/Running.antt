@@ -12,10 +12,10 @@ use mathlib.Core.List.{List, [], _∷_, _++_, append-assoc, append-nil}
 use lib.ListN.{length, take, drop, length-append, length-drop}
 use lib.Seq.{take-at, drop-drop}
 use borrow.Author.Tests.{lt-ltb, le-ltb}
-use Rattle.word.specs.Place.{place}
-use Rattle.word.proofs.Place.{place-none, place-next, place-length}
+use Rattle.word.specs.Overwrite.{overwrite}
+use Rattle.word.proofs.Overwrite.{overwrite-none, overwrite-next, overwrite-length}
 use Rattle.layout.proofs.Tests.{tests}
-use Rattle.ledger.specs.Store.{Store}
+use Rattle.store.specs.Store.{Store}
 use Rattle.ledger.specs.Call.{Call, Outcome}
 use Rattle.ledger.specs.StoreRun.{answerS, nextS, answersS, afterS}
 use Rattle.replay.specs.Calls.{callSize, Script, script, takenBy, firstOp, firstCall, restOf, restAfter, callsIn, callsOf}
@@ -106,8 +106,8 @@ module _ (ops tags lens bytes : List ℕ) where
     pub done-count : length done ≡ at .calls
     pub ran-count : length ran ≡ at .calls
     pub byte-count : length (outcomeBytes done) ≡ at .shown
-    pub numbers-are : answers ≡ place answers₀ 0 (outcomeNumbers done)
-    pub bytes-are : shown ≡ place shown₀ 0 (outcomeBytes done)
+    pub numbers-are : answers ≡ overwrite answers₀ 0 (outcomeNumbers done)
+    pub bytes-are : shown ≡ overwrite shown₀ 0 (outcomeBytes done)
     -- the store is what they leave
     pub store-is : s ≡ afterS s₀ ran
     -- and what is left of the list gives the rest of the calls and of what is told
@@ -136,8 +136,8 @@ module _ (ops tags lens bytes : List ℕ) where
         done-count = refl;
         ran-count = refl;
         byte-count = refl;
-        numbers-are = sym (place-none answers₀ 0);
-        bytes-are = sym (place-none shown₀ 0);
+        numbers-are = sym (overwrite-none answers₀ 0);
+        bytes-are = sym (overwrite-none shown₀ 0);
         store-is = refl;
         rest-is = refl;
         calls-are = simp unary-clauses;
@@ -203,7 +203,7 @@ module _ (ops tags lens bytes : List ℕ) where
         calls-next : leftCalls at ≡ c ∷ leftCalls next
         calls-next = calls-now ∙ rw (rest-moved at (length (o .shown)))
 
-        within-next : Within ops tags lens bytes (place answers (outcomeSize * at .calls) (numbersOf o)) (place shown (at .shown) (o .shown)) next
+        within-next : Within ops tags lens bytes (overwrite answers (outcomeSize * at .calls) (numbersOf o)) (overwrite shown (at .shown) (o .shown)) next
         within-next =
             let d = first-fits rest in
             let w = g .within .drafts-in in
@@ -213,23 +213,23 @@ module _ (ops tags lens bytes : List ℕ) where
             let kt = length-drop (at .tags) tags in
             let kl = length-drop (at .lens) lens in
             let kb = length-drop (at .bytes) bytes in
-            let an : length (place answers (outcomeSize * at .calls) (numbersOf o)) ≡ length answers = place-length answers (outcomeSize * at .calls) (numbersOf o) (omega arith) in
-            let sn : length (place shown (at .shown) (o .shown)) ≡ length shown = place-length shown (at .shown) (o .shown) (omega arith) in
+            let an : length (overwrite answers (outcomeSize * at .calls) (numbersOf o)) ≡ length answers = overwrite-length answers (outcomeSize * at .calls) (numbersOf o) (omega arith) in
+            let sn : length (overwrite shown (at .shown) (o .shown)) ≡ length shown = overwrite-length shown (at .shown) (o .shown) (omega arith) in
             record {
               ops-in = omega arith;
               drafts-in = record { tags-in = omega arith; lens-in = omega arith; bytes-in = omega arith };
               room-in = record { numbers-in = omega arith; shown-in = omega arith };
             }
 
-        numbers-next : place answers (outcomeSize * at .calls) (numbersOf o) ≡ place answers₀ 0 (outcomeNumbers (g .done ++ (o ∷ [])))
+        numbers-next : overwrite answers (outcomeSize * at .calls) (numbersOf o) ≡ overwrite answers₀ 0 (outcomeNumbers (g .done ++ (o ∷ [])))
         numbers-next =
             let n : outcomeSize * at .calls ≡ 0 + length (outcomeNumbers (g .done)) = let k = numbers-length (g .done) in let m = g .done-count in omega arith in
-            rw (n, g .numbers-are, numbers-more (g .done) o) (place-next answers₀ 0 (outcomeNumbers (g .done)) (numbersOf o) (omega arith))
+            rw (n, g .numbers-are, numbers-more (g .done) o) (overwrite-next answers₀ 0 (outcomeNumbers (g .done)) (numbersOf o) (omega arith))
 
-        bytes-next : place shown (at .shown) (o .shown) ≡ place shown₀ 0 (outcomeBytes (g .done ++ (o ∷ [])))
+        bytes-next : overwrite shown (at .shown) (o .shown) ≡ overwrite shown₀ 0 (outcomeBytes (g .done ++ (o ∷ [])))
         bytes-next =
             let n : at .shown ≡ 0 + length (outcomeBytes (g .done)) = let m = g .byte-count in omega arith in
-            rw (n, g .bytes-are, bytes-more (g .done) o) (place-next shown₀ 0 (outcomeBytes (g .done)) (o .shown) (omega arith))
+            rw (n, g .bytes-are, bytes-more (g .done) o) (overwrite-next shown₀ 0 (outcomeBytes (g .done)) (o .shown) (omega arith))
 
         told-next : toldFrom at s ≡ o ∷ toldFrom next (nextS s c)
         told-next =
@@ -237,14 +237,14 @@ module _ (ops tags lens bytes : List ℕ) where
             let m : length shown₀ - at .shown - length (o .shown) ≡ length shown₀ - (at .shown + length (o .shown)) = omega arith in
             told-now ∙ rw (room, n, m, rest-moved at (length (o .shown)))
 
-        pub going-more : Going s₀ answers₀ shown₀ (nextS s c) (place answers (outcomeSize * at .calls) (numbersOf o)) (place shown (at .shown) (o .shown)) next
+        pub going-more : Going s₀ answers₀ shown₀ (nextS s c) (overwrite answers (outcomeSize * at .calls) (numbersOf o)) (overwrite shown (at .shown) (o .shown)) next
         going-more =
             record {
               done = g .done ++ (o ∷ []);
               ran = g .ran ++ (c ∷ []);
               within = within-next;
-              answers-long = place-length answers (outcomeSize * at .calls) (numbersOf o) (let r = room-now in let w = g .within .room-in .numbers-in in omega arith) ∙ g .answers-long;
-              shown-long = place-length shown (at .shown) (o .shown) (let r = room-now in let w = g .within .room-in .shown-in in omega arith) ∙ g .shown-long;
+              answers-long = overwrite-length answers (outcomeSize * at .calls) (numbersOf o) (let r = room-now in let w = g .within .room-in .numbers-in in omega arith) ∙ g .answers-long;
+              shown-long = overwrite-length shown (at .shown) (o .shown) (let r = room-now in let w = g .within .room-in .shown-in in omega arith) ∙ g .shown-long;
               done-count = length-append (g .done) (o ∷ []) ∙ ap (λ (n : ℕ). n + 1) (g .done-count);
               ran-count = length-append (g .ran) (c ∷ []) ∙ ap (λ (n : ℕ). n + 1) (g .ran-count);
               byte-count = ap length (bytes-more (g .done) o) ∙ length-append (outcomeBytes (g .done)) (o .shown) ∙ ap (λ (n : ℕ). n + length (o .shown)) (g .byte-count);
@@ -273,8 +273,8 @@ module _ (ops tags lens bytes : List ℕ) where
                 record {
                   stop = stops;
                   calls = sym told-count;
-                  numbers = g .numbers-are ∙ ap (λ (os : List Outcome). place answers₀ 0 (outcomeNumbers os)) (sym told-all);
-                  fields = g .bytes-are ∙ ap (λ (os : List Outcome). place shown₀ 0 (outcomeBytes os)) (sym told-all);
+                  numbers = g .numbers-are ∙ ap (λ (os : List Outcome). overwrite answers₀ 0 (outcomeNumbers os)) (sym told-all);
+                  fields = g .bytes-are ∙ ap (λ (os : List Outcome). overwrite shown₀ 0 (outcomeBytes os)) (sym told-all);
                 };
             left = g .store-is ∙ ap (λ (cs : List Call). afterS s₀ cs)
                 (sym (ap (take (at .calls)) (g .calls-are) ∙ take-at (g .ran) (leftCalls at) (at .calls) (g .ran-count)));
@@ -309,7 +309,7 @@ module _ (ops tags lens bytes : List ℕ) where
       data Did : Type 0 where
         more : (c : Call) → firstCall rest ≡ some c → roomAt answers shown at (answerS s c) ≡ true
             → t ≡ Next (moved at (takenBy (firstOp rest)) (length (answerS s c .shown))) → s′ ≡ nextS s c
-            → answers′ ≡ place answers (outcomeSize * at .calls) (numbersOf (answerS s c)) → shown′ ≡ place shown (at .shown) (answerS s c .shown) → Did
+            → answers′ ≡ overwrite answers (outcomeSize * at .calls) (numbersOf (answerS s c)) → shown′ ≡ overwrite shown (at .shown) (answerS s c .shown) → Did
         full : (c : Call) → firstCall rest ≡ some c → roomAt answers shown at (answerS s c) ≡ false
             → t ≡ Stopped NoRoom → s′ ≡ s → answers′ ≡ answers → shown′ ≡ shown → Did
         over : firstCall rest ≡ none → t ≡ Stopped (stopAt rest) → s′ ≡ s → answers′ ≡ answers → shown′ ≡ shown → Did

@@ -10,14 +10,14 @@ use denote.Enum.Declared.{tagOf}
 use types.Run.{OneOf}
 use Rattle.layout.proofs.Tests.{false-true}
 use Rattle.store.specs.Reading.{lengthsPermitted}
-use Rattle.store.specs.Refusals.{formatAnswer}
-use Rattle.store.specs.Calls.{formatMst, formatXrf}
+use Rattle.writing.specs.Refusals.{formatAnswer}
+use Rattle.writing.specs.Calls.{formatLeaves}
 use Rattle.store.specs.declared.answer.Answer.{Answer}
 use Rattle.store.specs.declared.answer.Answer.the-variants.{Done}
 use Rattle.store.proofs.answer.Answer as answer
-use Rattle.store.proofs.Plans.{not-done}
+use Rattle.writing.proofs.Plans.{not-done}
 use Rattle.store.proofs.Gates.{Refusing, refusing-not-done}
-use Rattle.ledger.specs.Store.{Store, store}
+use Rattle.store.specs.Store.{Store, store}
 use Rattle.ledger.specs.Call.{format, Outcome}
 use Rattle.ledger.specs.Ledger.{Ledger}
 use Rattle.ledger.specs.LedgerSteps.{answersL, afterL}
@@ -50,24 +50,24 @@ runs {s} {p = p} {r = r} f =
 
 -- ---- a replay, from the buffers that format left
 
-module _ (mst xrf mst₁ xrf₁ : List ℕ) (a : Answer) (ea : a ≡ formatAnswer mst xrf) (em : mst₁ ≡ formatMst mst xrf) (ex : xrf₁ ≡ formatXrf mst xrf) where
+module _ (mst xrf mst₁ xrf₁ : List ℕ) (a : Answer) (ea : a ≡ formatAnswer (store mst xrf)) (el : store mst₁ xrf₁ ≡ formatLeaves (store mst xrf)) where
   formatted-is : store mst₁ xrf₁ ≡ nextS (store mst xrf) format
   unfolding nextS
-  formatted-is = rw (em, ex)
+  formatted-is = el
 
   -- format is done exactly where both lengths are permitted
-  done-permitted : a ≡ Done → lengthsPermitted mst xrf ≡ true
+  done-permitted : a ≡ Done → lengthsPermitted (store mst xrf) ≡ true
   unfolding formatAnswer
-  done-permitted d = go (lengthsPermitted mst xrf) refl
+  done-permitted d = go (lengthsPermitted (store mst xrf)) refl
     where
-      go : (b : Bool) → lengthsPermitted mst xrf ≡ b → lengthsPermitted mst xrf ≡ true
+      go : (b : Bool) → lengthsPermitted (store mst xrf) ≡ b → lengthsPermitted (store mst xrf) ≡ true
       go true h = h
       go false h = absurd (let z : _≡_ {A = ℕ} 0 1 = cc (rw h at (sym d ∙ ea)) in omega arith)
 
-  refusing-permitted : Refusing a → lengthsPermitted mst xrf ≡ false
-  refusing-permitted h = go (lengthsPermitted mst xrf) refl
+  refusing-permitted : Refusing a → lengthsPermitted (store mst xrf) ≡ false
+  refusing-permitted h = go (lengthsPermitted (store mst xrf)) refl
     where
-      go : (b : Bool) → lengthsPermitted mst xrf ≡ b → lengthsPermitted mst xrf ≡ false
+      go : (b : Bool) → lengthsPermitted (store mst xrf) ≡ b → lengthsPermitted (store mst xrf) ≡ false
       go true k = absurd (refusing-not-done a h (ea ∙ format-done mst xrf k))
       go false k = k
 
@@ -85,11 +85,11 @@ module _ (mst xrf mst₁ xrf₁ : List ℕ) (a : Answer) (ea : a ≡ formatAnswe
 
   -- it is refused, and nothing is run
   pub replay-refused : (answers shown : List ℕ) (p : Script)
-      → OneOf (1 ∷ 2 ∷ 3 ∷ 4 ∷ 5 ∷ 6 ∷ 7 ∷ 8 ∷ 9 ∷ 10 ∷ 11 ∷ 12 ∷ 13 ∷ 14 ∷ []) (tagOf answer.the-type a)
+      → OneOf (1 ∷ 2 ∷ 3 ∷ 4 ∷ 5 ∷ 6 ∷ 7 ∷ 8 ∷ 9 ∷ 10 ∷ 11 ∷ 12 ∷ 13 ∷ 14 ∷ 15 ∷ []) (tagOf answer.the-type a)
       → Replays (store mst xrf) p answers shown (record { stop = BadLength; calls = 0 }) (store mst₁ xrf₁) answers shown
   unfolding afterS
   replay-refused answers shown p v =
-      let h : lengthsPermitted mst xrf ≡ false = refusing-permitted (not-done a v) in
+      let h : lengthsPermitted (store mst xrf) ≡ false = refusing-permitted (not-done a v) in
       record {
         refused = λ n. record { stop = refl; calls = refl; numbers = refl; fields = refl };
         ledger = λ k. absurd (false-true (sym h ∙ k));

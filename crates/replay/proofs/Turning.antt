@@ -12,22 +12,23 @@ use mathlib.Core.Option.{none, some}
 use mathlib.Core.List.{List, [], _∷_}
 use lib.ListN.{length, drop, set, length-drop}
 use borrow.Author.Tests.{le-leb, lt-leb, eq-eqb, ne-eqb}
-use Rattle.word.specs.Place.{place, part}
-use Rattle.word.proofs.Place.{part-length, place-none, place-stores}
+use Rattle.word.specs.Overwrite.{overwrite, part}
+use Rattle.word.proofs.Overwrite.{part-length, overwrite-none, overwrite-stores}
 use Rattle.store.specs.Answer.{numberOf, after}
 use Rattle.store.specs.Reading.{lengthsPermitted}
-use Rattle.store.specs.Refusals.{formatAnswer, viewAnswer, settledViewAnswer, updateAnswer, deleteAnswer, settleAnswer, revertAnswer}
-use Rattle.store.specs.Calls.{formatMst, formatXrf, foundLength, shownAt, viewOf, settledViewOf, createOf, createMst, createXrf, updateMst, updateXrf, deleteMst, deleteXrf, settleMst, settleXrf, revertXrf}
+use Rattle.writing.specs.Refusals.{formatAnswer, updateAnswer, deleteAnswer, settleAnswer, revertAnswer}
+use Rattle.views.specs.Views.{viewAnswer, settledViewAnswer, foundLength, shownAt, viewOf, settledViewOf}
+use Rattle.writing.specs.Calls.{formatLeaves, createOf, createLeaves, updateLeaves, deleteLeaves, settleLeaves, revertLeaves}
 use Rattle.store.specs.declared.answer.Answer.{Answer}
 use Rattle.store.specs.declared.answer.Answer.the-variants.{Done, BadLength}
-use Rattle.store.specs.declared.create.Created.{Created}
-use Rattle.store.specs.declared.views.Shown.{Shown}
+use Rattle.writing.specs.declared.create.Created.{Created}
+use Rattle.views.specs.declared.views.Shown.{Shown}
 use Rattle.store.proofs.Gates.{Refusing, after-cases, holds, lengths-facts}
 use Rattle.layout.specs.declared.sizes.Mfn.{Mfn}
 use Rattle.layout.specs.declared.sizes.Tag.{Tag}
 use Rattle.record.specs.declared.fields.Found.{Found}
 use Rattle.soundness.specs.Sound.{checkAnswer}
-use Rattle.ledger.specs.Store.{Store, store, draft}
+use Rattle.store.specs.Store.{Store, store, Draft}
 use Rattle.ledger.specs.Call.{Call, create, update, Outcome}
 use Rattle.ledger.specs.StoreRun.{shownOutcome, answerS, nextS}
 use Rattle.replay.specs.Calls.{callSize, Script, noDraft, opIn, readingCall, writingCall, draftOf, takenBy, callOf, leftOf, firstOp, firstCall}
@@ -52,17 +53,17 @@ use Rattle.replay.proofs.Decoding.{first-fits, too-short, long-enough}
 -- ---- calls that read
 
 module _ (mst xrf : List ℕ) (r : Reading) (sh : Shown) where
-  pub view-asked : (m : Mfn) (tag : Tag) (occ : ℕ) → r ≡ View m tag occ → sh ≡ viewOf mst xrf (m .0) (tag .0) occ
+  pub view-asked : (m : Mfn) (tag : Tag) (occ : ℕ) → r ≡ View m tag occ → sh ≡ viewOf (store mst xrf) (m .0) (tag .0) occ
       → shownOutcome mst sh ≡ answerS (store mst xrf) (readingCall r)
   unfolding answerS
   view-asked m tag occ e f = rw (e, f)
 
-  pub settled-asked : (m : Mfn) (tag : Tag) (occ : ℕ) → r ≡ Settled m tag occ → sh ≡ settledViewOf mst xrf (m .0) (tag .0) occ
+  pub settled-asked : (m : Mfn) (tag : Tag) (occ : ℕ) → r ≡ Settled m tag occ → sh ≡ settledViewOf (store mst xrf) (m .0) (tag .0) occ
       → shownOutcome mst sh ≡ answerS (store mst xrf) (readingCall r)
   unfolding answerS
   settled-asked m tag occ e f = rw (e, f)
 
-pub check-asked : (mst xrf : List ℕ) (r : Reading) (a : Answer) → r ≡ Check → a ≡ checkAnswer mst xrf
+pub check-asked : (mst xrf : List ℕ) (r : Reading) (a : Answer) → r ≡ Check → a ≡ checkAnswer (store mst xrf)
     → shownOutcome mst (record { answer = a; start = 0; len = 0 }) ≡ answerS (store mst xrf) (readingCall r)
 unfolding answerS
 check-asked mst xrf r a e f = rw (e, f)
@@ -75,7 +76,7 @@ unfolding numberOf
 no-length z = omega arith
 
 module _ (mst xrf : List ℕ) (sh : Shown) where
-  short : (a : Answer) (at : ℕ) (f : Found) → sh ≡ shownAt a at f → (a ≡ Done → lengthsPermitted mst xrf ≡ true) → sh .start + sh .len ≤ length mst
+  short : (a : Answer) (at : ℕ) (f : Found) → sh ≡ shownAt a at f → (a ≡ Done → lengthsPermitted (store mst xrf) ≡ true) → sh .start + sh .len ≤ length mst
       → sh .len ≤ 536870400
   unfolding shownAt
   short a at f e permitted within =
@@ -84,65 +85,53 @@ module _ (mst xrf : List ℕ) (sh : Shown) where
       (λ n. let z : sh .len ≡ 0 = rw e (n .1) in omega arith)
       (after-cases a (foundLength f) 0)
 
-  pub view-short : (m tag occ : ℕ) → sh ≡ viewOf mst xrf m tag occ → sh .start + sh .len ≤ length mst → sh .len ≤ 536870400
+  pub view-short : (m tag occ : ℕ) → sh ≡ viewOf (store mst xrf) m tag occ → sh .start + sh .len ≤ length mst → sh .len ≤ 536870400
   unfolding viewOf viewAnswer
-  view-short m tag occ e w = short (viewAnswer mst xrf m tag occ) _ _ e (λ d. holds (lengthsPermitted mst xrf) BadLength _ no-length d .0) w
+  view-short m tag occ e w = short (viewAnswer (store mst xrf) m tag occ) _ _ e (λ d. holds (lengthsPermitted (store mst xrf)) BadLength _ no-length d .0) w
 
-  pub settled-short : (m tag occ : ℕ) → sh ≡ settledViewOf mst xrf m tag occ → sh .start + sh .len ≤ length mst → sh .len ≤ 536870400
+  pub settled-short : (m tag occ : ℕ) → sh ≡ settledViewOf (store mst xrf) m tag occ → sh .start + sh .len ≤ length mst → sh .len ≤ 536870400
   unfolding settledViewOf settledViewAnswer
-  settled-short m tag occ e w = short (settledViewAnswer mst xrf m tag occ) _ _ e (λ d. holds (lengthsPermitted mst xrf) BadLength _ no-length d .0) w
+  settled-short m tag occ e w = short (settledViewAnswer (store mst xrf) m tag occ) _ _ e (λ d. holds (lengthsPermitted (store mst xrf)) BadLength _ no-length d .0) w
 
 pub ruleset short-answers = (view-short, settled-short)
 
 -- ---- calls that may write
 
 -- by the callee that creates or updates, from the draft that it is lent
-
-module _ (mst xrf mst′ xrf′ tags lens bytes : List ℕ) (c : Call) where
-  pub create-wrote : (r : Created) → r ≡ createOf mst xrf tags lens bytes → mst′ ≡ createMst mst xrf tags lens bytes
-      → xrf′ ≡ createXrf mst xrf tags lens bytes → c ≡ create (draft tags lens bytes) → Wrote (store mst xrf) c r (store mst′ xrf′)
+module _ (s s′ : Store) (d : Draft) (c : Call) where
+  pub create-wrote : (r : Created) → r ≡ createOf s d → s′ ≡ createLeaves s d → c ≡ create d → Wrote s c r s′
   unfolding answerS nextS
-  create-wrote r e f g h = record { outcome = rw (h, e); left = rw (h, f, g) }
+  create-wrote r e f h = record { outcome = rw (h, e); left = rw (h, f) }
 
-  pub update-wrote : (m : ℕ) (a : Answer) → a ≡ updateAnswer mst xrf m tags lens bytes → mst′ ≡ updateMst mst xrf m tags lens bytes
-      → xrf′ ≡ updateXrf mst xrf m tags lens bytes → c ≡ update m (draft tags lens bytes) → Wrote (store mst xrf) c (withoutMfn a) (store mst′ xrf′)
+  pub update-wrote : (m : ℕ) (a : Answer) → a ≡ updateAnswer s m d → s′ ≡ updateLeaves s m d → c ≡ update m d → Wrote s c (withoutMfn a) s′
   unfolding answerS nextS
-  update-wrote m a e f g h = record { outcome = rw (h, e); left = rw (h, f, g) }
+  update-wrote m a e f h = record { outcome = rw (h, e); left = rw (h, f) }
 
 -- by the call, from all drafts and the cursor
-module _ (mst xrf tags lens bytes mst′ xrf′ : List ℕ) (at : Cursor) where
-  module _ (w : Writing) (a : Answer) (r : Created) where
-    pub format-writes : w ≡ Format → r ≡ withoutMfn a → a ≡ formatAnswer mst xrf → mst′ ≡ formatMst mst xrf → xrf′ ≡ formatXrf mst xrf
-        → Wrote (store mst xrf) (writingAt tags lens bytes at w) r (store mst′ xrf′)
+module _ (s s′ : Store) (tags lens bytes : List ℕ) (at : Cursor) (w : Writing) (r : Created) where
+  pub create-writes : (n : Counts) → w ≡ Create n → Wrote s (writingAt tags lens bytes at (Create n)) r s′ → Wrote s (writingAt tags lens bytes at w) r s′
+  create-writes n k h = rw k h
+
+  module _ (a : Answer) (i : r ≡ withoutMfn a) where
+    pub format-writes : w ≡ Format → a ≡ formatAnswer s → s′ ≡ formatLeaves s → Wrote s (writingAt tags lens bytes at w) r s′
     unfolding answerS nextS
-    format-writes k i e f g = record { outcome = rw (k, i, e); left = rw (k, f, g) }
+    format-writes k e f = record { outcome = rw (k, i, e); left = rw (k, f) }
 
-    pub create-writes : (n : Counts) → w ≡ Create n → Wrote (store mst xrf) (writingAt tags lens bytes at (Create n)) r (store mst′ xrf′)
-        → Wrote (store mst xrf) (writingAt tags lens bytes at w) r (store mst′ xrf′)
-    create-writes n k h = rw k h
+    pub update-writes : (m : Mfn) (n : Counts) → w ≡ Update m n → Wrote s (writingAt tags lens bytes at (Update m n)) (withoutMfn a) s′
+        → Wrote s (writingAt tags lens bytes at w) r s′
+    update-writes m n k h = rw (k, i) h
 
-    pub update-writes : (m : Mfn) (n : Counts) → w ≡ Update m n → r ≡ withoutMfn a
-        → Wrote (store mst xrf) (writingAt tags lens bytes at (Update m n)) (withoutMfn a) (store mst′ xrf′)
-        → Wrote (store mst xrf) (writingAt tags lens bytes at w) r (store mst′ xrf′)
-    update-writes m n k i h = rw (k, i) h
-
-    pub delete-writes : (m : Mfn) → w ≡ Delete m → r ≡ withoutMfn a → a ≡ deleteAnswer mst xrf (m .0)
-        → mst′ ≡ deleteMst mst xrf (m .0) → xrf′ ≡ deleteXrf mst xrf (m .0)
-        → Wrote (store mst xrf) (writingAt tags lens bytes at w) r (store mst′ xrf′)
+    pub delete-writes : (m : Mfn) → w ≡ Delete m → a ≡ deleteAnswer s (m .0) → s′ ≡ deleteLeaves s (m .0) → Wrote s (writingAt tags lens bytes at w) r s′
     unfolding answerS nextS
-    delete-writes m k i e f g = record { outcome = rw (k, i, e); left = rw (k, f, g) }
+    delete-writes m k e f = record { outcome = rw (k, i, e); left = rw (k, f) }
 
-    pub settle-writes : (m : Mfn) → w ≡ Settle m → r ≡ withoutMfn a → a ≡ settleAnswer mst xrf (m .0)
-        → mst′ ≡ settleMst mst xrf (m .0) → xrf′ ≡ settleXrf mst xrf (m .0)
-        → Wrote (store mst xrf) (writingAt tags lens bytes at w) r (store mst′ xrf′)
+    pub settle-writes : (m : Mfn) → w ≡ Settle m → a ≡ settleAnswer s (m .0) → s′ ≡ settleLeaves s (m .0) → Wrote s (writingAt tags lens bytes at w) r s′
     unfolding answerS nextS
-    settle-writes m k i e f g = record { outcome = rw (k, i, e); left = rw (k, f, g) }
+    settle-writes m k e f = record { outcome = rw (k, i, e); left = rw (k, f) }
 
-pub revert-writes : (mst xrf tags lens bytes xrf′ : List ℕ) (at : Cursor) (w : Writing) (a : Answer) (r : Created) (m : Mfn)
-    → w ≡ Revert m → r ≡ withoutMfn a → a ≡ revertAnswer mst xrf (m .0) → xrf′ ≡ revertXrf mst xrf (m .0)
-    → Wrote (store mst xrf) (writingAt tags lens bytes at w) r (store mst xrf′)
-unfolding answerS nextS
-revert-writes mst xrf tags lens bytes xrf′ at w a r m k i e g = record { outcome = rw (k, i, e); left = rw (k, g) }
+    pub revert-writes : (m : Mfn) → w ≡ Revert m → a ≡ revertAnswer s (m .0) → s′ ≡ revertLeaves s (m .0) → Wrote s (writingAt tags lens bytes at w) r s′
+    unfolding answerS nextS
+    revert-writes m k e f = record { outcome = rw (k, i, e); left = rw (k, f) }
 
 -- the draft of a create, and of an update, lies where the call's does
 pub create-draft : (tags lens bytes : List ℕ) (at : Cursor) (w : Writing) (n : Counts) → w ≡ Create n → DraftWithin tags lens bytes at (draftOf w)
@@ -158,8 +147,8 @@ pub ruleset written-answers = (format-writes, create-writes, update-writes, dele
 -- ---- a call is run and reported
 
 -- its three numbers are stored one by one
-pub place-three : (d : List ℕ) (i x y z : ℕ) → i + 3 ≤ length d → set (set (set d i x) (i + 1) y) (i + 2) z ≡ place d i (x ∷ y ∷ z ∷ [])
-place-three d i x y z h = rw (add-one i, add-two i) (place-stores d i (x ∷ y ∷ z ∷ []) h)
+pub place-three : (d : List ℕ) (i x y z : ℕ) → i + 3 ≤ length d → set (set (set d i x) (i + 1) y) (i + 2) z ≡ overwrite d i (x ∷ y ∷ z ∷ [])
+place-three d i x y z h = rw (add-one i, add-two i) (overwrite-stores d i (x ∷ y ∷ z ∷ []) h)
 
 -- a call that reads leaves the store as it was
 reading-keeps : (s : Store) (r : Reading) → nextS s (readingCall r) ≡ s
@@ -192,8 +181,8 @@ module _ (mst xrf answers shown : List ℕ) (at : Cursor) (r : Reading) (sh : Sh
   no-bytes k = full s (readingCall r) noDraft answers shown at (rw (le-leb outcomeSize (length answers - outcomeSize * at .calls) h, shown-length, lt-leb (sh .len) (length shown - at .shown) k))
 
   pub asked-next : (answers′ shown′ : List ℕ) (n : Counts) (at′ : Cursor) → sh .len ≤ length shown - at .shown
-      → answers′ ≡ place answers (outcomeSize * at .calls) (numberOf (sh .answer) ∷ 0 ∷ sh .len ∷ [])
-      → shown′ ≡ place shown (at .shown) (part mst (sh .start) (sh .start + sh .len - sh .start))
+      → answers′ ≡ overwrite answers (outcomeSize * at .calls) (numberOf (sh .answer) ∷ 0 ∷ sh .len ∷ [])
+      → shown′ ≡ overwrite shown (at .shown) (part mst (sh .start) (sh .start + sh .len - sh .start))
       → n ≡ noDraft → at′ ≡ moved at n (sh .len)
       → Ran s (readingCall r) noDraft answers shown at (Next at′) s answers′ shown′
   asked-next answers′ shown′ n at′ k en ef z m =
@@ -208,7 +197,7 @@ module _ (mst xrf answers shown : List ℕ) (at : Cursor) (r : Reading) (sh : Sh
 -- a call that may write is run where there is room for the three numbers: it shows nothing
 pub wrote-next : (s s′ : Store) (c : Call) (r : Created) (answers answers′ : List ℕ) (at at′ : Cursor) (k : Writing) (n : Counts)
     → Wrote s c r s′ → outcomeSize ≤ length answers - outcomeSize * at .calls
-    → answers′ ≡ place answers (outcomeSize * at .calls) (numberOf (r .answer) ∷ r .mfn .0 ∷ 0 ∷ [])
+    → answers′ ≡ overwrite answers (outcomeSize * at .calls) (numberOf (r .answer) ∷ r .mfn .0 ∷ 0 ∷ [])
     → n ≡ draftOf k → at′ ≡ moved at n 0
     → (shown : List ℕ) → Ran s c (draftOf k) answers shown at (Next at′) s′ answers′ shown
 wrote-next s s′ c r answers answers′ at at′ k n w h en z m shown =
@@ -217,7 +206,7 @@ wrote-next s s′ c r answers answers′ at at′ k n w h en z m shown =
       turn = rw (b, ← w .outcome, m, z);
       left = rw (b, w .left);
       numbers = rw (b, ← w .outcome) en;
-      fields = rw (b, ← w .outcome) (sym (place-none shown (at .shown)));
+      fields = rw (b, ← w .outcome) (sym (overwrite-none shown (at .shown)));
     }
 
 pub ruleset asked-turns = (no-numbers, no-bytes, asked-next)

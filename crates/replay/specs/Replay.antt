@@ -5,10 +5,10 @@ use mathlib.Core.Bool.{Bool, true, false, _&&_, cond}
 use mathlib.Core.List.{List, [], _∷_, _++_}
 use lib.Dec.{eqb, leb, ltb}
 use lib.ListN.{length, take}
-use Rattle.word.specs.Place.{place}
+use Rattle.word.specs.Overwrite.{overwrite}
 use Rattle.store.specs.Answer.{numberOf}
 use Rattle.store.specs.Reading.{lengthsPermitted}
-use Rattle.ledger.specs.Store.{Store}
+use Rattle.store.specs.Store.{Store}
 use Rattle.ledger.specs.Call.{Call, format, Outcome}
 use Rattle.ledger.specs.Ledger.{Ledger, empty}
 use Rattle.ledger.specs.LedgerSteps.{answersL, afterL}
@@ -65,8 +65,8 @@ stopFor n p = cond (ltb n (length (callsOf p))) NoRoom (stopAt (restAfter (lengt
 pub record Reports (os : List Outcome) (p : Script) (answers shown : List ℕ) (r : Replayed) (answers′ shown′ : List ℕ) : Type 0 where
   pub calls : r .calls ≡ length (fitting (length answers) (length shown) os)
   pub stop : r .stop ≡ stopFor (r .calls) p
-  pub numbers : answers′ ≡ place answers 0 (outcomeNumbers (fitting (length answers) (length shown) os))
-  pub fields : shown′ ≡ place shown 0 (outcomeBytes (fitting (length answers) (length shown) os))
+  pub numbers : answers′ ≡ overwrite answers 0 (outcomeNumbers (fitting (length answers) (length shown) os))
+  pub fields : shown′ ≡ overwrite shown 0 (outcomeBytes (fitting (length answers) (length shown) os))
 
 -- the calls that are run are those that are reported
 abbrev pub callsRun : Script → Replayed → List Call
@@ -94,9 +94,9 @@ formattedLedger s = empty (length (s .mst)) (length (s .xrf))
 
 -- a replay: a format, and a run of the buffers that it leaves
 pub record Replays (s : Store) (p : Script) (answers shown : List ℕ) (r : Replayed) (s′ : Store) (answers′ shown′ : List ℕ) : Type 0 where
-  pub refused : lengthsPermitted (s .mst) (s .xrf) ≡ false → Unrun answers shown r answers′ shown′
+  pub refused : lengthsPermitted s ≡ false → Unrun answers shown r answers′ shown′
   -- the answers, MFNs and fields are THE LEDGER's
-  pub ledger : lengthsPermitted (s .mst) (s .xrf) ≡ true → Reports (answersL (formattedLedger s) (callsOf p)) p answers shown r answers′ shown′
+  pub ledger : lengthsPermitted s ≡ true → Reports (answersL (formattedLedger s) (callsOf p)) p answers shown r answers′ shown′
   -- the buffers are what format and the calls reported leave, and say what the ledger keeps
   pub left : s′ ≡ afterS (nextS s format) (callsRun p r)
-  pub kept : lengthsPermitted (s .mst) (s .xrf) ≡ true → Kept s′ (afterL (formattedLedger s) (callsRun p r))
+  pub kept : lengthsPermitted s ≡ true → Kept s′ (afterL (formattedLedger s) (callsRun p r))

@@ -5,10 +5,10 @@ use mathlib.Core.Path.{_≡_}
 use mathlib.Core.Bool.{Bool, cond}
 use mathlib.Core.List.{List}
 use lib.ListN.{length, drop}
-use Rattle.word.specs.Place.{place}
+use Rattle.word.specs.Overwrite.{overwrite}
 use Rattle.store.specs.declared.answer.Answer.{Answer}
-use Rattle.store.specs.declared.create.Created.{Created}
-use Rattle.ledger.specs.Store.{Store}
+use Rattle.writing.specs.declared.create.Created.{Created}
+use Rattle.store.specs.Store.{Store}
 use Rattle.ledger.specs.Call.{Call, Outcome}
 use Rattle.ledger.specs.StoreRun.{createdOutcome, answerS, nextS, answersS, afterS}
 use Rattle.replay.specs.Calls.{callSize, Script, script, mfnOf, counts, noDraft, takenBy, writingCall, firstOp, firstCall, onCall, callsOf}
@@ -92,8 +92,8 @@ roomAt answers shown at o = hasRoom (length answers - outcomeSize * at .calls) (
 pub record Ran (s : Store) (c : Call) (n : Counts) (answers shown : List ℕ) (at : Cursor) (t : Turn) (s′ : Store) (answers′ shown′ : List ℕ) : Type 0 where
   pub turn : t ≡ cond (roomAt answers shown at (answerS s c)) (Next (moved at n (length (answerS s c .shown)))) (Stopped NoRoom)
   pub left : s′ ≡ cond (roomAt answers shown at (answerS s c)) (nextS s c) s
-  pub numbers : answers′ ≡ cond (roomAt answers shown at (answerS s c)) (place answers (outcomeSize * at .calls) (numbersOf (answerS s c))) answers
-  pub fields : shown′ ≡ cond (roomAt answers shown at (answerS s c)) (place shown (at .shown) (answerS s c .shown)) shown
+  pub numbers : answers′ ≡ cond (roomAt answers shown at (answerS s c)) (overwrite answers (outcomeSize * at .calls) (numbersOf (answerS s c))) answers
+  pub fields : shown′ ≡ cond (roomAt answers shown at (answerS s c)) (overwrite shown (at .shown) (answerS s c .shown)) shown
 
 -- no call: nothing changes
 pub record Halted (rest : Script) (s : Store) (answers shown : List ℕ) (t : Turn) (s′ : Store) (answers′ shown′ : List ℕ) : Type 0 where

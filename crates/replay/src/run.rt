@@ -4,7 +4,7 @@ use crate::turns::Cursor;
 use crate::turns::Stop;
 use crate::turns::Turn;
 use store::answer::Answer;
-ghost use Rattle.ledger.specs.Store.{store};
+ghost use Rattle.store.specs.Store.{store};
 ghost use Rattle.replay.specs.Calls.{script};
 ghost use Rattle.replay.specs.Replay.{Runs, Replays};
 
@@ -64,7 +64,7 @@ pub fn replay(
 ) -> Replayed
     ensures { λ r. ⌜ Replays (store (now (mst .entry)) (now (xrf .entry))) (script (now (ops .entry)) (now (tags .entry)) (now (lens .entry)) (now («data» .entry))) (now (answers .entry)) (now (shown .entry)) r (store (now (mst .exit)) (now (xrf .exit))) (now (answers .exit)) (now (shown .exit)) ⌝ }
 {
-    let a = store::format::format(mst, xrf);
+    let a = writing::format::format(mst, xrf);
     let Answer::Done = a else {
         return Replayed {
             stop: Stop::BadLength,

@@ -7,15 +7,15 @@ use crate::calls::Reading;
 use crate::calls::Writing;
 use layout::sizes::Mfn;
 use store::answer::Answer;
-use store::create::Created;
-use store::views::Shown;
+use views::views::Shown;
+use writing::create::Created;
 ghost use mathlib.Core.Path.{_≡_};
 ghost use mathlib.Core.List.{List, [], _∷_};
 ghost use Prim.Native.Nat.{ℕ, _+_, _*_, _≤_};
 ghost use lib.ListN.{length};
-ghost use Rattle.word.specs.Place.{place};
+ghost use Rattle.word.specs.Overwrite.{overwrite};
 ghost use Rattle.store.specs.Answer.{numberOf};
-ghost use Rattle.ledger.specs.Store.{store};
+ghost use Rattle.store.specs.Store.{store};
 ghost use Rattle.ledger.specs.StoreRun.{shownOutcome, answerS};
 ghost use Rattle.replay.specs.Calls.{noDraft, readingCall, draftOf};
 ghost use Rattle.replay.specs.Replay.{outcomeSize};
@@ -62,12 +62,12 @@ fn ask(mst: &[u8], xrf: &[u8], r: Reading) -> Shown
             mfn,
             tag,
             occurrence,
-        } => store::views::view(mst, xrf, mfn, tag, occurrence),
+        } => views::views::view(mst, xrf, mfn, tag, occurrence),
         Reading::Settled {
             mfn,
             tag,
             occurrence,
-        } => store::views::view_settled(mst, xrf, mfn, tag, occurrence),
+        } => views::views::view_settled(mst, xrf, mfn, tag, occurrence),
         Reading::Check => Shown {
             answer: soundness::check::check(mst, xrf),
             start: 0,
@@ -95,7 +95,7 @@ fn create_next(
     let te = t + n.tags;
     let le = l + n.lens;
     let de = d + n.bytes;
-    store::create::create(mst, xrf, &tags[t..te], &lens[l..le], &data[d..de])
+    writing::create::create(mst, xrf, &tags[t..te], &lens[l..le], &data[d..de])
 }
 
 // Updates a record with the draft at a cursor.
@@ -118,7 +118,7 @@ fn update_next(
     let te = t + n.tags;
     let le = l + n.lens;
     let de = d + n.bytes;
-    store::versions::update(mst, xrf, m, &tags[t..te], &lens[l..le], &data[d..de])
+    writing::versions::update(mst, xrf, m, &tags[t..te], &lens[l..le], &data[d..de])
 }
 
 // The answer of a call that returns no MFN.
@@ -145,19 +145,19 @@ fn write(
     ensures { λ r. ⌜ Wrote (store (now (mst .entry)) (now (xrf .entry))) (writingAt (now (tags .entry)) (now (lens .entry)) (now («data» .entry)) at w) r (store (now (mst .exit)) (now (xrf .exit))) ⌝ }
 {
     match w {
-        Writing::Format => without_mfn(store::format::format(mst, xrf)),
+        Writing::Format => without_mfn(writing::format::format(mst, xrf)),
         Writing::Create(n) => create_next(mst, xrf, tags, lens, data, at, n),
         Writing::Update(m, n) => without_mfn(update_next(mst, xrf, m, tags, lens, data, at, n)),
-        Writing::Delete(m) => without_mfn(store::versions::delete(mst, xrf, m)),
-        Writing::Settle(m) => without_mfn(store::settling::settle(mst, xrf, m)),
-        Writing::Revert(m) => without_mfn(store::settling::revert(mst, xrf, m)),
+        Writing::Delete(m) => without_mfn(writing::versions::delete(mst, xrf, m)),
+        Writing::Settle(m) => without_mfn(writing::settling::settle(mst, xrf, m)),
+        Writing::Revert(m) => without_mfn(writing::settling::revert(mst, xrf, m)),
     }
 }
 
 // Writes the three numbers of an outcome at `i`.
 fn put_numbers(answers: &mut [u32], i: usize, answer: Answer, mfn: u32, len: u32)
     requires { ⌜ i + outcomeSize ≤ length (now answers) ⌝ }
-    ensures { λ _. ⌜ now (answers .exit) ≡ place (now (answers .entry)) i (numberOf answer ∷ mfn ∷ len ∷ []) ⌝ }
+    ensures { λ _. ⌜ now (answers .exit) ≡ overwrite (now (answers .entry)) i (numberOf answer ∷ mfn ∷ len ∷ []) ⌝ }
 {
     answers[i] = store::answer::number(answer);
     answers[i + 1] = mfn;

@@ -11,8 +11,8 @@ use mathlib.Core.Logic.{_⊎_, inl, inr, ⊎-elim}
 use mathlib.Core.Bool.{Bool, true, false}
 use mathlib.Core.List.{List}
 use lib.ListN.{length, getD}
-use Rattle.word.specs.Place.{place}
-use Rattle.word.proofs.Place.{lt-or-ge, place-length, place-other, place-before}
+use Rattle.word.specs.Overwrite.{overwrite}
+use Rattle.word.proofs.Overwrite.{lt-or-ge, overwrite-length, overwrite-other, overwrite-before}
 use Rattle.word.proofs.Integers.{u16-same, u16-other}
 use Rattle.layout.specs.Sizes.{capacityOf, endMoved, recordLength}
 use Rattle.layout.specs.Entry.{placeAddress}
@@ -326,7 +326,7 @@ module _ {mst xrf : List ℕ} (s : Sound mst xrf) (m : ℕ) (known : m < nextOf 
 
   module _ (p : Place) (e : entryFor mst xrf m ≡ At p) (f : PlaceStands mst m p) (k : ℕ) (bs : List ℕ)
       (inside : k + length bs ≤ mfrlAt mst (placeAddress p))
-      (same : mfrlAt (place mst (placeAddress p + k) bs) (placeAddress p) ≡ mfrlAt mst (placeAddress p)) where
+      (same : mfrlAt (overwrite mst (placeAddress p + k) bs) (placeAddress p) ≡ mfrlAt mst (placeAddress p)) where
     own : MemberFacts mst (endOf mst) 64 (placeAddress p)
     own = member-facts mst (endOf mst) (placeAddress p) 64 (s .way) (f .step)
 
@@ -336,10 +336,10 @@ module _ {mst xrf : List ℕ} (s : Sound mst xrf) (m : ℕ) (known : m < nextOf 
     fits : placeAddress p + k + length bs ≤ length mst
     fits = let g = own in let h = s .numbers in omega arith
 
-    mfrl-kept : MfrlKept mst (place mst (placeAddress p + k) bs) (steps mst (endOf mst) 64)
+    mfrl-kept : MfrlKept mst (overwrite mst (placeAddress p + k) bs) (steps mst (endOf mst) 64)
     mfrl-kept a i = go (ℕ-discrete a (placeAddress p))
       where
-        go : Dec (a ≡ placeAddress p) → mfrlAt (place mst (placeAddress p + k) bs) a ≡ mfrlAt mst a
+        go : Dec (a ≡ placeAddress p) → mfrlAt (overwrite mst (placeAddress p + k) bs) a ≡ mfrlAt mst a
         go (yes z) = rw z same
         go (no ne) =
             let g = member-facts mst (endOf mst) a 64 (s .way) i in
@@ -347,25 +347,25 @@ module _ {mst xrf : List ℕ} (s : Sound mst xrf) (m : ℕ) (known : m < nextOf 
             u16-other mst (placeAddress p + k) bs (a + 4) (omega arith)
             (⊎-elim (λ b. inl (omega arith)) (λ b. inr (omega arith)) (steps-apart mst (endOf mst) a (placeAddress p) 64 (s .way) i (f .step) ne))
 
-    pub within-end : endOf (place mst (placeAddress p + k) bs) ≡ endOf mst
+    pub within-end : endOf (overwrite mst (placeAddress p + k) bs) ≡ endOf mst
     within-end = end-placed mst (placeAddress p + k) bs (omega (arith, low)) fits
 
-    pub mst-within : MstMoved mst xrf (place mst (placeAddress p + k) bs) m (placeAddress p + k) (length bs)
+    pub mst-within : MstMoved mst xrf (overwrite mst (placeAddress p + k) bs) m (placeAddress p + k) (length bs)
     mst-within =
         let at : ℕ = placeAddress p + k in
         let h : 64 ≤ at = low in
         let l : at + length bs ≤ length mst = fits in
         let g : MemberFacts mst (endOf mst) 64 (placeAddress p) = own in
         record {
-          long = place-length mst at bs l;
+          long = overwrite-length mst at bs l;
           control = control-right-placed mst at bs (omega arith) l (capacityOf (length xrf)) ∙ s .control;
           next = stays (next-placed mst at bs (omega arith) l) known;
           end-up = rw within-end (omega arith);
           touched = within p e f (omega arith) (omega arith);
-          front = λ i b. place-before mst at bs i (omega arith) (omega arith);
-          kept = λ i b side. place-other mst at bs i (omega arith) side;
-          way = rw within-end (arrives-same mst (place mst at bs) (endOf mst) 64 mfrl-kept ∙ s .way);
-          steps-kept = λ a i. rw (within-end, steps-same mst (place mst at bs) (endOf mst) 64 mfrl-kept) i;
+          front = λ i b. overwrite-before mst at bs i (omega arith) (omega arith);
+          kept = λ i b side. overwrite-other mst at bs i (omega arith) side;
+          way = rw within-end (arrives-same mst (overwrite mst at bs) (endOf mst) 64 mfrl-kept ∙ s .way);
+          steps-kept = λ a i. rw (within-end, steps-same mst (overwrite mst at bs) (endOf mst) 64 mfrl-kept) i;
         }
 
 -- a record of n bytes at the end

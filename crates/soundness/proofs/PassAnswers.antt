@@ -13,7 +13,7 @@ use borrow.Author.Tests.{le-leb, lt-leb, le-ltb, eq-eqb, ne-eqb, not-true, not-f
 use types.Run.{OneOf}
 use denote.Enum.Declared.{tagOf}
 use Rattle.word.specs.Integer.{u16At, u32At}
-use Rattle.word.specs.Place.{part}
+use Rattle.word.specs.Overwrite.{part}
 use Rattle.layout.specs.Sizes.{capacityOf, addressOf, endMoved, recordLength}
 use Rattle.layout.specs.Entry.{placeAddress}
 use Rattle.layout.specs.CrossReference.{slotFree, entryAt}

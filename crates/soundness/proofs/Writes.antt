@@ -11,8 +11,8 @@ use lib.Dec.{eqb, ltb}
 use lib.ListN.{length, getD, replicate}
 use borrow.Author.Tests.{ne-eqb, ltb-false}
 use Rattle.word.specs.Integer.{le}
-use Rattle.word.specs.Place.{place, part}
-use Rattle.word.proofs.Place.{place-length, place-before, place-other}
+use Rattle.word.specs.Overwrite.{overwrite, part}
+use Rattle.word.proofs.Overwrite.{overwrite-length, overwrite-before, overwrite-other}
 use Rattle.layout.specs.Sizes.{mstPermitted, xrfPermitted, capacityOf, addressOf, blockAt, offsetAt, endMoved, recordLength}
 use Rattle.layout.specs.Entry.{wellPlaced, placed, placeAddress}
 use Rattle.layout.specs.CrossReference.{xrfBlock, withEntry, formattedXrf}
@@ -158,7 +158,7 @@ module _ {mst xrf : List ℕ} (s : Sound mst xrf) (m n b q : ℕ) (deleted : Boo
   made = leaderFor m n b q deleted (length fs)
 
   abbrev over : List ℕ
-  over = place mst (endOf mst) (recordBytes made fs)
+  over = overwrite mst (endOf mst) (recordBytes made fs)
 
   abbrev out : List ℕ
   out = appended mst made fs
@@ -167,7 +167,7 @@ module _ {mst xrf : List ℕ} (s : Sound mst xrf) (m n b q : ℕ) (deleted : Boo
   whole = written-length m n b q deleted fs w
 
   long-over : length over ≡ length mst
-  long-over = place-length mst (endOf mst) (recordBytes made fs) (rw whole room)
+  long-over = overwrite-length mst (endOf mst) (recordBytes made fs) (rw whole room)
 
   -- where the end goes
   record Goes : Type 0 where
@@ -230,8 +230,8 @@ module _ {mst xrf : List ℕ} (s : Sound mst xrf) (m n b q : ℕ) (deleted : Boo
   appended-front i h =
       let g = goes in
       let e : ℕ = endMoved (endOf mst + n) in
-      place-before over 8 (le 4 (blockAt e) ++ le 2 (offsetAt e)) i (rw long-over (omega arith)) (omega arith)
-      ∙ place-before mst (endOf mst) (recordBytes made fs) i (omega arith) (omega arith)
+      overwrite-before over 8 (le 4 (blockAt e) ++ le 2 (offsetAt e)) i (rw long-over (omega arith)) (omega arith)
+      ∙ overwrite-before mst (endOf mst) (recordBytes made fs) i (omega arith) (omega arith)
 
   pub appended-to : AppendedTo mst out n
   appended-to =
@@ -240,7 +240,7 @@ module _ {mst xrf : List ℕ} (s : Sound mst xrf) (m n b q : ℕ) (deleted : Boo
         end-is = appended-end;
         front = appended-front;
         kept = λ i h side.
-            appended-byte i h ∙ place-other mst (endOf mst) (recordBytes made fs) i (omega (arith, fits)) (rw whole side);
+            appended-byte i h ∙ overwrite-other mst (endOf mst) (recordBytes made fs) i (omega (arith, fits)) (rw whole side);
       }
 
   pub appended-reads : ReadsAs (recordFrom out (endOf mst)) m deleted made fs
@@ -315,7 +315,7 @@ module _ {mst xrf : List ℕ} (s : Sound mst xrf) (fs : List Field) (d : Draftab
 
   created-front : (i : ℕ) → i < 4 → getD (createdMst mst fs) i 0 ≡ getD one i 0
   unfolding createdMst withNext
-  created-front i h = place-before one 4 (le 4 (nextOf mst + 1)) i (omega (arith, long)) h
+  created-front i h = overwrite-before one 4 (le 4 (nextOf mst + 1)) i (omega (arith, long)) h
 
   pub created-long : length (createdMst mst fs) ≡ length mst
   unfolding createdMst
@@ -498,7 +498,7 @@ module _ {mst xrf : List ℕ} (s : Sound mst xrf) (m : ℕ) (p : Place) (low : 1
     again = leaderFor m (leaderAt mst p .mfrl) back-block back-offset deleted (length fs)
 
     abbrev over-it : List ℕ
-    over-it = place mst (placeAddress p) (recordBytes again fs)
+    over-it = overwrite mst (placeAddress p) (recordBytes again fs)
 
     old-leader : LeaderFacts m (p .deleted) (length (recordAt mst p)) (leaderAt mst p)
     old-leader = reads-leader (place-reads here)
@@ -530,7 +530,7 @@ module _ {mst xrf : List ℕ} (s : Sound mst xrf) (m : ℕ) (p : Place) (low : 1
         let z : placeAddress p + 0 ≡ placeAddress p = add-zero (placeAddress p) in
         let bs : List ℕ = recordBytes again fs in
         let inside : 0 + length bs ≤ mfrlAt mst (placeAddress p) = omega (arith, again-length, old-mfrl) in
-        let same : mfrlAt (place mst (placeAddress p + 0) bs) (placeAddress p) ≡ mfrlAt mst (placeAddress p) =
+        let same : mfrlAt (overwrite mst (placeAddress p + 0) bs) (placeAddress p) ≡ mfrlAt mst (placeAddress p) =
         rw z (reads-mfrl over-it (placeAddress p) (endOf mst - placeAddress p) again-read ∙ sym old-mfrl) in
         (rw (z, again-length) at (mst-within s m high p e here 0 bs inside same), rw z at (within-end s m high p e here 0 bs inside same))
 
@@ -578,13 +578,13 @@ module _ {mst xrf : List ℕ} (s : Sound mst xrf) (m : ℕ) (p : Place) (low : 1
   pointer-inside : 6 + 6 ≤ mfrlAt mst (placeAddress p)
   pointer-inside = let g = member-facts mst (endOf mst) (placeAddress p) 64 (s .way) (there .step) in omega arith
 
-  patched : ReadsAs (part (place mst (placeAddress p + 6) (replicate 6 0)) (placeAddress p) (endOf mst - placeAddress p)) m (p .deleted)
+  patched : ReadsAs (part (overwrite mst (placeAddress p + 6) (replicate 6 0)) (placeAddress p) (endOf mst - placeAddress p)) m (p .deleted)
       (withBack (leaderAt mst p) 0 0) (currentFields mst p)
   patched = reads-settled mst (placeAddress p) (endOf mst - placeAddress p) (place-reads there)
 
-  patched-mfrl : mfrlAt (place mst (placeAddress p + 6) (replicate 6 0)) (placeAddress p) ≡ mfrlAt mst (placeAddress p)
+  patched-mfrl : mfrlAt (overwrite mst (placeAddress p + 6) (replicate 6 0)) (placeAddress p) ≡ mfrlAt mst (placeAddress p)
   patched-mfrl =
-      reads-mfrl (place mst (placeAddress p + 6) (replicate 6 0)) (placeAddress p) (endOf mst - placeAddress p) patched
+      reads-mfrl (overwrite mst (placeAddress p + 6) (replicate 6 0)) (placeAddress p) (endOf mst - placeAddress p) patched
       ∙ sym (reads-mfrl mst (placeAddress p) (endOf mst - placeAddress p) (place-reads there))
 
   pub settled-moved : MstMoved mst xrf (settledMst mst p) m (placeAddress p + 6) 6
@@ -599,7 +599,7 @@ module _ {mst xrf : List ℕ} (s : Sound mst xrf) (m : ℕ) (p : Place) (low : 1
       (placed (p .block .0) (p .offset) (p .deleted) Settled) (leaderAt mst p .mfrl) (currentFields mst p) []
   unfolding settledMst settledXrf
   settled-leaves =
-      let out : List ℕ = place mst (placeAddress p + 6) (replicate 6 0) in
+      let out : List ℕ = overwrite mst (placeAddress p + 6) (replicate 6 0) in
       let q : Place = placed (p .block .0) (p .offset) (p .deleted) Settled in
       let l : Leader = withBack (leaderAt mst p) 0 0 in
       let w : MstMoved mst xrf out m (placeAddress p + 6) 6 = settled-moved in

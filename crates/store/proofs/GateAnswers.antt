@@ -11,7 +11,7 @@ use lib.ListN.{length}
 use borrow.Author.Tests.{lt-leb, le-ltb, not-true, not-false}
 use types.Run.{OneOf}
 use denote.Enum.Declared.{tagOf}
-use Rattle.word.specs.Place.{part}
+use Rattle.word.specs.Overwrite.{part}
 use Rattle.layout.specs.Sizes.{mstPermitted, xrfPermitted, capacityOf, addressOf}
 use Rattle.layout.specs.Entry.{wellPlaced, placeAddress}
 use Rattle.layout.specs.CrossReference.{entryAt}
@@ -36,30 +36,30 @@ use Rattle.record.specs.Record.{recordRight, testOf, noBack, backRight}
 use Rattle.record.specs.declared.test.Tested.{Tested}
 use Rattle.record.specs.declared.test.Tested.the-variants.{WellFormed, Broken}
 use Rattle.store.specs.Answer.{numberOf, after}
-use Rattle.store.specs.Reading.{lengthsPermitted, controlFine, mfnKnown, placeIn, isMalformed, isGone, isChanged, recordAt, leaderAt, backAddress, backFine, recordFine, settledFine, versionFine}
-use Rattle.store.specs.Gate.{entryAnswer, placeKnown, settledFrom}
-use Rattle.store.specs.Steps.{gateOf, knownIf, knownOf, knownBoth}
+use Rattle.store.specs.Reading.{lengthsPermitted, controlFine, mfnInRange, placeIn, isMalformed, isGone, isChanged, recordAt, leaderAt, backAddress, backFine, recordFine, settledFine, versionFine}
+use Rattle.store.specs.Gate.{entryAnswer, placeKnown, settledFrom, gateOf, knownIf, knownOf, knownBoth}
 use Rattle.store.specs.declared.answer.Answer.{Answer}
-use Rattle.store.specs.declared.answer.Answer.the-variants.{Done, BadLength, BadControl, NoSuchMfn, BadEntry, PhysicallyDeleted, BadRecord}
+use Rattle.store.specs.declared.answer.Answer.the-variants.{Done, BadLength, BadControl, NoMfn, BadEntry, Gone as GoneAnswer, BadRecord}
 use Rattle.store.specs.declared.gate.Gate.the-variants.{Open, Shut}
 use Rattle.store.specs.declared.gate.Known.{Known}
 use Rattle.store.specs.declared.gate.Known.the-variants.{Record, Refused}
 use Rattle.store.proofs.Gates.{gate-open, open-end, open-end-in, open-xrf, open-capacity, open-known, open-entry, KnownFacts, known-facts, BackFacts, back-changed, refused-both}
+use Rattle.store.specs.Store.{store}
 
 -- ---- lengths and control record
 
 module _ (mst xrf : List ℕ) where
   module _ (w : Bool) (e : w ≡ mstPermitted (length mst)) where
-    pub lengths-no : not w ≡ true → false ≡ lengthsPermitted mst xrf
+    pub lengths-no : not w ≡ true → false ≡ lengthsPermitted (store mst xrf)
     unfolding lengthsPermitted
     lengths-no h = rw (← e, not-true w h)
 
-    pub lengths-rest : (r : Bool) → not w ≡ false → r ≡ xrfPermitted (length xrf) → r ≡ lengthsPermitted mst xrf
+    pub lengths-rest : (r : Bool) → not w ≡ false → r ≡ xrfPermitted (length xrf) → r ≡ lengthsPermitted (store mst xrf)
     unfolding lengthsPermitted
     lengths-rest r h s = rw (s, ← e, not-false w h)
 
-  module _ (w : Bool) (e : w ≡ lengthsPermitted mst xrf) where
-    pub gate-lengths : not w ≡ true → Shut BadLength ≡ gateOf mst xrf
+  module _ (w : Bool) (e : w ≡ lengthsPermitted (store mst xrf)) where
+    pub gate-lengths : not w ≡ true → Shut BadLength ≡ gateOf (store mst xrf)
     unfolding gateOf after numberOf
     gate-lengths h = rw (← e, not-true w h)
 
@@ -71,13 +71,13 @@ module _ (mst xrf : List ℕ) where
       read : controlOf mst (capacityOf (length xrf)) ≡ k
       read = ap (controlOf mst) (sym s) ∙ sym u
 
-      pub gate-wrong : k ≡ Wrong → Shut BadControl ≡ gateOf mst xrf
+      pub gate-wrong : k ≡ Wrong → Shut BadControl ≡ gateOf (store mst xrf)
       unfolding controlOf gateOf after numberOf
       gate-wrong v =
-          let q : controlFine mst xrf ≡ false = control-wrong (controlFine mst xrf) (record { 0 = nextOf mst }) (endOf mst) (read ∙ v) in
+          let q : controlFine (store mst xrf) ≡ false = control-wrong (controlFine (store mst xrf)) (record { 0 = nextOf mst }) (endOf mst) (read ∙ v) in
           rw (← e, not-false w h, q)
 
-      pub gate-right : (next : Mfn) (end : ℕ) → k ≡ Right next end → Open next end ≡ gateOf mst xrf
+      pub gate-right : (next : Mfn) (end : ℕ) → k ≡ Right next end → Open next end ≡ gateOf (store mst xrf)
       unfolding gateOf after numberOf
       gate-right next end v =
           let q = control-read mst (capacityOf (length xrf)) next end (read ∙ v) in
@@ -167,7 +167,7 @@ fine-cond false k = refl
 
 -- 6 and 7
 abbrev entryList : Entry → Bool → Answer
-entryList e ok = cond (isMalformed e) BadEntry (cond (isGone e) PhysicallyDeleted (cond (not ok) BadRecord Done))
+entryList e ok = cond (isMalformed e) BadEntry (cond (isGone e) GoneAnswer (cond (not ok) BadRecord Done))
 
 no-place : (e : Entry) (ok : Bool) (k : Known) → OneOf (0 ∷ 1 ∷ []) (tagOf entry.the-type e)
     → Refused (entryAnswer e) ≡ after (entryList e ok) k (Refused (entryList e ok))
@@ -177,13 +177,13 @@ no-place Malformed ok k o = refl
 no-place (At p) ok k o = ⊎-elim (λ (z : _≡_ {A = ℕ} 2 0). absurd (omega arith)) (λ (z : _≡_ {A = ℕ} 2 1). absurd (omega arith)) o
 
 module _ (mst xrf : List ℕ) (m : ℕ) where
-  pub record-low : m < 1 → Refused NoSuchMfn ≡ knownOf mst xrf m
-  unfolding knownOf knownIf mfnKnown after numberOf
+  pub record-low : m < 1 → Refused NoMfn ≡ knownOf (store mst xrf) m
+  unfolding knownOf knownIf mfnInRange after numberOf
   record-low h = rw (lt-leb 1 m h)
 
-  module _ (next : Mfn) (end : ℕ) (g : gateOf mst xrf ≡ Open next end) where
-    pub record-high : next .0 ≤ m → Refused NoSuchMfn ≡ knownOf mst xrf m
-    unfolding knownOf knownIf mfnKnown after numberOf
+  module _ (next : Mfn) (end : ℕ) (g : gateOf (store mst xrf) ≡ Open next end) where
+    pub record-high : next .0 ≤ m → Refused NoMfn ≡ knownOf (store mst xrf) m
+    unfolding knownOf knownIf mfnInRange after numberOf
     record-high h =
         let f = gate-open mst xrf next end g in
         let k : nextOf mst ≤ m = omega arith in
@@ -194,12 +194,12 @@ module _ (mst xrf : List ℕ) (m : ℕ) where
       record-placed p v = entry-well-placed xrf end m p (sym u ∙ v)
 
       module _ (low : 1 ≤ m) (high : m < next .0) where
-        pub record-no-place : (a : Answer) → OneOf (0 ∷ 1 ∷ []) (tagOf entry.the-type e) → a ≡ entryAnswer e → Refused a ≡ knownOf mst xrf m
+        pub record-no-place : (a : Answer) → OneOf (0 ∷ 1 ∷ []) (tagOf entry.the-type e) → a ≡ entryAnswer e → Refused a ≡ knownOf (store mst xrf) m
         unfolding knownOf knownIf after numberOf
         record-no-place a o s =
             rw (s, open-known mst xrf next end g m low high, open-entry mst xrf next end g m e u) (no-place e (recordFine mst m (placeIn e)) (Record (placeIn e) (leaderAt mst (placeIn e))) o)
 
-        pub record-told : (p : Place) (r : Known) → e ≡ At p → r ≡ placeKnown mst m p → r ≡ knownOf mst xrf m
+        pub record-told : (p : Place) (r : Known) → e ≡ At p → r ≡ placeKnown mst m p → r ≡ knownOf (store mst xrf) m
         unfolding knownOf knownIf placeKnown
         record-told p r v s = rw (s, open-known mst xrf next end g m low high, open-entry mst xrf next end g m e u, v) (fine-cond (recordFine mst m p) (Record p (leaderAt mst p)))
 
@@ -216,19 +216,19 @@ module _ (mst : List ℕ) (end m at : ℕ) (t : Tested) (x : t ≡ testOf (part 
       let q = test-right (part mst at (end - at)) m false l (sym x ∙ g) in
       rw (s, q .0, q .1)
 
-module _ (mst xrf : List ℕ) (m : ℕ) (k : Known) (e : k ≡ knownOf mst xrf m) where
-  pub both-refused : (a : Answer) → k ≡ Refused a → k ≡ knownBoth mst xrf m
+module _ (mst xrf : List ℕ) (m : ℕ) (k : Known) (e : k ≡ knownOf (store mst xrf) m) where
+  pub both-refused : (a : Answer) → k ≡ Refused a → k ≡ knownBoth (store mst xrf) m
   both-refused a r = r ∙ refused-both mst xrf m a (sym e ∙ r)
 
   module _ (p : Place) (l : Leader) (r : k ≡ Record p l) where
     facts : KnownFacts mst xrf m p l
     facts = known-facts mst xrf m p l (sym e ∙ r)
 
-    both-told : versionFine mst m p ≡ true → Record p l ≡ knownBoth mst xrf m
+    both-told : versionFine mst m p ≡ true → Record p l ≡ knownBoth (store mst xrf) m
     unfolding knownBoth knownIf after numberOf
     both-told v = rw (facts .known, facts .entry, facts .record-fine, v, facts .leader-is)
 
-    pub both-other : OneOf (0 ∷ 2 ∷ []) (tagOf mark.the-type (p .mark)) → Record p l ≡ knownBoth mst xrf m
+    pub both-other : OneOf (0 ∷ 2 ∷ []) (tagOf mark.the-type (p .mark)) → Record p l ≡ knownBoth (store mst xrf) m
     unfolding versionFine
     both-other o = both-told (other (p .mark) o)
       where
@@ -253,11 +253,11 @@ module _ (mst xrf : List ℕ) (m : ℕ) (k : Known) (e : k ≡ knownOf mst xrf m
           unfolding versionFine settledFine settledFrom
           version-is = rw (c, ← facts .leader-is, ← h, ← a, s)
 
-          pub both-broken : w ≡ false → Refused BadRecord ≡ knownBoth mst xrf m
+          pub both-broken : w ≡ false → Refused BadRecord ≡ knownBoth (store mst xrf) m
           unfolding knownBoth knownIf after numberOf
           both-broken n = rw (facts .known, facts .entry, facts .record-fine, version-is, n)
 
-          pub both-right : w ≡ true → Record p l ≡ knownBoth mst xrf m
+          pub both-right : w ≡ true → Record p l ≡ knownBoth (store mst xrf) m
           both-right n = both-told (version-is ∙ n)
 
 pub ruleset gate-answers =

@@ -9,8 +9,8 @@ use mathlib.Core.List.{List}
 use lib.Dec.{eqb}
 use borrow.Author.Tests.{lt-ltb, le-leb, eqb-true, eqb-false, eq-eqb, ne-eqb, not-false}
 use lib.ListN.{length}
-use Rattle.word.specs.Place.{part}
-use Rattle.word.proofs.Place.{part-short}
+use Rattle.word.specs.Overwrite.{part}
+use Rattle.word.proofs.Overwrite.{part-short}
 use Rattle.layout.specs.Sizes.{mstPermitted, xrfPermitted, capacityOf}
 use Rattle.layout.specs.Entry.{wellPlaced, placeAddress}
 use Rattle.layout.specs.Control.{nextOf, endOf}
@@ -31,15 +31,16 @@ use Rattle.record.specs.Fields.{fieldsOf}
 use Rattle.record.proofs.Local.{ReadsAs, right-reads}
 use Rattle.record.proofs.Facts.{LeaderFacts, right-facts, right-readable, NoBackFacts, no-back-facts}
 use Rattle.store.specs.Answer.{numberOf, Refusal, lowest, after}
-use Rattle.store.specs.Reading.{lengthsPermitted, controlFine, mfnKnown, entryFor, placeIn, placeFor, isMalformed, isGone, isChanged, recordAt, leaderAt, backAddress, backFine, recordFine, settledRecord, settledFine, versionFine, currentFields}
+use Rattle.store.specs.Reading.{lengthsPermitted, controlFine, mfnInRange, entryFor, placeIn, placeFor, isMalformed, isGone, isChanged, recordAt, leaderAt, backAddress, backFine, recordFine, settledRecord, settledFine, versionFine, currentFields}
 use Rattle.store.specs.Refusals.{gated, named, fine, bothFine}
-use Rattle.store.specs.Steps.{gateOf, knownIf, knownOf, knownBoth}
+use Rattle.store.specs.Gate.{gateOf, knownIf, knownOf, knownBoth}
 use Rattle.store.specs.declared.answer.Answer.{Answer}
-use Rattle.store.specs.declared.answer.Answer.the-variants.{Done, BadLength, BadControl, BadDraft, NoSuchMfn, Full, BadEntry, PhysicallyDeleted, BadRecord, Deleted, NotPending, NeverSettled, NoField, NoRoom, Unsound}
+use Rattle.store.specs.declared.answer.Answer.the-variants.{Done, BadLength, BadControl, BadDraft, NoMfn, NoSlot, BadEntry, Gone as GoneAnswer, BadRecord, Deleted, NotPending, NeverSettled, NoField, NoRoom, NotSound, ListTooShort}
 use Rattle.store.specs.declared.gate.Gate.{Gate}
 use Rattle.store.specs.declared.gate.Gate.the-variants.{Open, Shut}
 use Rattle.store.specs.declared.gate.Known.{Known}
 use Rattle.store.specs.declared.gate.Known.the-variants.{Record, Refused}
+use Rattle.store.specs.Store.{store}
 
 -- ---- answers
 
@@ -49,17 +50,18 @@ number-done Done e = refl
 number-done BadLength e = absurd (omega arith)
 number-done BadControl e = absurd (omega arith)
 number-done BadDraft e = absurd (omega arith)
-number-done NoSuchMfn e = absurd (omega arith)
-number-done Full e = absurd (omega arith)
+number-done NoMfn e = absurd (omega arith)
+number-done NoSlot e = absurd (omega arith)
 number-done BadEntry e = absurd (omega arith)
-number-done PhysicallyDeleted e = absurd (omega arith)
+number-done GoneAnswer e = absurd (omega arith)
 number-done BadRecord e = absurd (omega arith)
 number-done Deleted e = absurd (omega arith)
 number-done NotPending e = absurd (omega arith)
 number-done NeverSettled e = absurd (omega arith)
 number-done NoField e = absurd (omega arith)
 number-done NoRoom e = absurd (omega arith)
-number-done Unsound e = absurd (omega arith)
+number-done NotSound e = absurd (omega arith)
+number-done ListTooShort e = absurd (omega arith)
 
 pub done-number : numberOf Done ≡ 0
 unfolding numberOf
@@ -119,23 +121,23 @@ holds b a rest h e = let q = passed (not b) a rest h e in (not-false b (q .0), q
 abbrev gateList : Bool → Bool → Answer → Answer
 gateList lengths control rest = cond (not lengths) BadLength (cond (not control) BadControl rest)
 
-pub gated-passes : (mst xrf : List ℕ) (rest : List Refusal) → lengthsPermitted mst xrf ≡ true → controlFine mst xrf ≡ true
-    → lowest (gated mst xrf rest) ≡ lowest rest
+pub gated-passes : (mst xrf : List ℕ) (rest : List Refusal) → lengthsPermitted (store mst xrf) ≡ true → controlFine (store mst xrf) ≡ true
+    → lowest (gated (store mst xrf) rest) ≡ lowest rest
 gated-passes mst xrf rest a b = rw (a, b)
 
 module _ (mst xrf : List ℕ) where
-  pub gate-done : (rest : Answer) → cond (not (lengthsPermitted mst xrf)) BadLength (cond (not (controlFine mst xrf)) BadControl rest) ≡ Done
-      → (lengthsPermitted mst xrf ≡ true) × (controlFine mst xrf ≡ true) × (rest ≡ Done)
+  pub gate-done : (rest : Answer) → cond (not (lengthsPermitted (store mst xrf))) BadLength (cond (not (controlFine (store mst xrf))) BadControl rest) ≡ Done
+      → (lengthsPermitted (store mst xrf) ≡ true) × (controlFine (store mst xrf) ≡ true) × (rest ≡ Done)
   unfolding numberOf
   gate-done rest e =
-      let a = holds (lengthsPermitted mst xrf) BadLength _ (λ z. omega arith) e in
-      let b = holds (controlFine mst xrf) BadControl rest (λ z. omega arith) (a .1) in
+      let a = holds (lengthsPermitted (store mst xrf)) BadLength _ (λ z. omega arith) e in
+      let b = holds (controlFine (store mst xrf)) BadControl rest (λ z. omega arith) (a .1) in
       (a .0, b .0, b .1)
 
 -- the gate is shut with a: that is the answer, whatever the refusals after it
 pub record ShutFacts (mst xrf : List ℕ) (a : Answer) : Type 0 where
   pub refusing : Refusing a
-  pub answers : (rest : List Refusal) → lowest (gated mst xrf rest) ≡ a
+  pub answers : (rest : List Refusal) → lowest (gated (store mst xrf) rest) ≡ a
 
 module _ (next : Mfn) (end : ℕ) (a : Answer) where
   shut-cases : (lengths control : Bool) → after (gateList lengths control Done) (Open next end) (Shut (gateList lengths control Done)) ≡ Shut a
@@ -152,10 +154,10 @@ module _ (next : Mfn) (end : ℕ) (a : Answer) where
   open-cases n f true false e = let z : _≡_ {A = ℕ} 0 1 = cc in absurd (omega arith)
   open-cases n f false control e = let z : _≡_ {A = ℕ} 0 1 = cc in absurd (omega arith)
 
-pub gate-shut : (mst xrf : List ℕ) (a : Answer) → gateOf mst xrf ≡ Shut a → ShutFacts mst xrf a
+pub gate-shut : (mst xrf : List ℕ) (a : Answer) → gateOf (store mst xrf) ≡ Shut a → ShutFacts mst xrf a
 unfolding gateOf
 gate-shut mst xrf a e =
-    let q = shut-cases (record { 0 = nextOf mst }) (endOf mst) a (lengthsPermitted mst xrf) (controlFine mst xrf) e in
+    let q = shut-cases (record { 0 = nextOf mst }) (endOf mst) a (lengthsPermitted (store mst xrf)) (controlFine (store mst xrf)) e in
     record { refusing = q .0; answers = λ rest. q .1 (lowest rest) }
 
 -- both lengths are permitted
@@ -167,11 +169,11 @@ pub record LengthsFacts (mst xrf : List ℕ) : Type 0 where
   pub xrf-low : 512 ≤ length xrf
   pub xrf-high : length xrf ≤ 2097152
 
-pub lengths-both : (mst xrf : List ℕ) → lengthsPermitted mst xrf ≡ true → (mstPermitted (length mst) ≡ true) × (xrfPermitted (length xrf) ≡ true)
+pub lengths-both : (mst xrf : List ℕ) → lengthsPermitted (store mst xrf) ≡ true → (mstPermitted (length mst) ≡ true) × (xrfPermitted (length xrf) ≡ true)
 unfolding lengthsPermitted
 lengths-both mst xrf e = simp tests at e
 
-pub lengths-facts : (mst xrf : List ℕ) → lengthsPermitted mst xrf ≡ true → LengthsFacts mst xrf
+pub lengths-facts : (mst xrf : List ℕ) → lengthsPermitted (store mst xrf) ≡ true → LengthsFacts mst xrf
 lengths-facts mst xrf e =
     let q = lengths-both mst xrf e in
     let f = blocks-facts 1048575 (length mst) (q .0) in
@@ -187,8 +189,8 @@ lengths-facts mst xrf e =
 
 -- behind an open gate
 pub record OpenFacts (mst xrf : List ℕ) (next : Mfn) (end : ℕ) : Type 0 where
-  pub lengths : lengthsPermitted mst xrf ≡ true
-  pub control : controlFine mst xrf ≡ true
+  pub lengths : lengthsPermitted (store mst xrf) ≡ true
+  pub control : controlFine (store mst xrf) ≡ true
   pub next-is : next .0 ≡ nextOf mst
   pub end-is : end ≡ endOf mst
   pub sizes : LengthsFacts mst xrf
@@ -199,7 +201,7 @@ pub record OpenFacts (mst xrf : List ℕ) (next : Mfn) (end : ℕ) : Type 0 wher
   pub end-even : endOf mst % 2 ≡ 0
   pub end-offset : endOf mst % 512 ≤ 498
 
-pub open-from : (mst xrf : List ℕ) (next : Mfn) (end : ℕ) → lengthsPermitted mst xrf ≡ true → controlFine mst xrf ≡ true → next .0 ≡ nextOf mst → end ≡ endOf mst
+pub open-from : (mst xrf : List ℕ) (next : Mfn) (end : ℕ) → lengthsPermitted (store mst xrf) ≡ true → controlFine (store mst xrf) ≡ true → next .0 ≡ nextOf mst → end ≡ endOf mst
     → OpenFacts mst xrf next end
 open-from mst xrf next end a b c d =
     let f = control-facts mst (capacityOf (length xrf)) b in
@@ -217,14 +219,14 @@ open-from mst xrf next end a b c d =
       end-offset = f .end-offset;
     }
 
-pub gate-open : (mst xrf : List ℕ) (next : Mfn) (end : ℕ) → gateOf mst xrf ≡ Open next end → OpenFacts mst xrf next end
+pub gate-open : (mst xrf : List ℕ) (next : Mfn) (end : ℕ) → gateOf (store mst xrf) ≡ Open next end → OpenFacts mst xrf next end
 unfolding gateOf
 gate-open mst xrf next end e =
-    let q = open-cases next end Done (record { 0 = nextOf mst }) (endOf mst) (lengthsPermitted mst xrf) (controlFine mst xrf) e in
+    let q = open-cases next end Done (record { 0 = nextOf mst }) (endOf mst) (lengthsPermitted (store mst xrf)) (controlFine (store mst xrf)) e in
     open-from mst xrf next end (q .0) (q .1) (ap (λ (n : Mfn). n .0) (sym (q .2))) (sym (q .3))
 
 -- the facts that a search asks for, one by one
-module _ (mst xrf : List ℕ) (next : Mfn) (end : ℕ) (g : gateOf mst xrf ≡ Open next end) where
+module _ (mst xrf : List ℕ) (next : Mfn) (end : ℕ) (g : gateOf (store mst xrf) ≡ Open next end) where
   pub open-end : end ≡ endOf mst
   open-end = gate-open mst xrf next end g .end-is
 
@@ -237,19 +239,19 @@ module _ (mst xrf : List ℕ) (next : Mfn) (end : ℕ) (g : gateOf mst xrf ≡ O
   pub open-capacity : (m : ℕ) → m < next .0 → m ≤ capacityOf (length xrf)
   open-capacity m h = let f = gate-open mst xrf next end g in omega arith
 
-  pub open-known : (m : ℕ) → 1 ≤ m → m < next .0 → mfnKnown mst m ≡ true
-  unfolding mfnKnown
+  pub open-known : (m : ℕ) → 1 ≤ m → m < next .0 → mfnInRange mst m ≡ true
+  unfolding mfnInRange
   open-known m low high =
       let f = gate-open mst xrf next end g in
       let k : m < nextOf mst = omega arith in
       rw (le-leb 1 m low, lt-ltb m (nextOf mst) k)
 
-  pub open-entry : (m : ℕ) (e : Entry) → e ≡ entryAt xrf end m → entryFor mst xrf m ≡ e
+  pub open-entry : (m : ℕ) (e : Entry) → e ≡ entryAt xrf end m → entryFor (store mst xrf) m ≡ e
   open-entry m e u = ap (λ (x : ℕ). entryAt xrf x m) (sym open-end) ∙ sym u
 
 -- the gate that was tested came out open
-module _ (mst xrf : List ℕ) (g : Gate) (p : g ≡ gateOf mst xrf) (next : Mfn) (end : ℕ) (q : g ≡ Open next end) where
-  pub gate-is : gateOf mst xrf ≡ Open next end
+module _ (mst xrf : List ℕ) (g : Gate) (p : g ≡ gateOf (store mst xrf)) (next : Mfn) (end : ℕ) (q : g ≡ Open next end) where
+  pub gate-is : gateOf (store mst xrf) ≡ Open next end
   gate-is = sym p ∙ q
 
   pub opened : OpenFacts mst xrf next end
@@ -315,7 +317,7 @@ back-new end p l e h = let q = simp (h, tests) at e in no-back-facts l (q .0)
 -- 4, 6, 7 and 8 by whether the MFN is known, the kind of entry and whether 8's question is answered
 abbrev namedList : Bool → Entry → Bool → Answer → Answer
 namedList known e ok rest =
-    cond (not known) NoSuchMfn (cond (isMalformed e) BadEntry (cond (isGone e) PhysicallyDeleted (cond (not ok) BadRecord rest)))
+    cond (not known) NoMfn (cond (isMalformed e) BadEntry (cond (isGone e) GoneAnswer (cond (not ok) BadRecord rest)))
 
 entry-placed : (e : Entry) → isMalformed e ≡ false → isGone e ≡ false → e ≡ At (placeIn e)
 entry-placed Gone h k = absurd (false-true (sym k))
@@ -324,21 +326,21 @@ entry-placed (At p) h k = refl
 
 module _ (mst xrf : List ℕ) where
   pub named-done : (m : ℕ) (ok : Bool) (rest : Answer)
-      → cond (not (mfnKnown mst m)) NoSuchMfn
-      (cond (isMalformed (entryFor mst xrf m)) BadEntry (cond (isGone (entryFor mst xrf m)) PhysicallyDeleted (cond (not ok) BadRecord rest))) ≡ Done
-      → (mfnKnown mst m ≡ true) × (entryFor mst xrf m ≡ At (placeFor mst xrf m)) × (ok ≡ true) × (rest ≡ Done)
+      → cond (not (mfnInRange mst m)) NoMfn
+      (cond (isMalformed (entryFor (store mst xrf) m)) BadEntry (cond (isGone (entryFor (store mst xrf) m)) GoneAnswer (cond (not ok) BadRecord rest))) ≡ Done
+      → (mfnInRange mst m ≡ true) × (entryFor (store mst xrf) m ≡ At (placeFor (store mst xrf) m)) × (ok ≡ true) × (rest ≡ Done)
   unfolding numberOf
   named-done m ok rest e =
-      let a = holds (mfnKnown mst m) NoSuchMfn _ (λ z. omega arith) e in
-      let b = passed (isMalformed (entryFor mst xrf m)) BadEntry _ (λ z. omega arith) (a .1) in
-      let c = passed (isGone (entryFor mst xrf m)) PhysicallyDeleted _ (λ z. omega arith) (b .1) in
+      let a = holds (mfnInRange mst m) NoMfn _ (λ z. omega arith) e in
+      let b = passed (isMalformed (entryFor (store mst xrf) m)) BadEntry _ (λ z. omega arith) (a .1) in
+      let c = passed (isGone (entryFor (store mst xrf) m)) GoneAnswer _ (λ z. omega arith) (b .1) in
       let d = holds ok BadRecord rest (λ z. omega arith) (c .1) in
-      (a .0, entry-placed (entryFor mst xrf m) (b .0) (c .0), d .0, d .1)
+      (a .0, entry-placed (entryFor (store mst xrf) m) (b .0) (c .0), d .0, d .1)
 
 -- the record was not found, for a: that is the answer, whatever the refusals after it
 pub record RefusedFacts (mst xrf : List ℕ) (m : ℕ) (ok : Bool) (a : Answer) : Type 0 where
   pub refusing : Refusing a
-  pub answers : (rest : List Refusal) → lowest (named mst xrf m ok rest) ≡ a
+  pub answers : (rest : List Refusal) → lowest (named (store mst xrf) m ok rest) ≡ a
 
 -- what `knownIf` is of these
 abbrev chosen : Answer → (Entry → Leader) → Entry → Known
@@ -348,8 +350,8 @@ module _ (l : Entry → Leader) (a : Answer) where
   refused-cases : (known : Bool) (e : Entry) (ok : Bool) → chosen (namedList known e ok Done) l e ≡ Refused a
       → Refusing a × ((rest : Answer) → namedList known e ok rest ≡ a)
   unfolding after numberOf
-  refused-cases false e ok h = let q : NoSuchMfn ≡ a = cc in rw (← q) ((λ z. omega arith), (λ rest. refl))
-  refused-cases true Gone ok h = let q : PhysicallyDeleted ≡ a = cc in rw (← q) ((λ z. omega arith), (λ rest. refl))
+  refused-cases false e ok h = let q : NoMfn ≡ a = cc in rw (← q) ((λ z. omega arith), (λ rest. refl))
+  refused-cases true Gone ok h = let q : GoneAnswer ≡ a = cc in rw (← q) ((λ z. omega arith), (λ rest. refl))
   refused-cases true Malformed ok h = let q : BadEntry ≡ a = cc in rw (← q) ((λ z. omega arith), (λ rest. refl))
   refused-cases true (At p) false h = let q : BadRecord ≡ a = cc in rw (← q) ((λ z. omega arith), (λ rest. refl))
   refused-cases true (At p) true h = let z : _≡_ {A = ℕ} 0 1 = cc in absurd (omega arith)
@@ -379,39 +381,39 @@ module _ (l : Entry → Leader) (a : Answer) where
   refused-more true (At p) true more h = let z : _≡_ {A = ℕ} 0 1 = cc in absurd (omega arith)
 
 module _ (mst xrf : List ℕ) (m : ℕ) (a : Answer) where
-  pub known-refused : knownOf mst xrf m ≡ Refused a → RefusedFacts mst xrf m (fine mst xrf m) a
+  pub known-refused : knownOf (store mst xrf) m ≡ Refused a → RefusedFacts mst xrf m (fine (store mst xrf) m) a
   unfolding knownOf knownIf leaderIn
   known-refused h =
-      let q = refused-cases (leaderIn mst) a (mfnKnown mst m) (entryFor mst xrf m) (fine mst xrf m) h in
+      let q = refused-cases (leaderIn mst) a (mfnInRange mst m) (entryFor (store mst xrf) m) (fine (store mst xrf) m) h in
       record { refusing = q .0; answers = λ rest. q .1 (lowest rest) }
 
-  pub both-refused : knownBoth mst xrf m ≡ Refused a → RefusedFacts mst xrf m (bothFine mst xrf m) a
+  pub both-refused : knownBoth (store mst xrf) m ≡ Refused a → RefusedFacts mst xrf m (bothFine (store mst xrf) m) a
   unfolding knownBoth knownIf leaderIn
   both-refused h =
-      let q = refused-cases (leaderIn mst) a (mfnKnown mst m) (entryFor mst xrf m) (bothFine mst xrf m) h in
+      let q = refused-cases (leaderIn mst) a (mfnInRange mst m) (entryFor (store mst xrf) m) (bothFine (store mst xrf) m) h in
       record { refusing = q .0; answers = λ rest. q .1 (lowest rest) }
 
   -- what is refused without the settled version is refused with it
-  pub refused-both : knownOf mst xrf m ≡ Refused a → Refused a ≡ knownBoth mst xrf m
+  pub refused-both : knownOf (store mst xrf) m ≡ Refused a → Refused a ≡ knownBoth (store mst xrf) m
   unfolding knownOf knownBoth knownIf leaderIn
   refused-both h =
-      refused-more (leaderIn mst) a (mfnKnown mst m) (entryFor mst xrf m) (fine mst xrf m) (versionFine mst m (placeFor mst xrf m)) h
+      refused-more (leaderIn mst) a (mfnInRange mst m) (entryFor (store mst xrf) m) (fine (store mst xrf) m) (versionFine mst m (placeFor (store mst xrf) m)) h
 
 -- an MFN that was given out
 pub record MfnFacts (mst : List ℕ) (m : ℕ) : Type 0 where
   pub low : 1 ≤ m
   pub high : m < nextOf mst
 
-pub mfn-facts : (mst : List ℕ) (m : ℕ) → mfnKnown mst m ≡ true → MfnFacts mst m
-unfolding mfnKnown
+pub mfn-facts : (mst : List ℕ) (m : ℕ) → mfnInRange mst m ≡ true → MfnFacts mst m
+unfolding mfnInRange
 mfn-facts mst m e = let q = simp tests at e in record { low = q .0; high = q .1 }
 
 -- a record that was found: its entry names p, it is well formed there, and l is its leader
 pub record KnownFacts (mst xrf : List ℕ) (m : ℕ) (p : Place) (l : Leader) : Type 0 where
-  pub known : mfnKnown mst m ≡ true
+  pub known : mfnInRange mst m ≡ true
   pub mfn : MfnFacts mst m
-  pub entry : entryFor mst xrf m ≡ At p
-  pub place-is : placeFor mst xrf m ≡ p
+  pub entry : entryFor (store mst xrf) m ≡ At p
+  pub place-is : placeFor (store mst xrf) m ≡ p
   pub well-placed : wellPlaced (endOf mst) (p .block .0) (p .offset) ≡ true
   pub place : WellPlacedFacts (endOf mst) (p .block .0) (p .offset)
   pub leader-is : l ≡ leaderAt mst p
@@ -420,10 +422,10 @@ pub record KnownFacts (mst xrf : List ℕ) (m : ℕ) (p : Place) (l : Leader) : 
   pub stops : placeAddress p + l .mfrl ≤ endOf mst
 
 module _ (mst xrf : List ℕ) (m : ℕ) (p : Place) (l : Leader) where
-  known-from : mfnKnown mst m ≡ true → entryFor mst xrf m ≡ At p → fine mst xrf m ≡ true → l ≡ leaderIn mst (entryFor mst xrf m) → KnownFacts mst xrf m p l
+  known-from : mfnInRange mst m ≡ true → entryFor (store mst xrf) m ≡ At p → fine (store mst xrf) m ≡ true → l ≡ leaderIn mst (entryFor (store mst xrf) m) → KnownFacts mst xrf m p l
   unfolding leaderIn
   known-from known e ok leader =
-      let at : placeFor mst xrf m ≡ p = rw e in
+      let at : placeFor (store mst xrf) m ≡ p = rw e in
       let right : recordFine mst m p ≡ true = rw at at ok in
       let is : l ≡ leaderAt mst p = rw at at leader in
       let w = entry-well-placed xrf (endOf mst) m p e in
@@ -442,10 +444,10 @@ module _ (mst xrf : List ℕ) (m : ℕ) (p : Place) (l : Leader) where
         stops = omega arith;
       }
 
-  pub known-facts : knownOf mst xrf m ≡ Record p l → KnownFacts mst xrf m p l
+  pub known-facts : knownOf (store mst xrf) m ≡ Record p l → KnownFacts mst xrf m p l
   unfolding knownOf knownIf leaderIn
   known-facts h =
-      let q = record-cases (leaderIn mst) p l (mfnKnown mst m) (entryFor mst xrf m) (fine mst xrf m) h in
+      let q = record-cases (leaderIn mst) p l (mfnInRange mst m) (entryFor (store mst xrf) m) (fine (store mst xrf) m) h in
       known-from (q .0) (q .1) (q .2) (q .3)
 
 -- the settled version of a changed record
@@ -488,13 +490,8 @@ module _ (mst xrf : List ℕ) (m : ℕ) (p : Place) (l : Leader) where
   unfolding versionFine
   changed-fine e h = cond-holds (isChanged (p .mark)) (settledFine mst m p) e (ap isChanged h)
 
-  pub both-facts : knownBoth mst xrf m ≡ Record p l → BothFacts mst xrf m p l
-  unfolding knownBoth knownIf leaderIn
-  both-facts h =
-      let q = record-cases (leaderIn mst) p l (mfnKnown mst m) (entryFor mst xrf m) (bothFine mst xrf m) h in
-      let t = simp tests at (q .2) in
-      let k : KnownFacts mst xrf m p l = known-from mst xrf m p l (q .0) (q .1) (t .0) (q .3) in
-      let v : versionFine mst m p ≡ true = rw (k .place-is) at (t .1) in
+  pub both-from : KnownFacts mst xrf m p l → versionFine mst m p ≡ true → BothFacts mst xrf m p l
+  both-from k v =
       record {
         current = k;
         version-fine = v;
@@ -502,14 +499,22 @@ module _ (mst xrf : List ℕ) (m : ℕ) (p : Place) (l : Leader) where
         settled = λ c. rw (k .leader-is) (settled-facts mst m p (k .record-fine) c (changed-fine v c));
       }
 
+  pub both-facts : knownBoth (store mst xrf) m ≡ Record p l → BothFacts mst xrf m p l
+  unfolding knownBoth knownIf leaderIn
+  both-facts h =
+      let q = record-cases (leaderIn mst) p l (mfnInRange mst m) (entryFor (store mst xrf) m) (bothFine (store mst xrf) m) h in
+      let t = simp tests at (q .2) in
+      let k : KnownFacts mst xrf m p l = known-from mst xrf m p l (q .0) (q .1) (t .0) (q .3) in
+      both-from k (rw (k .place-is) at (t .1))
+
 -- ---- and back: a call that is done found its record, behind an open gate
 
 pub record Planned (mst xrf : List ℕ) (m : ℕ) (p : Place) (l : Leader) : Type 0 where
   pub gate : OpenFacts mst xrf (record { 0 = nextOf mst }) (endOf mst)
   pub found : KnownFacts mst xrf m p l
 
-pub planned-at : (mst xrf : List ℕ) (m : ℕ) (p : Place) (l : Leader) → lengthsPermitted mst xrf ≡ true → controlFine mst xrf ≡ true → mfnKnown mst m ≡ true
-    → entryFor mst xrf m ≡ At (placeFor mst xrf m) → fine mst xrf m ≡ true → placeFor mst xrf m ≡ p → leaderAt mst (placeFor mst xrf m) ≡ l
+pub planned-at : (mst xrf : List ℕ) (m : ℕ) (p : Place) (l : Leader) → lengthsPermitted (store mst xrf) ≡ true → controlFine (store mst xrf) ≡ true → mfnInRange mst m ≡ true
+    → entryFor (store mst xrf) m ≡ At (placeFor (store mst xrf) m) → fine (store mst xrf) m ≡ true → placeFor (store mst xrf) m ≡ p → leaderAt mst (placeFor (store mst xrf) m) ≡ l
     → Planned mst xrf m p l
 unfolding leaderIn
 planned-at mst xrf m p l a b c d e f g =

@@ -1,10 +1,4 @@
 pub mod Gates
 pub mod Lowest
 pub mod GateAnswers
-pub mod VersionAnswers
-pub mod ViewAnswers
-pub mod WalkAnswers
-pub mod Told
-pub mod Plans
-pub mod Writes
-pub mod Results
+pub mod Reaching

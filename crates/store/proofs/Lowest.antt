@@ -1,6 +1,6 @@
 -- `lowest` gives the lowest: of a list of refusals whose numbers ascend, which is tested by computing, it is done exactly if none applies,
--- and otherwise an answer that applies and whose number is at most that of every one that applies. The table of each call ascends, so that
--- each call's answer is the lowest of its table.
+-- and otherwise an answer that applies and whose number is at most that of every one that applies. The table of each call ascends
+-- (Lowest in `views`, `writing`, `soundness`), so that each call's answer is the lowest of its table.
 use Prim.Native.Nat.{ℕ, _≤_, _<_}
 use native.Mathlib.Omega.{arith}
 use mathlib.Core.Path.{_≡_, refl, sym, ap, _∙_}
@@ -10,7 +10,6 @@ use mathlib.Core.List.{List, [], _∷_, _++_}
 use lib.Dec.{ltb}
 use Rattle.layout.proofs.Tests.{tests, false-true}
 use Rattle.store.specs.Answer.{numberOf, Refusal, lowest, after}
-use Rattle.store.specs.Refusals.{formatRefusals, formatAnswer, viewRefusals, viewAnswer, settledViewRefusals, settledViewAnswer, fieldRefusals, fieldAnswer, settledFieldRefusals, settledFieldAnswer, createRefusals, createAnswer, updateRefusals, updateAnswer, deleteRefusals, deleteAnswer, settleRefusals, settleAnswer, revertRefusals, revertAnswer}
 use Rattle.store.specs.declared.answer.Answer.{Answer}
 use Rattle.store.specs.declared.answer.Answer.the-variants.{Done}
 use Rattle.store.proofs.Gates.{done-number, after-done, after-refused}
@@ -90,48 +89,3 @@ append-above n (r ∷ rs) ss e = by (r .applies) (append-above (numberOf (r .ans
 -- of two tables, one after the other: the second one's where the first one's is done
 pub lowest-append : (rs ss : List Refusal) → ascends rs ≡ true → lowest (rs ++ ss) ≡ after (lowest rs) (lowest ss) (lowest rs)
 lowest-append rs ss e = append-above 0 rs ss e
-
--- ---- the tables
-
-module _ (mst xrf : List ℕ) where
-  pub format-lowest : IsLowest (formatRefusals mst xrf) (formatAnswer mst xrf)
-  unfolding formatAnswer above numberOf
-  format-lowest = lowest-is-lowest (formatRefusals mst xrf) refl
-
-  module _ (tags lens bytes : List ℕ) where
-    pub create-lowest : IsLowest (createRefusals mst xrf tags lens bytes) (createAnswer mst xrf tags lens bytes)
-    unfolding createAnswer above numberOf
-    create-lowest = lowest-is-lowest (createRefusals mst xrf tags lens bytes) refl
-
-    pub update-lowest : (m : ℕ) → IsLowest (updateRefusals mst xrf m tags lens bytes) (updateAnswer mst xrf m tags lens bytes)
-    unfolding updateAnswer above numberOf
-    update-lowest m = lowest-is-lowest (updateRefusals mst xrf m tags lens bytes) refl
-
-  module _ (m : ℕ) where
-    pub view-lowest : (tag occ : ℕ) → IsLowest (viewRefusals mst xrf m tag occ) (viewAnswer mst xrf m tag occ)
-    unfolding viewAnswer above numberOf
-    view-lowest tag occ = lowest-is-lowest (viewRefusals mst xrf m tag occ) refl
-
-    pub settled-view-lowest : (tag occ : ℕ) → IsLowest (settledViewRefusals mst xrf m tag occ) (settledViewAnswer mst xrf m tag occ)
-    unfolding settledViewAnswer above numberOf
-    settled-view-lowest tag occ = lowest-is-lowest (settledViewRefusals mst xrf m tag occ) refl
-
-    pub field-lowest : (i : ℕ) → IsLowest (fieldRefusals mst xrf m i) (fieldAnswer mst xrf m i)
-    unfolding fieldAnswer above numberOf
-    field-lowest i = lowest-is-lowest (fieldRefusals mst xrf m i) refl
-
-    pub settled-field-lowest : (i : ℕ) → IsLowest (settledFieldRefusals mst xrf m i) (settledFieldAnswer mst xrf m i)
-    unfolding settledFieldAnswer above numberOf
-    settled-field-lowest i = lowest-is-lowest (settledFieldRefusals mst xrf m i) refl
-
-    pub delete-lowest : IsLowest (deleteRefusals mst xrf m) (deleteAnswer mst xrf m)
-    unfolding deleteAnswer above numberOf
-    delete-lowest = lowest-is-lowest (deleteRefusals mst xrf m) refl
-
-    pub settle-lowest : IsLowest (settleRefusals mst xrf m) (settleAnswer mst xrf m)
-    unfolding settleAnswer above numberOf
-    settle-lowest = lowest-is-lowest (settleRefusals mst xrf m) refl
-
-    pub revert-lowest : IsLowest (revertRefusals mst xrf m) (revertAnswer mst xrf m)
-    unfolding revertAnswer above numberOf
-    revert-lowest = lowest-is-lowest (revertRefusals mst xrf m) refl

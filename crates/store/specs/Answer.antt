@@ -4,7 +4,7 @@ use mathlib.Core.Bool.{Bool, cond}
 use mathlib.Core.List.{List, [], _∷_}
 use lib.Dec.{eqb}
 use Rattle.store.specs.declared.answer.Answer.{Answer}
-use Rattle.store.specs.declared.answer.Answer.the-variants.{Done, BadLength, BadControl, BadDraft, NoSuchMfn, Full, BadEntry, PhysicallyDeleted, BadRecord, Deleted, NotPending, NeverSettled, NoField, NoRoom, Unsound}
+use Rattle.store.specs.declared.answer.Answer.the-variants.{Done, BadLength, BadControl, BadDraft, NoMfn, NoSlot, BadEntry, Gone, BadRecord, Deleted, NotPending, NeverSettled, NoField, NoRoom, NotSound, ListTooShort}
 
 -- the number of each answer
 unfoldable pub numberOf : Answer → ℕ
@@ -12,17 +12,18 @@ numberOf Done = 0
 numberOf BadLength = 1
 numberOf BadControl = 2
 numberOf BadDraft = 3
-numberOf NoSuchMfn = 4
-numberOf Full = 5
+numberOf NoMfn = 4
+numberOf NoSlot = 5
 numberOf BadEntry = 6
-numberOf PhysicallyDeleted = 7
+numberOf Gone = 7
 numberOf BadRecord = 8
 numberOf Deleted = 9
 numberOf NotPending = 10
 numberOf NeverSettled = 11
 numberOf NoField = 12
 numberOf NoRoom = 13
-numberOf Unsound = 14
+numberOf NotSound = 14
+numberOf ListTooShort = 17
 
 -- an answer, and whether what it is given for is so
 pub record Refusal : Type 0 where
@@ -32,7 +33,8 @@ pub record Refusal : Type 0 where
 abbrev pub refuse : Answer → Bool → Refusal
 refuse a b = record { answer = a; applies = b }
 
--- the lowest that applies, of refusals whose numbers ascend; done where none applies
+-- the first that applies; done where none applies. Every table of refusals ascends (proofs/Lowest and its like in the crates above), so the
+-- first that applies is the lowest
 abbrev pub lowest : List Refusal → Answer
 lowest [] = Done
 lowest (r ∷ rs) = cond (r .applies) (r .answer) (lowest rs)

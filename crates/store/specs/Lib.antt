@@ -1,8 +1,5 @@
 pub mod Answer
+pub mod Store
 pub mod Reading
-pub mod Gate
 pub mod Refusals
-pub mod Calls
-pub mod Steps
-pub mod Views
-pub mod Writing
+pub mod Gate

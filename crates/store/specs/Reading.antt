@@ -5,7 +5,7 @@ use mathlib.Core.Bool.{Bool, true, false, not, _&&_, cond}
 use mathlib.Core.List.{List}
 use lib.Dec.{eqb, leb, ltb}
 use lib.ListN.{length}
-use Rattle.word.specs.Place.{part}
+use Rattle.word.specs.Overwrite.{part}
 use Rattle.layout.specs.Sizes.{mstPermitted, xrfPermitted, capacityOf, addressOf}
 use Rattle.layout.specs.Entry.{placed, placeAddress}
 use Rattle.layout.specs.CrossReference.{entryAt}
@@ -19,22 +19,23 @@ use Rattle.layout.specs.declared.entry.Entry.the-variants.{Gone, Malformed, At}
 use Rattle.layout.specs.declared.leader.Leader.{Leader}
 use Rattle.record.specs.Fields.{Field, fieldsOf}
 use Rattle.record.specs.Record.{recordRight, noBack, backRight}
+use Rattle.store.specs.Store.{Store}
 
 -- both buffer lengths are permitted
-unfoldable pub lengthsPermitted : List ℕ → List ℕ → Bool
-lengthsPermitted mst xrf = mstPermitted (length mst) && xrfPermitted (length xrf)
+unfoldable pub lengthsPermitted : Store → Bool
+lengthsPermitted s = mstPermitted (length (s .mst)) && xrfPermitted (length (s .xrf))
 
 -- the control record is right for the capacity of the XRF
-abbrev pub controlFine : List ℕ → List ℕ → Bool
-controlFine mst xrf = controlRight mst (capacityOf (length xrf))
+abbrev pub controlFine : Store → Bool
+controlFine s = controlRight (s .mst) (capacityOf (length (s .xrf)))
 
 -- MFN m is at least 1 and below NXTMFN
-unfoldable pub mfnKnown : List ℕ → ℕ → Bool
-mfnKnown mst m = leb 1 m && ltb m (nextOf mst)
+unfoldable pub mfnInRange : List ℕ → ℕ → Bool
+mfnInRange mst m = leb 1 m && ltb m (nextOf mst)
 
 -- the kind of entry that MFN m has
-abbrev pub entryFor : List ℕ → List ℕ → ℕ → Entry
-entryFor mst xrf m = entryAt xrf (endOf mst) m
+abbrev pub entryFor : Store → ℕ → Entry
+entryFor s m = entryAt (s .xrf) (endOf (s .mst)) m
 
 -- the place of an entry that has one
 abbrev pub placeIn : Entry → Place
@@ -42,8 +43,8 @@ placeIn Gone = placed 0 0 false Settled
 placeIn Malformed = placed 0 0 false Settled
 placeIn (At p) = p
 
-abbrev pub placeFor : List ℕ → List ℕ → ℕ → Place
-placeFor mst xrf m = placeIn (entryFor mst xrf m)
+abbrev pub placeFor : Store → ℕ → Place
+placeFor s m = placeIn (entryFor s m)
 
 abbrev pub isMalformed : Entry → Bool
 isMalformed Gone = false

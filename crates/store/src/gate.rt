@@ -14,8 +14,8 @@ ghost use lib.ListN.{length};
 ghost use Rattle.layout.specs.Control.{endOf};
 ghost use Rattle.layout.specs.Entry.{wellPlaced};
 ghost use Rattle.store.specs.Reading.{lengthsPermitted, backFine};
-ghost use Rattle.store.specs.Steps.{gateOf, knownOf, knownBoth};
-ghost use Rattle.store.specs.Gate.{entryAnswer, placeKnown, settledFrom};
+ghost use Rattle.store.specs.Gate.{gateOf, gateAnswer, knownOf, knownBoth, knownAnswer, reachedOf, reachedBoth, reachedAnswer, entryAnswer, placeKnown, settledFrom};
+ghost use Rattle.store.specs.Store.{store};
 
 // NXTMFN and the end of a store whose lengths and control record are right, or the refusal.
 pub enum Gate {
@@ -29,9 +29,56 @@ pub enum Known {
     Refused(Answer),
 }
 
+// The end, and the place and the leader of a record that is right, behind an open gate; or the refusal.
+pub enum Reached {
+    There {
+        end: usize,
+        place: Place,
+        leader: Leader,
+    },
+    Refused(Answer),
+}
+
+// The refusal of a gate that is shut.
+pub fn gate_answer(g: Gate) -> Answer
+    ensures { λ r. ⌜ r ≡ gateAnswer g ⌝ }
+{
+    match g {
+        Gate::Open { next: _, end: _ } => Answer::Done,
+        Gate::Shut(a) => a,
+    }
+}
+
+// The refusal of a record that is not there.
+pub fn known_answer(k: Known) -> Answer
+    ensures { λ r. ⌜ r ≡ knownAnswer k ⌝ }
+{
+    match k {
+        Known::Record {
+            place: _,
+            leader: _,
+        } => Answer::Done,
+        Known::Refused(a) => a,
+    }
+}
+
+// The refusal of a record that was not reached.
+pub fn reached_answer(r: Reached) -> Answer
+    ensures { λ a. ⌜ a ≡ reachedAnswer r ⌝ }
+{
+    match r {
+        Reached::There {
+            end: _,
+            place: _,
+            leader: _,
+        } => Answer::Done,
+        Reached::Refused(a) => a,
+    }
+}
+
 // Whether both lengths are permitted.
 pub fn lengths_permitted(mst: &[u8], xrf: &[u8]) -> bool
-    ensures { λ r. ⌜ r ≡ lengthsPermitted (now (mst .entry)) (now (xrf .entry)) ⌝ }
+    ensures { λ r. ⌜ r ≡ lengthsPermitted (store (now (mst .entry)) (now (xrf .entry))) ⌝ }
 {
     if !layout::sizes::mst_permitted(mst.len()) {
         return false;
@@ -40,7 +87,7 @@ pub fn lengths_permitted(mst: &[u8], xrf: &[u8]) -> bool
 }
 
 pub fn open_gate(mst: &[u8], xrf: &[u8]) -> Gate
-    ensures { λ r. ⌜ r ≡ gateOf (now (mst .entry)) (now (xrf .entry)) ⌝ }
+    ensures { λ r. ⌜ r ≡ gateOf (store (now (mst .entry)) (now (xrf .entry))) ⌝ }
 {
     if !lengths_permitted(mst, xrf) {
         return Gate::Shut(Answer::BadLength);
@@ -57,7 +104,7 @@ fn entry_answer(e: Entry) -> Answer
     ensures { λ r. ⌜ r ≡ entryAnswer e ⌝ }
 {
     match e {
-        Entry::Gone => Answer::PhysicallyDeleted,
+        Entry::Gone => Answer::Gone,
         Entry::Malformed => Answer::BadEntry,
         Entry::At(_) => Answer::Done,
     }
@@ -100,14 +147,14 @@ fn test_place(mst: &[u8], end: usize, m: Mfn, p: Place) -> Known
 
 // The record of MFN `m`, behind an open gate.
 pub fn find_record(mst: &[u8], xrf: &[u8], next: Mfn, end: usize, m: Mfn) -> Known
-    requires { ⌜ gateOf (now mst) (now xrf) ≡ Gate.Open next end ⌝ }
-    ensures { λ r. ⌜ r ≡ knownOf (now (mst .entry)) (now (xrf .entry)) (m .0) ⌝ }
+    requires { ⌜ gateOf (store (now mst) (now xrf)) ≡ Gate.Open next end ⌝ }
+    ensures { λ r. ⌜ r ≡ knownOf (store (now (mst .entry)) (now (xrf .entry))) (m .0) ⌝ }
 {
     if m.0 < 1 {
-        return Known::Refused(Answer::NoSuchMfn);
+        return Known::Refused(Answer::NoMfn);
     }
     if next.0 <= m.0 {
-        return Known::Refused(Answer::NoSuchMfn);
+        return Known::Refused(Answer::NoMfn);
     }
     let e = layout::cross_reference::entry_at(xrf, end, m);
     let Entry::At(p) = e else {
@@ -130,8 +177,8 @@ fn settled_fine(mst: &[u8], end: usize, m: Mfn, at: usize) -> bool
 
 // The record of MFN `m` with its settled version, where it is changed.
 pub fn find_both(mst: &[u8], xrf: &[u8], next: Mfn, end: usize, m: Mfn) -> Known
-    requires { ⌜ gateOf (now mst) (now xrf) ≡ Gate.Open next end ⌝ }
-    ensures { λ r. ⌜ r ≡ knownBoth (now (mst .entry)) (now (xrf .entry)) (m .0) ⌝ }
+    requires { ⌜ gateOf (store (now mst) (now xrf)) ≡ Gate.Open next end ⌝ }
+    ensures { λ r. ⌜ r ≡ knownBoth (store (now (mst .entry)) (now (xrf .entry))) (m .0) ⌝ }
 {
     let k = find_record(mst, xrf, next, end, m);
     let Known::Record { place, leader } = k else {
@@ -148,4 +195,39 @@ pub fn find_both(mst: &[u8], xrf: &[u8], next: Mfn, end: usize, m: Mfn) -> Known
     } else {
         Known::Refused(Answer::BadRecord)
     }
+}
+
+// Opens the gate and finds the record of MFN `m`.
+pub fn reach(mst: &[u8], xrf: &[u8], m: Mfn) -> Reached
+    ensures { λ r. ⌜ r ≡ reachedOf (store (now (mst .entry)) (now (xrf .entry))) (m .0) ⌝ }
+{
+    let g = open_gate(mst, xrf);
+    let Gate::Open { next, end } = g else {
+        return Reached::Refused(gate_answer(g));
+    };
+    // lent as parts that are made here: a slice that is handed on whole goes through memory once more
+    let mst_len = mst.len();
+    let xrf_len = xrf.len();
+    let k = find_record(&mst[..mst_len], &xrf[..xrf_len], next, end, m);
+    let Known::Record { place, leader } = k else {
+        return Reached::Refused(known_answer(k));
+    };
+    Reached::There { end, place, leader }
+}
+
+// The same with its settled version, where it is changed.
+pub fn reach_both(mst: &[u8], xrf: &[u8], m: Mfn) -> Reached
+    ensures { λ r. ⌜ r ≡ reachedBoth (store (now (mst .entry)) (now (xrf .entry))) (m .0) ⌝ }
+{
+    let g = open_gate(mst, xrf);
+    let Gate::Open { next, end } = g else {
+        return Reached::Refused(gate_answer(g));
+    };
+    let mst_len = mst.len();
+    let xrf_len = xrf.len();
+    let k = find_both(&mst[..mst_len], &xrf[..xrf_len], next, end, m);
+    let Known::Record { place, leader } = k else {
+        return Reached::Refused(known_answer(k));
+    };
+    Reached::There { end, place, leader }
 }

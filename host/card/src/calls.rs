@@ -1,20 +1,14 @@
 //! The commands that make one call of the library and write the files back.
 
 use crate::arguments::Arguments;
-use crate::check::reason;
+use crate::check::{About, reason};
+use crate::fields::Given;
 use crate::files::{Files, two_files};
-use crate::trouble::{Trouble, say};
-use isis::{Answer, Card, Draft, Refusal};
-use model::layout::{BLOCK, MST_BLOCKS, XRF_BLOCKS};
-
-/// What a refused call was about, for the words beside its number.
-#[derive(Clone, Copy, Default)]
-pub struct About {
-    /// The MFN that was named.
-    pub mfn: Option<u32>,
-    /// The need of the draft.
-    pub need: Option<usize>,
-}
+use crate::layout::{BLOCK, MST_BLOCKS, XRF_BLOCKS};
+use crate::say::print;
+use crate::trouble::Trouble;
+use isis::{Answer, Card};
+use std::path::PathBuf;
 
 /// Makes a call on the card and, if it was accepted, writes the files back.
 fn call<T>(
@@ -36,90 +30,93 @@ fn call<T>(
 pub fn format(mut arguments: Arguments) -> Result<(), Trouble> {
     let paths = arguments.files()?;
     two_files(&paths)?;
-    let missing = "two numbers of blocks, or --erase, are missing; see 'card help'";
-    let first = arguments
-        .next()
-        .ok_or_else(|| Trouble::Usage(missing.into()))?;
-    if first == "--erase" {
+    if arguments.flag("--erase") {
         arguments.none_left()?;
-        call(Files::read(paths)?, About::default(), |card| card.format())?;
+        erase(paths)?;
     } else {
-        let second = arguments
-            .next()
-            .ok_or_else(|| Trouble::Usage(missing.into()))?;
-        arguments.none_left()?;
-        let mst_blocks = Arguments::blocks(&first, MST_BLOCKS)?;
-        let xrf_blocks = Arguments::blocks(&second, XRF_BLOCKS)?;
-        let mut files = Files {
-            mst_path: paths.0,
-            xrf_path: paths.1,
-            mst: vec![0; mst_blocks * BLOCK],
-            xrf: vec![0; xrf_blocks * BLOCK],
+        let mut blocks = |most| {
+            let word = arguments.wanted("two numbers of blocks, or --erase,")?;
+            arguments.blocks(&word, most)
         };
-        Card::over(&mut files.mst, &mut files.xrf)
-            .format()
-            .map_err(|refusal| Trouble::Refused(refusal, String::new()))?;
-        files.make()?;
+        let (mst_blocks, xrf_blocks) = (blocks(MST_BLOCKS)?, blocks(XRF_BLOCKS)?);
+        arguments.none_left()?;
+        make(paths, mst_blocks, xrf_blocks)?;
     }
-    say("formatted: an empty catalogue\n")
+    print("formatted: an empty catalogue\n")
 }
 
-/// The fields that are left on the command line, as a draft, with its need.
-fn draft(arguments: &mut Arguments) -> Result<(Draft, usize), Trouble> {
-    let fields = arguments.fields()?;
-    let data = fields.iter().map(|(_, bytes)| bytes.len()).sum();
-    let need = model::draft::need(fields.len(), data);
-    let draft = Draft::gather(fields).map_err(|refusal| {
-        let words = "a field has more than 65535 bytes".to_string();
-        Trouble::Refused(refusal, words)
-    })?;
-    Ok((draft, need))
+/// Empties the catalogue in two files that exist.
+fn erase(paths: (PathBuf, PathBuf)) -> Result<(), Trouble> {
+    let missing = |trouble| match (trouble, paths.0.exists() && paths.1.exists()) {
+        (Trouble::File(words), false) => Trouble::File(format!(
+            "{words}; --erase empties two files that exist, two numbers of blocks make new files"
+        )),
+        (trouble, _) => trouble,
+    };
+    let files = Files::read(paths.clone()).map_err(missing)?;
+    call(files, About::default(), |card| card.format())
+}
+
+/// Makes two files of so many blocks.
+fn make(paths: (PathBuf, PathBuf), mst_blocks: usize, xrf_blocks: usize) -> Result<(), Trouble> {
+    let mut files = Files {
+        mst_path: paths.0,
+        xrf_path: paths.1,
+        mst: vec![0; mst_blocks * BLOCK],
+        xrf: vec![0; xrf_blocks * BLOCK],
+    };
+    Card::over(&mut files.mst, &mut files.xrf)
+        .format()
+        .map_err(|refusal| Trouble::Refused(refusal, String::new()))?;
+    files.make()
 }
 
 /// `card create`.
 pub fn create(mut arguments: Arguments) -> Result<(), Trouble> {
     let paths = arguments.files()?;
-    let (draft, need) = draft(&mut arguments)?;
+    let given = Given::read(&mut arguments)?;
     let about = About {
         mfn: None,
-        need: Some(need),
+        given: Some(&given),
     };
+    let draft = given.draft();
     let mfn = call(Files::read(paths)?, about, |card| {
         card.create_from(draft.lists())
     })?;
-    say(&format!("created: MFN {mfn}, new, pending\n"))
+    print(&format!("created: MFN {mfn}, new, pending\n"))
 }
 
 /// `card update`.
 pub fn update(mut arguments: Arguments) -> Result<(), Trouble> {
     let paths = arguments.files()?;
     let mfn = arguments.mfn()?;
-    let (draft, need) = draft(&mut arguments)?;
+    let given = Given::read(&mut arguments)?;
     let about = About {
         mfn: Some(mfn),
-        need: Some(need),
+        given: Some(&given),
     };
+    let draft = given.draft();
     call(Files::read(paths)?, about, |card| {
         card.update_from(mfn, draft.lists())
     })?;
-    say(&format!("updated: MFN {mfn}, pending\n"))
+    print(&format!("updated: MFN {mfn}, pending\n"))
 }
 
 /// A command that names an MFN and nothing more.
 fn named(
     mut arguments: Arguments,
     done: &str,
-    act: fn(&mut Card, u32) -> Result<(), Refusal>,
+    act: fn(&mut Card, u32) -> Answer<()>,
 ) -> Result<(), Trouble> {
     let paths = arguments.files()?;
     let mfn = arguments.mfn()?;
     arguments.none_left()?;
     let about = About {
         mfn: Some(mfn),
-        need: None,
+        given: None,
     };
     call(Files::read(paths)?, about, |card| act(card, mfn))?;
-    say(&(done.replace('#', &mfn.to_string()) + "\n"))
+    print(&(done.replace('#', &mfn.to_string()) + "\n"))
 }
 
 /// `card delete`.

@@ -4,13 +4,14 @@
 //! settled versions; below, the entries of the XRF.
 
 use crate::arguments::Arguments;
+use crate::check::opened;
 use crate::files::Files;
-use crate::show::gate;
+use crate::layout::{BLOCK, Entry, FIRST, LEADER, Place, Store, block_and_offset};
+use crate::picture;
+use crate::say::print;
 use crate::survey::{self, Part, Span};
-use crate::trouble::{Trouble, say};
-use model::bytes::i32_at;
-use model::layout::{BLOCK, Control, Entry, FIRST, LEADER, Mark, Place, slot_at};
-use model::record::Leader;
+use crate::trouble::Trouble;
+use isis::Mark;
 
 /// At most so many blocks, and so many entries, are drawn.
 const MOST_BLOCKS: usize = 24;
@@ -40,25 +41,29 @@ rect { stroke: #444; stroke-width: 0.7 }
 <defs><marker id=\"tip\" markerWidth=\"8\" markerHeight=\"8\" refX=\"7\" refY=\"4\" orient=\"auto\">\
 <path d=\"M0,0 L8,4 L0,8 z\" fill=\"#a35a00\"/></marker></defs>\n";
 
+/// How the title of every picture begins.
+pub const TITLE: &str = "The master file (MST): end at block ";
+
 /// `card draw`.
 pub fn draw(mut arguments: Arguments) -> Result<(), Trouble> {
     let paths = arguments.files()?;
-    let to = arguments.next();
+    let before = arguments.flag("--replace");
+    let to = arguments.unless_flag()?;
+    let replace = before || arguments.flag("--replace");
     arguments.none_left()?;
-    let mut files = Files::read(paths)?;
-    let control = gate(&mut files)?;
-    let svg = picture(&files, control);
+    let files = Files::read(paths)?;
+    let svg = picture(&opened(&files)?);
     match to {
-        Some(path) => files.write_other(path.as_ref(), svg.as_bytes()),
-        None => say(&svg),
+        Some(path) if path != "-" => picture::put(&files, path.as_ref(), replace, &svg),
+        _ => print(&svg),
     }
 }
 
 /// The whole picture.
-fn picture(files: &Files, control: Control) -> String {
-    let blocks = files.mst.len() / BLOCK;
-    let shown = blocks.min(control.end.div_ceil(BLOCK)).min(MOST_BLOCKS);
-    let spans = survey::spans(&files.mst, &files.xrf, control);
+fn picture(store: &Store) -> String {
+    let (blocks, used) = (store.mst.len() / BLOCK, store.end.div_ceil(BLOCK));
+    let shown = used.min(MOST_BLOCKS);
+    let spans = survey::spans(store);
     let mut body = String::new();
     for row in 0..shown {
         let y = TOP + row * ROW;
@@ -66,39 +71,36 @@ fn picture(files: &Files, control: Control) -> String {
     }
     bytes(&mut body, shown, 0..FIRST, "control", "control record");
     for span in &spans {
-        record(&mut body, shown, &files.mst, span);
+        record(&mut body, shown, store, span);
     }
-    bytes(&mut body, shown, control.end..shown * BLOCK, "free", "free");
+    bytes(&mut body, shown, store.end..shown * BLOCK, "free", "free");
     for span in &spans {
-        arrow(&mut body, shown, &files.mst, span);
+        arrow(&mut body, shown, store, span);
     }
     let y = TOP + shown * ROW + 8;
     if shown < blocks {
-        let words = if control.end.div_ceil(BLOCK) > shown {
-            format!("blocks {} to {blocks} are not drawn", shown + 1)
+        let what = if used > shown {
+            " are not drawn"
         } else {
-            format!("blocks {} to {blocks}: free", shown + 1)
+            ": free"
         };
+        let words = format!("blocks {} to {blocks}{what}", shown + 1);
         text(&mut body, LEFT, y, "", &words);
     }
-    let height = entries(&mut body, files, control, y + 36);
+    let height = entries(&mut body, store, y + 36);
     let mut svg = format!(
         "<svg xmlns=\"http://www.w3.org/2000/svg\" viewBox=\"0 0 {WIDTH} {height}\" \
          width=\"{WIDTH}\" height=\"{height}\">\n{STYLE}\
          <rect width=\"{WIDTH}\" height=\"{height}\" fill=\"#fff\" stroke=\"none\"/>\n"
     );
-    heading(&mut svg, control);
+    heading(&mut svg, store);
     svg + &body + "</svg>\n"
 }
 
 /// The title and the key to the colours.
-fn heading(svg: &mut String, control: Control) {
-    let title = format!(
-        "The master file (MST): end at block {}, offset {}; next MFN {}",
-        control.end / BLOCK + 1,
-        control.end % BLOCK,
-        control.next_mfn
-    );
+fn heading(svg: &mut String, store: &Store) {
+    let (block, offset) = block_and_offset(store.end);
+    let title = format!("{TITLE}{block}, offset {offset}; next MFN {}", store.next);
     text(svg, 10, 28, "title", &title);
     let key = [
         ("settled", "settled"),
@@ -125,22 +127,24 @@ fn heading(svg: &mut String, control: Control) {
 }
 
 /// The entries of the XRF as a table; gives the picture's height.
-fn entries(svg: &mut String, files: &Files, control: Control, top: usize) -> usize {
+fn entries(svg: &mut String, store: &Store, top: usize) -> usize {
     text(svg, 10, top, "title", "The cross-reference file (XRF)");
     let mut y = top + 24;
-    for mfn in (1..control.next_mfn).take(MOST_ENTRIES) {
-        let value = i32_at(&files.xrf, slot_at(mfn));
-        let words = match Entry::decode(value, control.end) {
-            Ok(Entry::Place(place)) => place_words(place),
-            Ok(Entry::Gone) => "gone (physically deleted)".into(),
-            Err(fault) => fault.to_string(),
+    for mfn in (1..store.next).take(MOST_ENTRIES) {
+        let words = match store.entry(mfn) {
+            Entry::At(place) => place_words(place),
+            Entry::Gone => "gone (physically deleted)".into(),
+            Entry::Unused => "never used, but below the next MFN".into(),
+            Entry::PastEnd => "past the end".into(),
+            Entry::Wrong(words) => words,
         };
         text(svg, LEFT, y, "", &format!("MFN {mfn}"));
+        let value = store.slot(mfn);
         text(svg, LEFT + 90, y, "", &format!("entry {value}"));
         text(svg, LEFT + 220, y, "", &words);
         y += 20;
     }
-    let more = (control.next_mfn - 1).saturating_sub(MOST_ENTRIES);
+    let more = (store.next - 1).saturating_sub(MOST_ENTRIES);
     if more > 0 {
         text(svg, LEFT, y, "small", &format!("and {more} more"));
         y += 20;
@@ -150,13 +154,9 @@ fn entries(svg: &mut String, files: &Files, control: Control, top: usize) -> usi
 
 /// A place in words.
 fn place_words(place: Place) -> String {
-    let mark = match place.mark {
-        Mark::Settled => "settled",
-        Mark::Changed => "changed, pending",
-        Mark::New => "new, pending",
-    };
+    let (block, offset) = block_and_offset(place.at);
     let deleted = if place.deleted { "deleted, " } else { "" };
-    let (block, offset) = (place.block, place.offset);
+    let mark = place.mark.words();
     format!("block {block}, offset {offset}, {deleted}{mark}")
 }
 
@@ -176,7 +176,7 @@ fn class(part: Part) -> &'static str {
 }
 
 /// A record: its bytes, and over them the shades of leader and directory.
-fn record(svg: &mut String, rows: usize, mst: &[u8], span: &Span) {
+fn record(svg: &mut String, rows: usize, store: &Store, span: &Span) {
     let Span { at, len, mfn, part } = *span;
     let label = match part {
         Part::Lost => "lost".to_string(),
@@ -185,14 +185,14 @@ fn record(svg: &mut String, rows: usize, mst: &[u8], span: &Span) {
     };
     bytes(svg, rows, at..at + len, class(part), &label);
     if matches!(part, Part::Current(_) | Part::Kept) {
-        let base = usize::from(Leader::read(mst, at).base).clamp(LEADER, len);
+        let base = store.record(at).base().clamp(LEADER, len);
         bytes(svg, rows, at..at + LEADER, "leader", "");
         bytes(svg, rows, at + LEADER..at + base, "directory", "");
     }
 }
 
 /// An arrow from a changed record back to its settled version.
-fn arrow(svg: &mut String, rows: usize, mst: &[u8], span: &Span) {
+fn arrow(svg: &mut String, rows: usize, store: &Store, span: &Span) {
     let Part::Current(Place {
         mark: Mark::Changed,
         ..
@@ -200,9 +200,7 @@ fn arrow(svg: &mut String, rows: usize, mst: &[u8], span: &Span) {
     else {
         return;
     };
-    let leader = Leader::read(mst, span.at);
-    let back = model::layout::address(leader.back_block.into(), leader.back_offset.into());
-    let Ok(back) = usize::try_from(back) else {
+    let Some(back) = store.record(span.at).back_at(store.end) else {
         return;
     };
     if span.at.max(back) >= rows * BLOCK {

@@ -2,18 +2,20 @@
 //! files beside and both are replaced as one, so that no reader meets a half-written
 //! card, even if the power was cut.
 
+use crate::check::is_permitted;
 use crate::disk;
-use crate::intent::new_name;
+use crate::layout::{BLOCK, MST_BLOCKS, Store, XRF_BLOCKS};
 use crate::progress::with_progress;
 use crate::recover::{is_pending, recover};
 use crate::replace::{Change, Replacement};
 use crate::trouble::Trouble;
+use isis::{Answer, CardRef, Refusal};
 use std::fs::{self, File};
 use std::io::{self, Read};
 use std::path::{Path, PathBuf};
 
 /// Longer files are refused unread: no MST of more bytes is permitted.
-const LONGEST: u64 = 1_048_575 * 512;
+const LONGEST: u64 = (MST_BLOCKS * BLOCK) as u64;
 
 /// A card in memory, with the files that it came from.
 pub struct Files {
@@ -31,6 +33,9 @@ pub struct Files {
 fn read(path: &Path) -> Result<(File, Vec<u8>), Trouble> {
     let cannot = |why: io::Error| disk::trouble(path, "cannot be read", &why);
     let meta = fs::metadata(path).map_err(cannot)?;
+    if meta.is_dir() {
+        return Err(cannot(io::ErrorKind::IsADirectory.into()));
+    }
     if !meta.is_file() {
         let path = path.display();
         return Err(Trouble::File(format!("{path}: this is not a plain file")));
@@ -38,7 +43,7 @@ fn read(path: &Path) -> Result<(File, Vec<u8>), Trouble> {
     if meta.len() > LONGEST {
         let (path, len) = (path.display(), meta.len());
         let words = format!("{path} has {len} bytes, more than the longest MST");
-        return Err(Trouble::Refused(isis::Refusal::BadLength, words));
+        return Err(Trouble::Refused(Refusal::BadLength, words));
     }
     let mut file = File::open(path).map_err(cannot)?;
     let mut bytes = Vec::new();
@@ -54,15 +59,9 @@ fn real(path: &Path) -> Result<PathBuf, Trouble> {
     disk::real(path).map_err(|why| disk::trouble(path, "cannot be written", &why))
 }
 
-/// Whether two names lead to one file.
-fn same_file(one: &Path, other: &Path) -> bool {
-    let real = |path: &Path| disk::real(path).unwrap_or_else(|_| path.to_path_buf());
-    real(one) == real(other)
-}
-
 /// Refuses one file in both places.
 pub fn two_files(paths: &(PathBuf, PathBuf)) -> Result<(), Trouble> {
-    if same_file(&paths.0, &paths.1) {
+    if disk::same_file(&paths.0, &paths.1) {
         let words = "the MST and the XRF must be two files, but one is named twice";
         return Err(Trouble::Usage(words.into()));
     }
@@ -97,32 +96,36 @@ impl Files {
     /// Makes two files that must not be there yet.
     pub fn make(&self) -> Result<(), Trouble> {
         recover(&self.mst_path, &self.xrf_path)?;
-        for path in [&self.mst_path, &self.xrf_path] {
-            if fs::symlink_metadata(path).is_ok() {
-                let path = path.display();
-                return Err(Trouble::File(format!(
-                    "{path}: the file exists already; 'card format MST XRF --erase' empties it"
-                )));
-            }
+        let is_there = |path: &&PathBuf| fs::symlink_metadata(path).is_ok();
+        match [&self.mst_path, &self.xrf_path].into_iter().find(is_there) {
+            Some(path) => Err(self.exists(path)),
+            None => self.replace(None, None),
         }
-        self.replace(None, None)
     }
 
-    /// Writes some other file whole, which must not be one of the card's.
-    pub fn write_other(&self, path: &Path, bytes: &[u8]) -> Result<(), Trouble> {
-        if same_file(path, &self.mst_path) || same_file(path, &self.xrf_path) {
-            let path = path.display();
-            return Err(Trouble::Usage(format!(
-                "{path} is a file of the card itself"
-            )));
-        }
-        let new = new_name(path, std::process::id());
-        disk::write_new(&new, path, bytes)?;
-        disk::rename(&new, path).inspect_err(|_| {
-            let _ = fs::remove_file(&new);
-        })?;
-        disk::keep_names(path);
-        Ok(())
+    /// That a file is there already, and what to do.
+    fn exists(&self, path: &Path) -> Trouble {
+        let is_of = |path: &Path, most: usize| {
+            let len = fs::metadata(path).ok().filter(|meta| meta.is_file());
+            len.is_some_and(|meta| is_permitted(meta.len() as usize, most))
+        };
+        let both = is_of(&self.mst_path, MST_BLOCKS) && is_of(&self.xrf_path, XRF_BLOCKS);
+        let advice = match both {
+            true => "'card format MST XRF --erase' empties the catalogue in both",
+            false => "format makes two new files: choose other names",
+        };
+        let path = path.display();
+        Trouble::File(format!("{path}: the file exists already; {advice}"))
+    }
+
+    /// The card, to read.
+    pub fn card(&self) -> CardRef<'_> {
+        CardRef::over(&self.mst, &self.xrf)
+    }
+
+    /// What stands where on the card, if its lengths and its control record are right.
+    pub fn store(&self) -> Answer<Store<'_>> {
+        Store::open(self.card())
     }
 
     /// Writes back the files whose bytes are not as they were read.

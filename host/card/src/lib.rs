@@ -1,52 +1,56 @@
 //! `card`: the command for a CDS/ISIS card kept in two files.
 //!
 //! Every change is made by the proved library, and every answer number is its own.
-//! The words beside a number come from a second reading of the bytes, by `model`.
+//! The words beside a number come from a second reading of the bytes, in `faults`.
 
 mod arguments;
 mod calls;
 mod check;
 mod disk;
 mod draw;
+mod faults;
+mod fields;
 mod files;
+mod help;
 mod intent;
+mod keep;
+mod layout;
 mod mark;
+mod picture;
+mod printable;
 mod progress;
+mod record;
 mod recover;
 pub mod replace;
+mod say;
 mod show;
 mod stat;
+mod steps;
 mod survey;
+#[cfg(test)]
+mod trials;
 pub mod trouble;
 
 pub use arguments::Arguments;
-use arguments::USAGE;
+pub use say::tell;
 use trouble::Trouble;
 
 /// Does what a command line says.
 pub fn run(mut arguments: Arguments) -> Result<(), Trouble> {
-    let Some(command) = arguments.next() else {
-        eprint!("{USAGE}");
-        return Err(Trouble::Usage("a command is missing".into()));
+    let Some(name) = arguments.word() else {
+        return Err(Trouble::Usage(
+            "a command is missing; see 'card help'".into(),
+        ));
     };
-    match command.to_str() {
-        Some("format") => calls::format(arguments),
-        Some("show") => show::show(arguments),
-        Some("create") => calls::create(arguments),
-        Some("update") => calls::update(arguments),
-        Some("delete") => calls::delete(arguments),
-        Some("settle") => calls::settle(arguments),
-        Some("revert") => calls::revert(arguments),
-        Some("check") => check::check(arguments),
-        Some("stat") => stat::stat(arguments),
-        Some("draw") => draw::draw(arguments),
-        Some("help" | "--help" | "-h") => trouble::say(USAGE),
+    match name.to_str() {
+        Some("help" | "--help" | "-h") => help::help(arguments),
+        Some("--version" | "-V") => help::version(arguments),
         _ => {
-            let command = command.to_string_lossy();
-            Err(Trouble::Usage(format!(
-                "'{}' is no command; see 'card help'",
-                command.escape_debug()
-            )))
+            let verb = help::verb(&name)?;
+            if arguments.ask_help() {
+                return say::print(&verb.help());
+            }
+            (verb.run)(arguments.of(verb.name))
         }
     }
 }

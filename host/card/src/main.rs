@@ -7,7 +7,7 @@ fn main() -> ExitCode {
     match card::run(Arguments::new(std::env::args_os().skip(1))) {
         Ok(()) => ExitCode::SUCCESS,
         Err(trouble) => {
-            eprintln!("card: {trouble}");
+            card::tell(&trouble);
             trouble.status()
         }
     }

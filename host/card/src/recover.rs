@@ -5,6 +5,7 @@
 use crate::disk;
 use crate::intent::{Intent, Part, intent_name};
 use crate::progress::with_progress;
+use crate::say::tell;
 use crate::trouble::Trouble;
 use std::fs::{self, File};
 use std::io::{self, Read};
@@ -136,12 +137,12 @@ pub fn recover(mst: &Path, xrf: &Path) -> Result<(), Trouble> {
     };
     let (mst, intent) = (mst.display(), name.display());
     match done {
-        Ok(Course::Finish) => eprintln!(
-            "card: {mst}: a write that was cut short has been finished; the card is as that write was to leave it"
-        ),
-        Ok(Course::Undo) => eprintln!(
-            "card: {mst}: a write that was cut short has been undone; the card is as it was before it"
-        ),
+        Ok(Course::Finish) => tell(format_args!(
+            "{mst}: a write that was cut short has been finished; the card is as that write was to leave it"
+        )),
+        Ok(Course::Undo) => tell(format_args!(
+            "{mst}: a write that was cut short has been undone; the card is as it was before it"
+        )),
         Ok(Course::Neither) => {
             return Err(Trouble::File(format!(
                 "{mst}: a write was cut short and one of its new files is missing or damaged, so it can be \

@@ -5,6 +5,7 @@
 
 use crate::disk;
 use crate::intent::{Intent, Part};
+use crate::progress::with_progress;
 use crate::trouble::Trouble;
 use std::fs::{self, File};
 use std::io::{self, Write};
@@ -50,10 +51,12 @@ pub const STEPS: [Step; 10] = [
 impl<'a> Replacement<'a> {
     /// A replacement of the MST and the XRF; nothing is done yet.
     pub fn new(mst: Change<'a>, xrf: Change<'a>) -> Replacement<'a> {
+        let bytes = [mst.after, xrf.after];
         let part = |change: Change| Part::new(change.path, change.before, change.after);
+        let parts = || Intent::new(part(mst), part(xrf));
         Replacement {
-            bytes: [mst.after, xrf.after],
-            intent: Intent::new(part(mst), part(xrf)),
+            bytes,
+            intent: with_progress("taking checksums", parts),
             lock: None,
             declared: false,
         }
@@ -99,9 +102,9 @@ impl<'a> Replacement<'a> {
         }
         let path = self.intent.path();
         let busy = "another card command writes this card; try again";
-        let file = File::create_new(&path).map_err(|why| match why.kind() {
+        let file = disk::make(&path, 0o666).map_err(|why| match why.kind() {
             io::ErrorKind::AlreadyExists => self.trouble(busy),
-            _ => disk::trouble(&path, "cannot be written", &why),
+            _ => disk::not_made(&self.intent.parts[0].path, &why),
         })?;
         // Another process may have met it before the lock and taken it for a cut write.
         if let Err(fs::TryLockError::WouldBlock) = file.try_lock() {
@@ -117,10 +120,9 @@ impl<'a> Replacement<'a> {
     /// Holds both files to be as they were read.
     fn compare(&mut self) -> Result<(), Trouble> {
         for part in &self.intent.parts {
-            let same = part
-                .is_before()
-                .map_err(|why| disk::trouble(&part.path, "cannot be read", &why))?;
-            if !same {
+            let what = format!("comparing {}", part.path.display());
+            let same = with_progress(&what, || part.is_before());
+            if !same.map_err(|why| disk::trouble(&part.path, "cannot be read", &why))? {
                 let what = "the card was changed by another program meanwhile; try again";
                 return Err(self.trouble(what));
             }
@@ -160,7 +162,7 @@ impl<'a> Replacement<'a> {
     }
 
     fn keep_names(&mut self) -> Result<(), Trouble> {
-        self.intent.keep_names();
+        with_progress("waiting for the disk", || self.intent.keep_names());
         Ok(())
     }
 }

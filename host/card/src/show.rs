@@ -3,38 +3,42 @@
 //! library.
 
 use crate::arguments::Arguments;
-use crate::calls::About;
-use crate::check::reason;
+use crate::check::{About, opened, reason};
 use crate::files::Files;
-use crate::survey;
-use crate::trouble::{Trouble, printed};
-use isis::{Answer, Card, Fields, Refusal};
-use model::layout::{Control, Entry, Mark, Place};
-use std::io::{self, BufWriter, Write};
+use crate::printable::printable;
+use crate::say::{Lines, tell};
+use crate::trouble::Trouble;
+use isis::{Answer, Fields, Mark, Refusal, State};
 
 /// `card show`.
 pub fn show(mut arguments: Arguments) -> Result<(), Trouble> {
     let paths = arguments.files()?;
     let only = arguments.mfn_if_any()?;
     arguments.none_left()?;
-    let mut files = Files::read(paths)?;
-    let mut out = BufWriter::new(io::stdout().lock());
+    let files = Files::read(paths)?;
+    let mut out = Lines::new();
     let shown = match only {
-        Some(mfn) => show_one(&mut files, mfn, &mut out),
-        None => show_all(&mut files, &mut out),
+        Some(mfn) => show_one(&files, mfn, &mut out),
+        None => show_all(&files, &mut out),
     };
-    printed(out.flush())?;
-    shown
+    match (shown, out.end()) {
+        (Ok(()), printed) => printed,
+        (Err(trouble), printed) => {
+            printed.unwrap_or_else(tell);
+            Err(trouble)
+        }
+    }
 }
 
 /// One record. Its state is printed even if it is deleted or gone, and the exit
 /// status is that of the current view.
-fn show_one(files: &mut Files, mfn: u32, out: &mut dyn Write) -> Result<(), Trouble> {
-    let answer = state(files, mfn).and_then(|place| record(files, mfn, place, out));
+fn show_one(files: &Files, mfn: u32, out: &mut Lines) -> Result<(), Trouble> {
+    let state = files.card().state(mfn);
+    let answer = state.and_then(|state| record(files, mfn, state, out));
     answer.map_err(|refusal| {
         let about = About {
             mfn: Some(mfn),
-            need: None,
+            given: None,
         };
         Trouble::Refused(refusal, reason(refusal, files, about))
     })
@@ -42,121 +46,53 @@ fn show_one(files: &mut Files, mfn: u32, out: &mut dyn Write) -> Result<(), Trou
 
 /// Every record. Deleted and gone ones are part of the list; the first record that is
 /// not as it must be gives the exit status.
-fn show_all(files: &mut Files, out: &mut dyn Write) -> Result<(), Trouble> {
-    let control = gate(files)?;
+fn show_all(files: &Files, out: &mut Lines) -> Result<(), Trouble> {
+    let store = opened(files)?;
     let mut first = Ok(());
-    for mfn in 1..control.next_mfn as u32 {
+    for mfn in 1..store.next as u32 {
         match show_one(files, mfn, out) {
             Err(Trouble::Refused(Refusal::Deleted, _)) | Ok(()) => {}
             Err(Trouble::Refused(Refusal::Gone, _)) => {
-                let _ = writeln!(out, "MFN {mfn}: gone (physically deleted)");
+                out.add(format_args!("MFN {mfn}: gone (physically deleted)\n"));
             }
             Err(trouble) => {
-                let _ = writeln!(out, "MFN {mfn}: {trouble}");
+                out.add(format_args!("MFN {mfn}: {trouble}\n"));
                 first = first.and(Err(trouble));
             }
+        }
+        if out.are_lost() {
+            break;
         }
     }
     first
 }
 
-/// The control record, if the library lets the card through its answers 1 and 2.
-pub fn gate(files: &mut Files) -> Result<Control, Trouble> {
-    // MFN 0 is never there: answer 4 says that neither 1 nor 2 applies.
-    let answer = Card::over(&mut files.mst, &mut files.xrf)
-        .view(0, 1, 1)
-        .map(|_| ());
-    match answer {
-        Err(Refusal::NoMfn) => Control::read(&files.mst, files.xrf.len())
-            .map_err(|fault| Trouble::Refused(Refusal::BadControl, fault.to_string())),
-        Err(refusal) => {
-            let words = reason(refusal, files, About::default());
-            Err(Trouble::Refused(refusal, words))
-        }
-        Ok(()) => unreachable!("MFN 0 was shown"),
-    }
-}
-
-/// The place of a record that the library finds well formed.
-fn state(files: &mut Files, mfn: u32) -> Answer<Place> {
-    let card = Card::over(&mut files.mst, &mut files.xrf);
-    match card.view(mfn, 1, 0) {
-        Err(Refusal::NoField | Refusal::Deleted) | Ok(_) => {}
-        Err(refusal) => return Err(refusal),
-    }
-    let control = Control::read(card.mst(), card.xrf().len()).map_err(|_| Refusal::BadControl)?;
-    match survey::entry(card.xrf(), control, mfn as usize) {
-        Some(Entry::Place(place)) => Ok(place),
-        _ => Err(Refusal::BadEntry),
-    }
-}
-
 /// Prints a record that was found well formed.
-fn record(files: &mut Files, mfn: u32, place: Place, out: &mut dyn Write) -> Answer<()> {
-    let _ = writeln!(out, "MFN {mfn}: {}", words(place));
-    let card = Card::over(&mut files.mst, &mut files.xrf);
-    let current = if place.deleted {
+fn record(files: &Files, mfn: u32, state: State, out: &mut Lines) -> Answer<()> {
+    out.add(format_args!("MFN {mfn}: {}\n", words(state)));
+    let card = files.card();
+    let current = if state.deleted {
         Err(Refusal::Deleted)
     } else {
         card.fields(mfn).map(|fields| print(fields, "  ", out))
     };
-    if place.mark == Mark::Changed {
-        let _ = writeln!(out, "  settled version:");
+    if state.mark == Mark::Changed {
+        out.add("  settled version:\n");
         print(card.fields_settled(mfn)?, "    ", out);
     }
     current
 }
 
 /// A record's state in words.
-fn words(place: Place) -> String {
-    let deleted = if place.deleted { "deleted" } else { "live" };
-    let mark = match place.mark {
-        Mark::Settled => "settled",
-        Mark::Changed => "changed, pending",
-        Mark::New => "new, pending",
-    };
-    format!("{deleted}, {mark}")
+fn words(state: State) -> String {
+    let deleted = if state.deleted { "deleted" } else { "live" };
+    format!("{deleted}, {}", state.mark.words())
 }
 
 /// Prints the fields of a version, a line each.
-fn print(fields: Fields, indent: &str, out: &mut dyn Write) {
+fn print(fields: Fields, indent: &str, out: &mut Lines) {
     for field in fields {
         let (tag, text) = (field.tag, printable(field.bytes));
-        let _ = writeln!(out, "{indent}{tag:>5}  {text}");
-    }
-}
-
-/// A field as text: what is no printable text is shown as \xNN.
-fn printable(field: &[u8]) -> String {
-    let mut text = String::new();
-    for part in field.utf8_chunks() {
-        for character in part.valid().chars() {
-            match character {
-                '\\' => text.push_str("\\\\"),
-                c if c.is_control() => {
-                    let mut bytes = [0; 4];
-                    for byte in c.encode_utf8(&mut bytes).bytes() {
-                        text.push_str(&format!("\\x{byte:02X}"));
-                    }
-                }
-                c => text.push(c),
-            }
-        }
-        for byte in part.invalid() {
-            text.push_str(&format!("\\x{byte:02X}"));
-        }
-    }
-    text
-}
-
-#[cfg(test)]
-mod tests {
-    use super::printable;
-
-    #[test]
-    fn bytes_are_shown_as_text_or_by_number() {
-        assert_eq!(printable(b"Kite"), "Kite");
-        assert_eq!(printable("Käthe".as_bytes()), "Käthe");
-        assert_eq!(printable(b"a\\b\n\x85"), "a\\\\b\\x0A\\x85");
+        out.add(format_args!("{indent}{tag:>5}  {text}\n"));
     }
 }

@@ -1,13 +1,13 @@
 //! `card stat`: the records counted by kind, and the space of the MST as a bar.
 
 use crate::arguments::Arguments;
+use crate::check::opened;
 use crate::files::Files;
+use crate::layout::{Store, slots};
 use crate::progress::with_progress;
-use crate::show::gate;
+use crate::say::print;
 use crate::survey::{self, Counts, Space};
-use crate::trouble::{Trouble, say};
-use isis::Card;
-use model::layout::{Control, capacity};
+use crate::trouble::Trouble;
 
 /// Characters in the bar.
 const WIDTH: usize = 60;
@@ -16,29 +16,28 @@ const WIDTH: usize = 60;
 pub fn stat(mut arguments: Arguments) -> Result<(), Trouble> {
     let paths = arguments.files()?;
     arguments.none_left()?;
-    let mut files = Files::read(paths)?;
-    let control = gate(&mut files)?;
-    let card = Card::over(&mut files.mst, &mut files.xrf);
-    let checked = with_progress("checking", || card.check());
+    let files = Files::read(paths)?;
+    let store = opened(&files)?;
+    let checked = with_progress("checking", || files.card().check());
     let (counts, space) = with_progress("counting", || {
-        let spans = survey::spans(card.mst(), card.xrf(), control);
-        let space = survey::space(card.mst().len(), control, &spans);
-        (survey::count(card.xrf(), control), space)
+        let space = survey::space(&store, &survey::spans(&store));
+        (survey::count(&store), space)
     });
-    say(&(records(counts, control, card.xrf().len()) + &spaces(space)))?;
+    let printed = print(&(records(counts, &store) + &spaces(space)));
     checked.map_err(|refusal| {
         let words = "'card check' says what is wrong; the numbers are what could be read";
         Trouble::Refused(refusal, words.into())
-    })
+    })?;
+    printed
 }
 
 /// The records in words.
-fn records(counts: Counts, control: Control, xrf_len: usize) -> String {
+fn records(counts: Counts, store: &Store) -> String {
     let Counts { changed, new, .. } = counts;
     let mut text = format!(
         "records   {} of {} MFNs given out\n",
-        control.next_mfn - 1,
-        capacity(xrf_len)
+        store.next - 1,
+        slots(store.xrf)
     );
     text += &format!("  live    {}\n", counts.live);
     text += &format!("  deleted {}\n", counts.deleted);

@@ -2,7 +2,6 @@
 
 use isis::Refusal;
 use std::fmt;
-use std::io::{self, Write};
 use std::process::ExitCode;
 
 /// The reason that a command stops.
@@ -12,17 +11,26 @@ pub enum Trouble {
     Usage(String),
     /// A file cannot be read or written.
     File(String),
+    /// The work is done, but standard output could not be written.
+    Output(String),
     /// The library refused the call; the words say what was found.
     Refused(Refusal, String),
 }
 
+/// The exit statuses that are no answer of the library, with words.
+pub const STATUSES: [(u8, &str); 3] = [
+    (64, "the command line is wrong"),
+    (66, "a file cannot be read or written"),
+    (74, "done, but standard output could not be written"),
+];
+
 impl Trouble {
-    /// The exit status: the answer number of a refusal, 64 for a wrong command line,
-    /// 66 for a file.
+    /// The exit status: the answer number of a refusal, or one of [`STATUSES`].
     pub fn status(&self) -> ExitCode {
         ExitCode::from(match self {
             Trouble::Usage(_) => 64,
             Trouble::File(_) => 66,
+            Trouble::Output(_) => 74,
             Trouble::Refused(refusal, _) => refusal.number() as u8,
         })
     }
@@ -31,7 +39,9 @@ impl Trouble {
 impl fmt::Display for Trouble {
     fn fmt(&self, f: &mut fmt::Formatter<'_>) -> fmt::Result {
         match self {
-            Trouble::Usage(words) | Trouble::File(words) => f.write_str(words),
+            Trouble::Usage(words) | Trouble::File(words) | Trouble::Output(words) => {
+                f.write_str(words)
+            }
             Trouble::Refused(refusal, found) => {
                 write!(f, "refused, answer {}: {refusal}", refusal.number())?;
                 match found.as_str() {
@@ -41,22 +51,5 @@ impl fmt::Display for Trouble {
                 }
             }
         }
-    }
-}
-
-/// Prints on standard output. A reader that went away is no trouble.
-pub fn say(text: &str) -> Result<(), Trouble> {
-    let mut out = io::stdout().lock();
-    let written = out.write_all(text.as_bytes()).and_then(|()| out.flush());
-    printed(written)
-}
-
-/// What became of printing on standard output.
-pub fn printed(written: io::Result<()>) -> Result<(), Trouble> {
-    match written {
-        Err(why) if why.kind() != io::ErrorKind::BrokenPipe => {
-            Err(Trouble::File(format!("standard output: {why}")))
-        }
-        _ => Ok(()),
     }
 }

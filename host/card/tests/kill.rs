@@ -62,6 +62,7 @@ fn goes_on(pid: c_int) -> bool {
 
 /// Runs `card` until it is about to make its n-th system call; `None` if it came to its end
 /// before.
+#[allow(clippy::zombie_processes)] // `goes_on` waits for it
 fn stopped_at(folder: &Folder, words: &str, calls: usize) -> Option<Child> {
     let mut command = folder.command(words);
     command.stdout(Stdio::piped()).stderr(Stdio::null());

@@ -1,7 +1,5 @@
 //! The fields that a create or an update is given.
 
-use crate::refusal::{Answer, Refusal};
-
 /// Fields gathered into the three lists that the library takes. Whether they make a
 /// record (tags in range, not too long) is for the library to say.
 #[derive(Clone, Debug, Default, PartialEq, Eq)]
@@ -17,23 +15,23 @@ impl Draft {
         Draft::default()
     }
 
-    /// Gathers fields. One of more than 65,535 bytes has no length in a draft and is
-    /// refused here, as answer 3.
-    pub fn gather<F: AsRef<[u8]>>(fields: impl IntoIterator<Item = (u16, F)>) -> Answer<Draft> {
+    /// Gathers fields.
+    pub fn gather<F: AsRef<[u8]>>(fields: impl IntoIterator<Item = (u16, F)>) -> Draft {
         let mut draft = Draft::new();
         for (tag, field) in fields {
-            draft.push(tag, field.as_ref())?;
+            draft.push(tag, field.as_ref());
         }
-        Ok(draft)
+        draft
     }
 
-    /// Adds a field at the end.
-    pub fn push(&mut self, tag: u16, field: &[u8]) -> Answer<()> {
-        let len = u16::try_from(field.len()).map_err(|_| Refusal::BadDraft)?;
+    /// Adds a field at the end. Of one with more than 65,535 bytes, which has no length in
+    /// a draft, the first 65,535 are taken: no record holds those either, so the library
+    /// refuses the draft, with 3 or with what is lower.
+    pub fn push(&mut self, tag: u16, field: &[u8]) {
+        let len = u16::try_from(field.len()).unwrap_or(u16::MAX);
         self.tags.push(tag);
         self.lens.push(len);
-        self.data.extend_from_slice(field);
-        Ok(())
+        self.data.extend_from_slice(&field[..usize::from(len)]);
     }
 
     /// The three lists: tags, lengths, data.

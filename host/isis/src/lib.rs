@@ -14,27 +14,35 @@
 //! card.update(mfn, [(24, "Kites")])?;
 //! assert_eq!(card.view(mfn, 24, 1)?, b"Kites");
 //! assert_eq!(card.view_settled(mfn, 24, 1)?, b"Kite");
-//! assert_eq!(card.fields_settled(mfn)?.count(), 2);
+//! assert_eq!(card.fields_settled(mfn)?.len(), 2);
+//! assert_eq!(card.state(mfn)?.mark, isis::Mark::Changed);
 //! card.revert(mfn)?;
 //! assert_eq!(card.view(mfn, 24, 1)?, b"Kite");
 //! card.check()?;
 //! # Ok::<(), isis::Refusal>(())
 //! ```
+//!
+//! A [`CardRef`] reads a card whose bytes may not be written.
 
 mod draft;
 mod fields;
 pub mod raw;
+mod reader;
 mod refusal;
+mod state;
 
 pub use draft::{Draft, Lists};
 pub use fields::{Field, Fields};
+pub use reader::CardRef;
 pub use refusal::{Answer, Refusal};
+pub use state::{Mark, Next, State};
 use std::ops::Range;
 
 /// The file of the archive that this crate was built with, for tests and measurements.
 pub const ARCHIVE: &str = env!("ISIS_ARCHIVE");
 
-/// A card: the two buffers of one catalogue.
+/// A card: the two buffers of one catalogue, to read and to write. A [`CardRef`] only
+/// reads.
 #[derive(Debug)]
 pub struct Card<'a> {
     mst: &'a mut [u8],
@@ -47,64 +55,8 @@ fn answer(number: u32) -> Answer<()> {
         .unwrap_or_else(|| panic!("the archive answered {number}, which is no answer known here"))
 }
 
-/// A view function of the C interface.
-type View = unsafe extern "C" fn(
-    *const u8,
-    usize,
-    *const u8,
-    usize,
-    u32,
-    u16,
-    u32,
-    *mut usize,
-    *mut usize,
-) -> u32;
-
-/// A function of the C interface that shows a field by its index.
-type FieldCall = unsafe extern "C" fn(
-    *const u8,
-    usize,
-    *const u8,
-    usize,
-    u32,
-    usize,
-    *mut u16,
-    *mut usize,
-    *mut usize,
-) -> u32;
-
 /// A function of the C interface that names an MFN and may write.
 type Act = unsafe extern "C" fn(*mut u8, usize, *mut u8, usize, u32) -> u32;
-
-/// The field at an index, as the part of the MST that the library names.
-fn by_index<'c>(
-    mst: &'c [u8],
-    xrf: &[u8],
-    call: FieldCall,
-    mfn: u32,
-    index: usize,
-) -> Answer<Field<'c>> {
-    let (mut tag, mut start, mut len) = (0, 0, 0);
-    // SAFETY: the buffers are borrowed for their whole length, the outputs are three
-    // variables of this function.
-    let number = unsafe {
-        call(
-            mst.as_ptr(),
-            mst.len(),
-            xrf.as_ptr(),
-            xrf.len(),
-            mfn,
-            index,
-            &mut tag,
-            &mut start,
-            &mut len,
-        )
-    };
-    answer(number).map(|()| Field {
-        tag,
-        bytes: &mst[start..start + len],
-    })
-}
 
 impl<'a> Card<'a> {
     /// A card over two buffers with any bytes in them.
@@ -112,14 +64,9 @@ impl<'a> Card<'a> {
         Card { mst, xrf }
     }
 
-    /// The bytes of the master file.
-    pub fn mst(&self) -> &[u8] {
-        self.mst
-    }
-
-    /// The bytes of the cross-reference file.
-    pub fn xrf(&self) -> &[u8] {
-        self.xrf
+    /// The card as it is now, only to read.
+    pub fn reader(&self) -> CardRef<'_> {
+        CardRef::over(self.mst, self.xrf)
     }
 
     /// Empties the card.
@@ -131,72 +78,12 @@ impl<'a> Card<'a> {
         })
     }
 
-    /// A field of the current version; occurrences count from 1.
-    pub fn view(&self, mfn: u32, tag: u16, occurrence: u32) -> Answer<&[u8]> {
-        Ok(&self.mst[self.view_part(mfn, tag, occurrence)?])
-    }
-
-    /// A field of the settled version; occurrences count from 1.
-    pub fn view_settled(&self, mfn: u32, tag: u16, occurrence: u32) -> Answer<&[u8]> {
-        Ok(&self.mst[self.view_settled_part(mfn, tag, occurrence)?])
-    }
-
-    /// Where in the MST a field of the current version stands.
-    pub fn view_part(&self, mfn: u32, tag: u16, occurrence: u32) -> Answer<Range<usize>> {
-        self.part(raw::isis_view, mfn, tag, occurrence)
-    }
-
-    /// Where in the MST a field of the settled version stands.
-    pub fn view_settled_part(&self, mfn: u32, tag: u16, occurrence: u32) -> Answer<Range<usize>> {
-        self.part(raw::isis_view_settled, mfn, tag, occurrence)
-    }
-
-    fn part(&self, view: View, mfn: u32, tag: u16, occurrence: u32) -> Answer<Range<usize>> {
-        let (mut start, mut len) = (0, 0);
-        // SAFETY: the buffers are borrowed for their whole length, the outputs are two
-        // variables of this function.
-        let number = unsafe {
-            view(
-                self.mst.as_ptr(),
-                self.mst.len(),
-                self.xrf.as_ptr(),
-                self.xrf.len(),
-                mfn,
-                tag,
-                occurrence,
-                &mut start,
-                &mut len,
-            )
-        };
-        answer(number).map(|()| start..start + len)
-    }
-
-    /// A field of the current version by its index in the directory, from 0.
-    pub fn field(&self, mfn: u32, index: usize) -> Answer<Field<'_>> {
-        by_index(self.mst, self.xrf, raw::isis_field, mfn, index)
-    }
-
-    /// A field of the settled version by its index in the directory, from 0.
-    pub fn field_settled(&self, mfn: u32, index: usize) -> Answer<Field<'_>> {
-        by_index(self.mst, self.xrf, raw::isis_field_settled, mfn, index)
-    }
-
-    /// All fields of the current version, in directory order.
-    pub fn fields(&self, mfn: u32) -> Answer<Fields<'_>> {
-        Fields::of(self.mst, self.xrf, raw::isis_field, mfn)
-    }
-
-    /// All fields of the settled version, in directory order.
-    pub fn fields_settled(&self, mfn: u32) -> Answer<Fields<'_>> {
-        Fields::of(self.mst, self.xrf, raw::isis_field_settled, mfn)
-    }
-
     /// Writes a new record, pending, and gives its MFN.
     pub fn create<F: AsRef<[u8]>>(
         &mut self,
         fields: impl IntoIterator<Item = (u16, F)>,
     ) -> Answer<u32> {
-        self.create_from(Draft::gather(fields)?.lists())
+        self.create_from(Draft::gather(fields).lists())
     }
 
     /// [`create`](Card::create) from three lists.
@@ -229,7 +116,7 @@ impl<'a> Card<'a> {
         mfn: u32,
         fields: impl IntoIterator<Item = (u16, F)>,
     ) -> Answer<()> {
-        self.update_from(mfn, Draft::gather(fields)?.lists())
+        self.update_from(mfn, Draft::gather(fields).lists())
     }
 
     /// [`update`](Card::update) from three lists.
@@ -281,17 +168,72 @@ impl<'a> Card<'a> {
             )
         })
     }
+}
 
-    /// Checks the whole store: accepted exactly if it is sound.
+/// What a [`CardRef`] reads.
+impl Card<'_> {
+    /// [`CardRef::mst`].
+    pub fn mst(&self) -> &[u8] {
+        self.mst
+    }
+
+    /// [`CardRef::xrf`].
+    pub fn xrf(&self) -> &[u8] {
+        self.xrf
+    }
+
+    /// [`CardRef::view`].
+    pub fn view(&self, mfn: u32, tag: u16, occurrence: u32) -> Answer<&[u8]> {
+        self.reader().view(mfn, tag, occurrence)
+    }
+
+    /// [`CardRef::view_settled`].
+    pub fn view_settled(&self, mfn: u32, tag: u16, occurrence: u32) -> Answer<&[u8]> {
+        self.reader().view_settled(mfn, tag, occurrence)
+    }
+
+    /// [`CardRef::view_part`].
+    pub fn view_part(&self, mfn: u32, tag: u16, occurrence: u32) -> Answer<Range<usize>> {
+        self.reader().view_part(mfn, tag, occurrence)
+    }
+
+    /// [`CardRef::view_settled_part`].
+    pub fn view_settled_part(&self, mfn: u32, tag: u16, occurrence: u32) -> Answer<Range<usize>> {
+        self.reader().view_settled_part(mfn, tag, occurrence)
+    }
+
+    /// [`CardRef::field`].
+    pub fn field(&self, mfn: u32, index: usize) -> Answer<Field<'_>> {
+        self.reader().field(mfn, index)
+    }
+
+    /// [`CardRef::field_settled`].
+    pub fn field_settled(&self, mfn: u32, index: usize) -> Answer<Field<'_>> {
+        self.reader().field_settled(mfn, index)
+    }
+
+    /// [`CardRef::fields`].
+    pub fn fields(&self, mfn: u32) -> Answer<Fields<'_>> {
+        self.reader().fields(mfn)
+    }
+
+    /// [`CardRef::fields_settled`].
+    pub fn fields_settled(&self, mfn: u32) -> Answer<Fields<'_>> {
+        self.reader().fields_settled(mfn)
+    }
+
+    /// [`CardRef::next`].
+    pub fn next(&self) -> Answer<Next> {
+        self.reader().next()
+    }
+
+    /// [`CardRef::state`].
+    pub fn state(&self, mfn: u32) -> Answer<State> {
+        self.reader().state(mfn)
+    }
+
+    /// [`CardRef::check`].
     pub fn check(&self) -> Answer<()> {
-        // SAFETY: both buffers are borrowed for their whole length.
-        answer(unsafe {
-            raw::isis_check(
-                self.mst.as_ptr(),
-                self.mst.len(),
-                self.xrf.as_ptr(),
-                self.xrf.len(),
-            )
-        })
+        self.reader().check()
     }
 }

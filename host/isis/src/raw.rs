@@ -57,6 +57,59 @@ unsafe extern "C" {
         len: *mut usize,
     ) -> u32;
 
+    /// Hands out all fields of the current version.
+    pub fn isis_fields(
+        mst: *const u8,
+        mst_len: usize,
+        xrf: *const u8,
+        xrf_len: usize,
+        mfn: u32,
+        tags: *mut u16,
+        tags_len: usize,
+        starts: *mut usize,
+        starts_len: usize,
+        lens: *mut usize,
+        lens_len: usize,
+        count: *mut usize,
+    ) -> u32;
+
+    /// Hands out all fields of the settled version.
+    pub fn isis_fields_settled(
+        mst: *const u8,
+        mst_len: usize,
+        xrf: *const u8,
+        xrf_len: usize,
+        mfn: u32,
+        tags: *mut u16,
+        tags_len: usize,
+        starts: *mut usize,
+        starts_len: usize,
+        lens: *mut usize,
+        lens_len: usize,
+        count: *mut usize,
+    ) -> u32;
+
+    /// Tells what the next create is given.
+    pub fn isis_next(
+        mst: *const u8,
+        mst_len: usize,
+        xrf: *const u8,
+        xrf_len: usize,
+        next: *mut u32,
+        end: *mut usize,
+    ) -> u32;
+
+    /// Tells the state of a record.
+    pub fn isis_state(
+        mst: *const u8,
+        mst_len: usize,
+        xrf: *const u8,
+        xrf_len: usize,
+        mfn: u32,
+        mark: *mut u32,
+        deleted: *mut u32,
+    ) -> u32;
+
     /// Writes a new record.
     pub fn isis_create(
         mst: *mut u8,

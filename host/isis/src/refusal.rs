@@ -6,7 +6,9 @@ use std::fmt;
 /// What a call gives: a value if it was accepted, or why it was refused.
 pub type Answer<T> = Result<T, Refusal>;
 
-/// Why a call was refused. Where several apply, the library gives the lowest number.
+/// Why a call was refused. Where several apply, the library gives the lowest number. More
+/// may come with more calls.
+#[non_exhaustive]
 #[derive(Clone, Copy, Debug, PartialEq, Eq, PartialOrd, Ord, Hash)]
 #[repr(u32)]
 pub enum Refusal {
@@ -38,11 +40,13 @@ pub enum Refusal {
     NoRoom = 13,
     /// 14: the store is not sound.
     NotSound = 14,
+    /// 17: a list that is lent for outputs is too short for them; given last of all.
+    NoRoomInList = 17,
 }
 
 impl Refusal {
     /// Every refusal, in the order of the numbers.
-    pub const ALL: [Refusal; 14] = [
+    pub const ALL: &[Refusal] = &[
         Refusal::BadLength,
         Refusal::BadControl,
         Refusal::BadDraft,
@@ -57,6 +61,7 @@ impl Refusal {
         Refusal::NoField,
         Refusal::NoRoom,
         Refusal::NotSound,
+        Refusal::NoRoomInList,
     ];
 
     /// The number of the refusal.
@@ -67,10 +72,11 @@ impl Refusal {
     /// The answer that a number stands for: `Ok` for 0, `None` for a number that is
     /// no answer.
     pub fn answer(number: u32) -> Option<Answer<()>> {
-        match number {
-            0 => Some(Ok(())),
-            _ => Refusal::ALL.get(number as usize - 1).map(|&why| Err(why)),
+        if number == 0 {
+            return Some(Ok(()));
         }
+        let known = Refusal::ALL.iter().find(|why| why.number() == number);
+        known.map(|&why| Err(why))
     }
 
     /// The refusal in words.
@@ -92,6 +98,7 @@ impl Refusal {
             Refusal::NoField => "there is no field of this tag and occurrence",
             Refusal::NoRoom => "there is no room at the end of the MST",
             Refusal::NotSound => "the store is not sound",
+            Refusal::NoRoomInList => "a list is too short for what it is to hold",
         }
     }
 }

@@ -74,7 +74,7 @@ fn the_header_has_the_answer_numbers_of_this_crate() {
         })
         .collect();
     let wanted: Vec<u32> = std::iter::once(0)
-        .chain(isis::Refusal::ALL.map(isis::Refusal::number))
+        .chain(isis::Refusal::ALL.iter().map(|refusal| refusal.number()))
         .collect();
     assert_eq!(numbers, wanted);
 }

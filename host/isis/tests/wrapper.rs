@@ -1,7 +1,7 @@
 //! The wrapper hands everything through: the worked run of document 01 by way of the
 //! archive, each answer as its number, and drafts from iterators.
 
-use isis::{Answer, Card, Draft, Field, Fields, Lists, Refusal};
+use isis::{Answer, Card, CardRef, Draft, Field, Fields, Lists, Mark, Next, Refusal, State, raw};
 
 #[test]
 fn the_worked_run_through_the_archive() {
@@ -34,12 +34,16 @@ fn the_worked_run_through_the_archive() {
 
 #[test]
 fn refusals_have_the_papers_numbers() {
-    for (i, refusal) in Refusal::ALL.into_iter().enumerate() {
-        assert_eq!(refusal.number(), i as u32 + 1);
+    let all: &[Refusal] = Refusal::ALL;
+    let numbers = all.iter().map(|refusal| refusal.number());
+    assert!(numbers.eq((1..=14).chain([17])));
+    for &refusal in all {
         assert_eq!(Refusal::answer(refusal.number()), Some(Err(refusal)));
     }
     assert_eq!(Refusal::answer(0), Some(Ok(())));
-    assert_eq!(Refusal::answer(15), None);
+    for number in [15, 16, 99, u32::MAX] {
+        assert_eq!(Refusal::answer(number), None);
+    }
 }
 
 #[test]
@@ -68,18 +72,36 @@ fn refusals_come_through() {
 }
 
 #[test]
-fn drafts_gather_fields_and_refuse_what_has_no_length() {
-    let draft = Draft::gather([(24, &b"Kite"[..]), (70, b""), (24, b"s")]).unwrap();
+fn drafts_gather_fields() {
+    let draft = Draft::gather([(24, &b"Kite"[..]), (70, b""), (24, b"s")]);
     let Lists { tags, lens, data } = draft.lists();
     assert_eq!(
         (tags, lens, data),
         (&[24, 70, 24][..], &[4, 0, 1][..], &b"Kites"[..])
     );
-    assert!(Draft::gather([(24, vec![0; 65_535])]).is_ok());
-    assert_eq!(
-        Draft::gather([(24, vec![0; 65_536])]),
-        Err(Refusal::BadDraft)
-    );
+}
+
+/// A field that has no length in a draft is the library's to refuse, so that a lower
+/// refusal is given where one applies.
+#[test]
+fn an_over_long_field_gets_the_lowest_refusal() {
+    for len in [32_743, 65_535, 65_536, 70_000, 131_072] {
+        let long = [(24, vec![b'x'; len])];
+        let (mut mst, mut xrf) = (vec![0; 512], vec![0; 511]);
+        let mut card = Card::over(&mut mst, &mut xrf);
+        assert_eq!(card.create(long.clone()), Err(Refusal::BadLength), "{len}");
+        assert_eq!(
+            card.update(1, long.clone()),
+            Err(Refusal::BadLength),
+            "{len}"
+        );
+        let mut xrf = vec![0; 512];
+        let mut card = Card::over(&mut mst, &mut xrf);
+        assert_eq!(card.create(long.clone()), Err(Refusal::BadControl), "{len}");
+        card.format().unwrap();
+        assert_eq!(card.create(long.clone()), Err(Refusal::BadDraft), "{len}");
+        assert_eq!(card.update(1, long), Err(Refusal::BadDraft), "{len}");
+    }
 }
 
 #[test]
@@ -159,4 +181,111 @@ fn past_the_last_field_there_is_none() {
     let mut fields = card.fields(1).unwrap();
     assert!(fields.next().is_some());
     assert!(fields.next().is_none() && fields.next().is_none());
+}
+
+/// A card is read where its bytes may not be written, and what is read outlives the
+/// handle.
+#[test]
+fn a_card_is_read_from_shared_bytes() {
+    let (mut mst, mut xrf) = (vec![0; 1024], vec![0; 512]);
+    let mut card = Card::over(&mut mst, &mut xrf);
+    card.format().unwrap();
+    assert_eq!(card.create([(24, "Kite"), (70, "x")]), Ok(1));
+    card.settle(1).unwrap();
+    card.update(1, [(24, "Kites")]).unwrap();
+    assert_eq!(card.reader().view(1, 24, 1), Ok(&b"Kites"[..]));
+    let (mst, xrf): (&[u8], &[u8]) = (&mst, &xrf);
+    let text = CardRef::over(mst, xrf).view(1, 24, 1);
+    let settled = CardRef::over(mst, xrf).view_settled(1, 70, 1);
+    assert_eq!((text, settled), (Ok(&b"Kites"[..]), Ok(&b"x"[..])));
+    let card = CardRef::over(mst, xrf);
+    assert_eq!(all(card.fields(1)), Ok(vec![(24, &b"Kites"[..])]));
+    assert_eq!(card.field_settled(1, 1).map(|field| field.tag), Ok(70));
+    assert_eq!(card.view_part(1, 24, 1).map(|part| part.len()), Ok(5));
+    assert_eq!((card.check(), card.mst(), card.xrf()), (Ok(()), mst, xrf));
+    assert_eq!(
+        CardRef::over(&mst[1..], xrf).check(),
+        Err(Refusal::BadLength)
+    );
+}
+
+#[test]
+fn what_comes_next_and_the_state_of_a_record() {
+    let (mut mst, mut xrf) = (vec![0; 1024], vec![0; 512]);
+    let mut card = Card::over(&mut mst, &mut xrf);
+    assert_eq!(card.next(), Err(Refusal::BadControl));
+    assert_eq!(card.state(1), Err(Refusal::BadControl));
+    card.format().unwrap();
+    assert_eq!(card.next(), Ok(Next { mfn: 1, end: 64 }));
+    assert_eq!(card.state(1), Err(Refusal::NoMfn));
+    assert_eq!(card.create([(24, "Kite")]), Ok(1));
+    assert_eq!(card.next(), Ok(Next { mfn: 2, end: 92 }));
+    let state = |mark, deleted| Ok(State { mark, deleted });
+    assert_eq!(card.state(1), state(Mark::New, false));
+    card.settle(1).unwrap();
+    assert_eq!(card.state(1), state(Mark::Settled, false));
+    card.delete(1).unwrap();
+    assert_eq!(card.state(1), state(Mark::Changed, true));
+    card.revert(1).unwrap();
+    assert_eq!(card.state(1), state(Mark::Settled, false));
+    xrf[4..8].copy_from_slice(&(-2048i32).to_le_bytes());
+    let card = CardRef::over(&mst, &xrf);
+    assert_eq!(card.state(1), Err(Refusal::Gone));
+    assert_eq!(
+        CardRef::over(&mst, &xrf[1..]).next(),
+        Err(Refusal::BadLength)
+    );
+}
+
+/// A record of as many fields as there can be is handed out whole.
+#[test]
+fn many_fields_come_in_directory_order() {
+    let (mut mst, mut xrf) = (vec![0; 80 * 512], vec![0; 512]);
+    let mut card = Card::over(&mut mst, &mut xrf);
+    card.format().unwrap();
+    for count in [63, 64, 65, 5_457, 5_458] {
+        let fields: Vec<(u16, &[u8])> = (1..=count).map(|tag| (tag, &b""[..])).collect();
+        card.format().unwrap();
+        assert_eq!(card.create(fields.clone()), Ok(1));
+        assert_eq!(card.fields(1).map(|fields| fields.len()), Ok(fields.len()));
+        assert_eq!(all(card.fields(1)), Ok(fields));
+    }
+}
+
+/// A list that is too short is refused last, and no list is written then.
+#[test]
+fn a_short_list_is_refused() {
+    let (mut mst, mut xrf) = (vec![0; 512], vec![0; 512]);
+    let mut card = Card::over(&mut mst, &mut xrf);
+    card.format().unwrap();
+    assert_eq!(card.create([(24, "Kite"), (70, "x")]), Ok(1));
+    let call = |mfn, room: [usize; 3]| {
+        let (mut tags, mut starts, mut lens) = ([9; 3], [9; 3], [9; 3]);
+        let mut count = 9;
+        // SAFETY: no list has less room than is said.
+        let number = unsafe {
+            raw::isis_fields(
+                mst.as_ptr(),
+                mst.len(),
+                xrf.as_ptr(),
+                xrf.len(),
+                mfn,
+                tags.as_mut_ptr(),
+                room[0],
+                starts.as_mut_ptr(),
+                room[1],
+                lens.as_mut_ptr(),
+                room[2],
+                &mut count,
+            )
+        };
+        (number, tags, starts, lens, count)
+    };
+    for room in [[1, 2, 2], [2, 1, 2], [2, 2, 1], [0, 0, 0]] {
+        assert_eq!(call(1, room), (17, [9; 3], [9; 3], [9; 3], 0));
+        assert_eq!(call(2, room), (4, [9; 3], [9; 3], [9; 3], 0));
+    }
+    let done = (0, [24, 70, 9], [94, 98, 9], [4, 1, 9], 2);
+    assert_eq!(call(1, [2, 2, 2]), done);
+    assert_eq!(call(1, [3, 3, 3]), done);
 }

@@ -1,6 +1,6 @@
 use mathlib.Core.Path.{ap, _∙_}
 use Rattle.store.specs.Answer.{numberOf}
-use Rattle.store.specs.declared.create.Created.{Created}
+use Rattle.writing.specs.declared.create.Created.{Created}
 use borrow.Author.Needs.{needs}
 use Rattle.isis.proofs.isis_create.Statement.{statement}
 use Rattle.isis.proofs.isis_create.Tie as tie

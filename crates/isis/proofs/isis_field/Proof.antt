@@ -1,6 +1,6 @@
 use mathlib.Core.Path.{ap, _∙_}
 use Rattle.store.specs.Answer.{numberOf}
-use Rattle.store.specs.declared.walk.ShownField.{ShownField}
+use Rattle.views.specs.declared.walk.ShownField.{ShownField}
 use borrow.Author.Needs.{needs}
 use Rattle.isis.proofs.isis_field.Statement.{statement}
 use Rattle.isis.proofs.isis_field.Tie as tie

@@ -1,6 +1,6 @@
 use mathlib.Core.Path.{ap, _∙_}
 use Rattle.store.specs.Answer.{numberOf}
-use Rattle.store.specs.declared.views.Shown.{Shown}
+use Rattle.views.specs.declared.views.Shown.{Shown}
 use borrow.Author.Needs.{needs}
 use Rattle.isis.proofs.isis_view.Statement.{statement}
 use Rattle.isis.proofs.isis_view.Tie as tie

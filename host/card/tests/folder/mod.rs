@@ -6,8 +6,28 @@
 pub mod cut;
 
 use std::fs;
+use std::os::unix::fs::PermissionsExt;
+use std::os::unix::process::CommandExt;
 use std::path::PathBuf;
 use std::process::Command;
+
+/// A user without rights, for tests that run as root.
+pub const NOBODY: u32 = 65_534;
+
+/// Has a command run as that user. Only root can, and only a program that is not shut to
+/// others; where it is not so, the test says so.
+pub fn as_nobody(command: &mut Command) -> bool {
+    let mut card = Command::new(env!("CARGO_BIN_EXE_card"));
+    let tried = card.arg("--version").uid(NOBODY).gid(NOBODY).output();
+    match tried {
+        Ok(_) => command.uid(NOBODY).gid(NOBODY),
+        Err(why) => {
+            println!("not tried as another user: {why}");
+            return false;
+        }
+    };
+    true
+}
 
 /// A folder of its own for one test, removed at the end.
 pub struct Folder(pub PathBuf);
@@ -89,6 +109,19 @@ impl Folder {
 
     pub fn write(&self, name: &str, bytes: &[u8]) {
         fs::write(self.0.join(name), bytes).unwrap();
+    }
+
+    /// Lets everybody write the folder and its files.
+    pub fn permit_all(&self) {
+        self.permit(".", 0o777);
+        for (path, _) in self.files() {
+            fs::set_permissions(path, fs::Permissions::from_mode(0o666)).unwrap();
+        }
+    }
+
+    /// Sets the permissions of a name in the folder.
+    pub fn permit(&self, name: &str, mode: u32) {
+        fs::set_permissions(self.0.join(name), fs::Permissions::from_mode(mode)).unwrap();
     }
 
     /// Changes some bytes of a file.

@@ -3,7 +3,7 @@ use Prim.Native.Nat.{_≤_, _-_}
 use native.Mathlib.Omega.{arith}
 use mathlib.Core.Path.{_≡_, refl}
 use lib.ListN.{length, take}
-use Rattle.word.specs.Place.{place}
+use Rattle.word.specs.Overwrite.{overwrite}
 use Rattle.record.specs.Draft.{sum, draftFields}
 use Rattle.record.specs.Bytes.{directoryBytes}
 use Rattle.record.proofs.Facts.{draft-facts}
@@ -16,7 +16,7 @@ Inv-loop out₀ tags lens «data» i₀ pos₀ out i pos =
     (i ≤ length tags)
     × (length out ≡ length out₀)
     × (pos ≡ sum (take i lens))
-    × (out ≡ place out₀ 18 (directoryBytes 0 (take i (draftFields tags lens «data»))))
+    × (out ≡ overwrite out₀ 18 (directoryBytes 0 (take i (draftFields tags lens «data»))))
 
 abbrev μ-loop : tie.MeasureT-loop
 μ-loop out₀ tags lens «data» i₀ pos₀ out i pos = length tags - i

@@ -4,7 +4,7 @@ use native.Mathlib.Omega.{arith}
 use mathlib.Core.Path.{_≡_, refl}
 use lib.ListN.{length}
 use borrow.Author.Needs.{needs}
-use Rattle.ledger.specs.Store.{store}
+use Rattle.store.specs.Store.{store}
 use Rattle.replay.proofs.Running.{Going, going-start, goings}
 use Rattle.replay.proofs.Telling.{runs}
 use Rattle.replay.proofs.run.run.Statement.{statement}

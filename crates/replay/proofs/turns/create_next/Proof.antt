@@ -58,7 +58,7 @@ same-length-2 c = search needs
 returns : tie.Need-returns
 returns c =
     let made = c .before .before .before .before .create .ensures in
-    create-wrote _ _ _ _ _ _ _ _ _ (made .0) (made .1 .0) (made .1 .1) (simp add-sub-cancel-left)
+    create-wrote _ _ _ _ _ (made .0) (made .1) (simp add-sub-cancel-left)
 
 pub create-next-spec : {M : Type 1} → statement M
 create-next-spec =

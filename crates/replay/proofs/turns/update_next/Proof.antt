@@ -58,7 +58,7 @@ same-length-2 c = search needs
 returns : tie.Need-returns
 returns c =
     let made = c .before .before .before .before .update .ensures in
-    update-wrote _ _ _ _ _ _ _ _ _ _ (made .0) (made .1 .0) (made .1 .1) (simp add-sub-cancel-left)
+    update-wrote _ _ _ _ _ _ (made .0) (made .1) (simp add-sub-cancel-left)
 
 pub update-next-spec : {M : Type 1} → statement M
 update-next-spec =

@@ -1,0 +1,4 @@
+pub mod Lowest
+pub mod VersionAnswers
+pub mod ViewAnswers
+pub mod WalkAnswers

@@ -1,0 +1,113 @@
+-- What the views show of the version that they read. Each law's premises are what is known at one place of the code, so that
+-- `search view-answers` finds them there; a callee's result is a variable with what the callee ensures of it.
+use Prim.Native.Nat.{ℕ, _+_, _-_, _^_, _≤_, _<_}
+use native.Mathlib.Omega.{arith}
+use mathlib.Core.Path.{_≡_, refl, sym, ap, _∙_}
+use mathlib.Core.List.{List, []}
+use mir.Syntax.{w64}
+use mir.Val.{Fits}
+use lib.ListN.{length}
+use Rattle.word.specs.Overwrite.{part}
+use Rattle.layout.specs.Entry.{placeAddress}
+use Rattle.layout.specs.Control.{endOf}
+use Rattle.layout.specs.declared.entry.Place.{Place}
+use Rattle.record.specs.Fields.{findOf}
+use Rattle.record.specs.declared.fields.Found.{Found}
+use Rattle.record.specs.declared.fields.Found.the-variants.{At, Missing}
+use Rattle.record.proofs.Search.{found-in}
+use Rattle.store.specs.Answer.{numberOf, lowest, after}
+use Rattle.store.specs.Reading.{placeFor, recordAt, recordFrom}
+use Rattle.views.specs.Views.{isMissing, onCurrent, onSettled, viewAnswer, settledViewAnswer, foundStart, foundLength, shownAt, viewOf, settledAddress, settledViewOf, shownBytes}
+use Rattle.views.specs.Versions.{versionIf, currentVersion, settledVersion, refusedView, versionAnswer, shownFound, shownIn, Legible}
+use Rattle.store.specs.declared.answer.Answer.{Answer}
+use Rattle.store.specs.declared.answer.Answer.the-variants.{Done, NoField}
+use Rattle.views.specs.declared.views.Shown.{Shown}
+use Rattle.views.specs.declared.views.Version.{Version}
+use Rattle.views.specs.declared.views.Version.the-variants.{Begins, Refused as NoVersion}
+use Rattle.store.proofs.Gates.{Refusing, after-refused}
+use Rattle.views.proofs.VersionAnswers.{noField, current-then, settled-then, version-shows, settled-from, current-legible, settled-legible, version-end-in, version-before, version-readable, version-within}
+use Rattle.store.specs.Store.{store}
+
+-- ---- what is shown
+
+-- a refused view is empty
+shown-refused : (a : Answer) (at : ℕ) (f : Found) → Refusing a → refusedView a ≡ shownAt a at f
+unfolding shownAt
+shown-refused a at f h = rw (after-refused {A = ℕ} a (at + foundStart f) 0 h, after-refused {A = ℕ} a (foundLength f) 0 h)
+
+pub refused-within : (mst : List ℕ) (a : Answer) (r : Shown) → r ≡ refusedView a → r .start + r .len ≤ length mst
+refused-within mst a r s = rw s (omega arith)
+
+-- 12, of what was found
+shown-found : (at : ℕ) (f : Found) → shownFound at f ≡ shownAt (noField (isMissing f)) at f
+unfolding shownAt after numberOf
+shown-found at (At start len) = refl
+shown-found at Missing = refl
+
+-- ---- a field in a version
+
+module _ (mst : List ℕ) (tag occ : ℕ) (v : Version) where
+  pub show-refused : (a b : Answer) (r : Shown) → v ≡ NoVersion b → a ≡ versionAnswer v → r ≡ refusedView a → r ≡ shownIn mst tag occ v
+  unfolding shownIn
+  show-refused a b r e u s = rw (s, u, e)
+
+  module _ (at end : ℕ) (e : v ≡ Begins at end) (f : Found) (x : f ≡ findOf (part mst at (end - at)) tag occ) where
+    pub show-missing : (r : Shown) → f ≡ Missing → r ≡ refusedView NoField → r ≡ shownIn mst tag occ v
+    unfolding shownIn
+    show-missing r d s = rw (s, e, ← x, d)
+
+    module _ (start len : ℕ) (d : f ≡ At start len) where
+      pub show-found : record { answer = Done; start = at + start; len = len } ≡ shownIn mst tag occ v
+      unfolding shownIn
+      show-found = rw (e, ← x, d)
+
+      pub show-within : Legible mst v → at + start + len ≤ length mst
+      show-within h =
+          version-within mst v h at end e start len (found-in (part mst at (end - at)) tag occ start len (version-readable mst v h at end e) (sym x ∙ d))
+
+      pub show-sum : Legible mst v → length mst < 2 ^ 64 → Fits w64 (at + start)
+      show-sum h n = omega (arith, show-within h)
+
+module _ (mst xrf : List ℕ) (m tag occ : ℕ) (v : Version) (r : Shown) (s : r ≡ shownIn mst tag occ v) where
+  version-shown : (a b : Answer) (at : ℕ) → v ≡ versionIf a at (endOf mst) → b ≡ after a (noField (isMissing (findOf (recordFrom mst at) tag occ))) a
+      → r ≡ shownAt b at (findOf (recordFrom mst at) tag occ)
+  unfolding shownIn
+  version-shown a b at e t =
+      let f : Found = findOf (recordFrom mst at) tag occ in
+      rw (s, e, t) (version-shows (shownIn mst tag occ) (λ c. shownAt c at f) a (noField (isMissing f)) at (endOf mst) (shown-found at f) (shown-refused a at f))
+
+  pub view-shown : v ≡ currentVersion (store mst xrf) m → r ≡ viewOf (store mst xrf) m tag occ
+  unfolding currentVersion viewOf viewAnswer
+  view-shown e =
+      let p : Place = placeFor (store mst xrf) m in
+      version-shown (lowest (onCurrent (store mst xrf) m [])) _ (placeAddress p) e (current-then mst xrf m (isMissing (findOf (recordAt mst p) tag occ)))
+
+  pub settled-view-shown : v ≡ settledVersion (store mst xrf) m → r ≡ settledViewOf (store mst xrf) m tag occ
+  unfolding settledVersion settledViewOf settledViewAnswer
+  settled-view-shown e =
+      let at : ℕ = settledAddress mst (placeFor (store mst xrf) m) in
+      rw (← settled-from mst (placeFor (store mst xrf) m))
+      (version-shown (lowest (onSettled (store mst xrf) m [])) _ at e (settled-then mst xrf m (isMissing (findOf (recordFrom mst at) tag occ))))
+
+-- ---- the field itself
+
+module _ (mst xrf : List ℕ) (m tag occ : ℕ) (s : Shown) where
+  pub view-number : (n : ℕ) → s ≡ viewOf (store mst xrf) m tag occ → n ≡ numberOf (s .answer) → n ≡ numberOf (viewAnswer (store mst xrf) m tag occ)
+  unfolding viewOf shownAt
+  view-number n e h = rw (h, e)
+
+  pub settled-number : (n : ℕ) → s ≡ settledViewOf (store mst xrf) m tag occ → n ≡ numberOf (s .answer) → n ≡ numberOf (settledViewAnswer (store mst xrf) m tag occ)
+  unfolding settledViewOf shownAt
+  settled-number n e h = rw (h, e)
+
+field-part : (mst : List ℕ) (s : Shown) → part mst (s .start) (s .start + s .len - s .start) ≡ shownBytes mst s
+field-part mst s = let n : s .start + s .len - s .start ≡ s .len = omega arith in rw n
+
+module _ (mst : List ℕ) (s r : Shown) where
+  pub field-shown : s ≡ r → part mst (s .start) (s .start + s .len - s .start) ≡ shownBytes mst r
+  field-shown e = field-part mst s ∙ ap (shownBytes mst) e
+
+pub ruleset view-answers =
+    (refused-within, show-refused, show-missing, show-found, show-within, show-sum, version-end-in, version-before, version-readable, current-legible, settled-legible, view-shown, settled-view-shown, arith)
+
+pub ruleset field-answers = (view-number, settled-number, field-shown, arith)

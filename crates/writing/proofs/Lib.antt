@@ -1,0 +1,5 @@
+pub mod Lowest
+pub mod Told
+pub mod Plans
+pub mod Writes
+pub mod Results

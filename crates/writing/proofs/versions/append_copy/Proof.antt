@@ -1,0 +1,57 @@
+use Rattle.writing.proofs.Writes.{copy-writes}
+use borrow.Author.Needs.{needs}
+use Rattle.writing.proofs.versions.append_copy.Statement.{statement}
+use Rattle.writing.proofs.versions.append_copy.Tie as tie
+
+cast-stop : tie.Need-cast-stop
+cast-stop c = search needs
+
+add-stop : tie.Need-add-stop
+add-stop c = search needs
+
+place-address-requires : tie.Need-place-address-requires
+place-address-requires c κs = search needs
+
+sub-copy-record : tie.Need-sub-copy-record
+sub-copy-record c = search needs
+
+part-copy-record-start : tie.Need-part-copy-record-start
+part-copy-record-start c = search needs
+
+part-copy-record-end : tie.Need-part-copy-record-end
+part-copy-record-end c = search needs
+
+sub-copy-record-2 : tie.Need-sub-copy-record-2
+sub-copy-record-2 c = search needs
+
+copy-record-requires : tie.Need-copy-record-requires
+copy-record-requires c κs = search copy-writes
+
+end-moved-requires : tie.Need-end-moved-requires
+end-moved-requires c κs = search needs
+
+put-end-requires : tie.Need-put-end-requires
+put-end-requires c κs = search copy-writes
+
+same-length : tie.Need-same-length
+same-length c = search needs
+
+returns : tie.Need-returns
+returns c = search copy-writes
+
+pub append-copy-spec : {M : Type 1} → statement M
+append-copy-spec =
+    tie.close
+    (tie.spec
+    cast-stop
+    add-stop
+    place-address-requires
+    sub-copy-record
+    part-copy-record-start
+    part-copy-record-end
+    sub-copy-record-2
+    copy-record-requires
+    end-moved-requires
+    put-end-requires
+    same-length
+    returns)

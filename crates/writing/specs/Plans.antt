@@ -1,0 +1,79 @@
+-- Inner: serves the functions of this crate, no part of what is promised. What a call has decided before it writes: the refusal, or what the
+-- writing half needs to know.
+use Prim.Native.Nat.{ℕ, _+_, _≤_}
+use mathlib.Core.Path.{_≡_}
+use mathlib.Core.Bool.{Bool, not, _&&_, cond}
+use mathlib.Core.List.{List, [], _∷_}
+use lib.Dec.{eqb, ltb}
+use lib.ListN.{length}
+use Rattle.layout.specs.Sizes.{capacityOf}
+use Rattle.layout.specs.CrossReference.{xrfBlock, headRight, slotFree}
+use Rattle.layout.specs.Control.{nextOf, endOf}
+use Rattle.layout.specs.declared.entry.Place.{Place}
+use Rattle.layout.specs.declared.leader.Leader.{Leader}
+use Rattle.record.specs.Bytes.{needFor}
+use Rattle.store.specs.Store.{Store, Draft, fieldsIn}
+use Rattle.store.specs.Answer.{refuse, lowest, after}
+use Rattle.store.specs.Reading.{placeFor, isSettled, leaderAt}
+use Rattle.store.specs.Gate.{reachedIf}
+use Rattle.store.specs.declared.answer.Answer.{Answer}
+use Rattle.store.specs.declared.answer.Answer.the-variants.{Done, NoSlot, BadEntry, NoRoom}
+use Rattle.store.specs.declared.gate.Reached.{Reached}
+use Rattle.writing.specs.Refusals.{exceeds, createAnswer, updateAppends, updateAnswer, deleteAnswer, settleAnswer, revertAnswer}
+use Rattle.writing.specs.declared.create.Creating.{Creating}
+use Rattle.writing.specs.declared.create.Creating.the-variants.{Write, Unwritten}
+use Rattle.writing.specs.declared.versions.Plan.{Plan}
+use Rattle.writing.specs.declared.versions.Plan.the-variants.{NewVersion, Refuse}
+
+unfoldable pub settlePlan : Store → ℕ → Reached
+settlePlan s m = reachedIf (settleAnswer s m) s m
+
+unfoldable pub revertPlan : Store → ℕ → Reached
+revertPlan s m = reachedIf (revertAnswer s m) s m
+
+-- 5, 6 and 13 of a create, behind an open gate and with a right draft of a need
+unfoldable pub slotAnswer : Store → ℕ → Answer
+slotAnswer s need =
+    lowest
+    (refuse NoSlot (eqb (nextOf (s .mst)) (capacityOf (length (s .xrf)) + 1))
+    ∷ refuse BadEntry (not (headRight (s .xrf) (xrfBlock (nextOf (s .mst))) && slotFree (s .xrf) (nextOf (s .mst))))
+    ∷ refuse NoRoom (exceeds (s .mst) need)
+    ∷ [])
+
+-- what is known there
+pub record SlotAsked (mst xrf : List ℕ) (next end need : ℕ) : Type 0 where
+  pub next-is : next ≡ nextOf mst
+  pub low : 1 ≤ next
+  pub high : next ≤ capacityOf (length xrf) + 1
+  pub blocks : length xrf ≤ 2097152
+  pub end-is : end ≡ endOf mst
+  pub end-in : end ≤ 536870400
+  pub small : need ≤ 32766
+
+-- NXTMFN, the end and the need of a create whose answer is done
+unfoldable pub createPlan : Store → Draft → Creating
+createPlan s d =
+    after (createAnswer s d) (Write (record { 0 = nextOf (s .mst) }) (endOf (s .mst)) (needFor (fieldsIn d))) (Unwritten (createAnswer s d))
+
+abbrev pub creatingAnswer : Creating → Answer
+creatingAnswer (Write next end need) = Done
+creatingAnswer (Unwritten a) = a
+
+-- where a new version of MFN m's record goes, at the end or in place, where the answer is done
+unfoldable pub planIf : Answer → Bool → Store → ℕ → Plan
+planIf a appends s m = after a (NewVersion (endOf (s .mst)) (placeFor s m) (leaderAt (s .mst) (placeFor s m)) appends) (Refuse a)
+
+abbrev pub planAnswer : Plan → Answer
+planAnswer (NewVersion end p l appends) = Done
+planAnswer (Refuse a) = a
+
+unfoldable pub updatePlan : Store → ℕ → Draft → Plan
+updatePlan s m d =
+    planIf (updateAnswer s m d) (updateAppends (placeFor s m) (leaderAt (s .mst) (placeFor s m)) (needFor (fieldsIn d))) s m
+
+unfoldable pub deletePlan : Store → ℕ → Plan
+deletePlan s m = planIf (deleteAnswer s m) (isSettled (placeFor s m .mark)) s m
+
+-- where a version of a need goes in an MST of a length: at the end if it is to be appended, where there is room
+unfoldable pub roomPlan : ℕ → ℕ → ℕ → Bool → Place → Leader → Plan
+roomPlan room end need appends p l = cond (appends && ltb room (end + need)) (Refuse NoRoom) (NewVersion end p l appends)

@@ -1,0 +1,91 @@
+-- The refusals of each call that may write, in the order of their numbers, and each call's answer: the lowest that applies.
+-- Document 01, "Answer numbers" and the room rule.
+use Prim.Native.Nat.{ℕ, _+_}
+use mathlib.Core.Bool.{Bool, not, _&&_, _||_}
+use mathlib.Core.List.{List, [], _∷_}
+use lib.Dec.{eqb, ltb}
+use lib.ListN.{length}
+use Rattle.layout.specs.Sizes.{capacityOf}
+use Rattle.layout.specs.CrossReference.{xrfBlock, headRight, slotFree}
+use Rattle.layout.specs.Control.{nextOf, endOf}
+use Rattle.layout.specs.declared.entry.Place.{Place}
+use Rattle.layout.specs.declared.leader.Leader.{Leader}
+use Rattle.record.specs.Bytes.{needFor}
+use Rattle.store.specs.Store.{Store, Draft, isRight, fieldsIn}
+use Rattle.store.specs.Answer.{Refusal, refuse, lowest}
+use Rattle.store.specs.Reading.{lengthsPermitted, placeFor, isSettled, isNew, leaderAt, currentFields}
+use Rattle.store.specs.Refusals.{gated, named, fine, bothFine}
+use Rattle.store.specs.declared.answer.Answer.{Answer}
+use Rattle.store.specs.declared.answer.Answer.the-variants.{BadLength, BadDraft, NoSlot, BadEntry, Deleted, NotPending, NeverSettled, NoRoom}
+
+-- end + MFRL exceeds the MST length
+unfoldable pub exceeds : List ℕ → ℕ → Bool
+exceeds mst need = ltb (length mst) (endOf mst + need)
+
+-- format gives 0 or 1
+abbrev pub formatRefusals : Store → List Refusal
+formatRefusals s = refuse BadLength (not (lengthsPermitted s)) ∷ []
+
+unfoldable pub formatAnswer : Store → Answer
+formatAnswer s = lowest (formatRefusals s)
+
+-- create: 5 where NXTMFN is capacity + 1; 6 where the new MFN's block is wrong at its first integer, or its slot is not 0
+abbrev pub createRefusals : Store → Draft → List Refusal
+createRefusals s d =
+    gated s
+    (refuse BadDraft (not (isRight d))
+    ∷ refuse NoSlot (eqb (nextOf (s .mst)) (capacityOf (length (s .xrf)) + 1))
+    ∷ refuse BadEntry (not (headRight (s .xrf) (xrfBlock (nextOf (s .mst))) && slotFree (s .xrf) (nextOf (s .mst))))
+    ∷ refuse NoRoom (exceeds (s .mst) (needFor (fieldsIn d)))
+    ∷ [])
+
+unfoldable pub createAnswer : Store → Draft → Answer
+createAnswer s d = lowest (createRefusals s d)
+
+-- an update writes at the end unless the record is pending and its MFRL is enough
+unfoldable pub updateAppends : Place → Leader → ℕ → Bool
+updateAppends p l need = isSettled (p .mark) || ltb (l .mfrl) need
+
+abbrev pub updateRefusals : Store → ℕ → Draft → List Refusal
+updateRefusals s m d =
+    gated s
+    (refuse BadDraft (not (isRight d))
+    ∷ named s m (fine s m)
+    (refuse Deleted (placeFor s m .deleted)
+    ∷ refuse NoRoom
+    (updateAppends (placeFor s m) (leaderAt (s .mst) (placeFor s m)) (needFor (fieldsIn d))
+    && exceeds (s .mst) (needFor (fieldsIn d)))
+    ∷ []))
+
+unfoldable pub updateAnswer : Store → ℕ → Draft → Answer
+updateAnswer s m d = lowest (updateRefusals s m d)
+
+-- a delete writes at the end where the record is settled
+abbrev pub deleteRefusals : Store → ℕ → List Refusal
+deleteRefusals s m =
+    gated s
+    (named s m (fine s m)
+    (refuse Deleted (placeFor s m .deleted)
+    ∷ refuse NoRoom
+    (isSettled (placeFor s m .mark) && exceeds (s .mst) (needFor (currentFields (s .mst) (placeFor s m))))
+    ∷ []))
+
+unfoldable pub deleteAnswer : Store → ℕ → Answer
+deleteAnswer s m = lowest (deleteRefusals s m)
+
+abbrev pub settleRefusals : Store → ℕ → List Refusal
+settleRefusals s m = gated s (named s m (fine s m) (refuse NotPending (isSettled (placeFor s m .mark)) ∷ []))
+
+unfoldable pub settleAnswer : Store → ℕ → Answer
+settleAnswer s m = lowest (settleRefusals s m)
+
+abbrev pub revertRefusals : Store → ℕ → List Refusal
+revertRefusals s m =
+    gated s
+    (named s m (bothFine s m)
+    (refuse NotPending (isSettled (placeFor s m .mark))
+    ∷ refuse NeverSettled (isNew (placeFor s m .mark))
+    ∷ []))
+
+unfoldable pub revertAnswer : Store → ℕ → Answer
+revertAnswer s m = lowest (revertRefusals s m)

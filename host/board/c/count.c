@@ -1,0 +1,132 @@
+/*
+ * count.c: how many instructions each call takes.
+ *
+ * The emulator is told that every instruction takes the same time, and the board's
+ * own clock (SysTick) is read before and after each call. What a thousand
+ * instructions take is measured first, so that no frequency need be known; and what
+ * it takes to call a function that does nothing is taken away.
+ */
+#include "isis.h"
+#include "semihosting.h"
+
+#include <string.h>
+
+enum { FIELDS = 8, FIELD = 20, RECORDS = 50, CLOCK_BITS = 24 };
+
+static uint8_t mst[64 * ISIS_BLOCK], xrf[ISIS_BLOCK];
+static uint16_t tags[FIELDS], lens[FIELDS];
+static uint8_t data[FIELDS * FIELD];
+static isis_size start, len, end, count, starts[FIELDS], field_lens[FIELDS];
+static uint32_t mfn, answer, mark, deleted;
+static uint16_t tag, field_tags[FIELDS];
+
+static volatile uint32_t *const systick = (volatile uint32_t *)0xE000E010; /* control, reload, current */
+
+#define CARD mst, sizeof mst, xrf, sizeof xrf
+#define LISTS field_tags, FIELDS, starts, FIELDS, field_lens, FIELDS, &count
+#define DRAFT tags, FIELDS, lens, FIELDS, data, sizeof data
+
+static void nothing(void) {}
+__attribute__((naked)) static void a_thousand_more(void)
+{
+    __asm__(".rept 1000\n\tnop\n\t.endr\n\tbx lr");
+}
+static void format(void) { answer = isis_format(CARD); }
+static void view_first(void) { answer = isis_view(CARD, 7, 1, 1, &start, &len); }
+static void view_last(void) { answer = isis_view(CARD, 7, FIELDS, 1, &start, &len); }
+static void view_settled_last(void) { answer = isis_view_settled(CARD, 7, FIELDS, 1, &start, &len); }
+static void field_last(void) { answer = isis_field(CARD, 7, FIELDS - 1, &tag, &start, &len); }
+static void field_settled_last(void) { answer = isis_field_settled(CARD, 7, FIELDS - 1, &tag, &start, &len); }
+static void fields(void) { answer = isis_fields(CARD, 7, LISTS); }
+static void fields_settled(void) { answer = isis_fields_settled(CARD, 7, LISTS); }
+static void next(void) { answer = isis_next(CARD, &mfn, &end); }
+static void state(void) { answer = isis_state(CARD, 7, &mark, &deleted); }
+static void create(void) { answer = isis_create(CARD, DRAFT, &mfn); }
+static void update(void) { answer = isis_update(CARD, 7, DRAFT); }
+static void delete(void) { answer = isis_delete(CARD, 7); }
+static void settle(void) { answer = isis_settle(CARD, 7); }
+static void revert(void) { answer = isis_revert(CARD, 7); }
+static void check(void) { answer = isis_check(CARD); }
+
+/* A card of RECORDS records of FIELDS fields, in one of three states. */
+enum kind { NEW, SETTLED, CHANGED };
+
+static void make_card(enum kind kind)
+{
+    format();
+    for (uint32_t i = 1; i <= RECORDS; i++) {
+        create();
+        if (kind != NEW)
+            isis_settle(CARD, i);
+    }
+    if (kind == CHANGED)
+        update();
+}
+
+static const struct {
+    const char *name;
+    enum kind kind;
+    void (*call)(void);
+} measured[] = {
+    { "view, first of 8 fields", CHANGED, view_first },
+    { "view, last of 8 fields", CHANGED, view_last },
+    { "view settled, last of 8 fields", CHANGED, view_settled_last },
+    { "field by index, last of 8", CHANGED, field_last },
+    { "settled field by index, last of 8", CHANGED, field_settled_last },
+    { "all 8 fields in one call", CHANGED, fields },
+    { "all 8 settled fields in one call", CHANGED, fields_settled },
+    { "next MFN and end", CHANGED, next },
+    { "state of a record", CHANGED, state },
+    { "create, 8 fields of 20 bytes", NEW, create },
+    { "update in place, 8 fields of 20 bytes", NEW, update },
+    { "update at the end, 8 fields of 20 bytes", SETTLED, update },
+    { "delete in place", NEW, delete },
+    { "delete by a copy at the end", SETTLED, delete },
+    { "settle, a new record", NEW, settle },
+    { "settle, a changed record", CHANGED, settle },
+    { "revert", CHANGED, revert },
+    { "format, 32 KB", NEW, format },
+    { "check, 50 records", SETTLED, check },
+};
+
+/* The clock counts down. */
+static uint32_t since(uint32_t then)
+{
+    return (then - systick[2]) & ((1u << CLOCK_BITS) - 1);
+}
+
+static uint32_t ticks_of(void (*call)(void))
+{
+    uint32_t then = systick[2];
+
+    call();
+    return since(then);
+}
+
+int main(void)
+{
+    uint32_t thousand, none;
+
+    for (uint32_t i = 0; i < FIELDS; i++) {
+        tags[i] = (uint16_t)(i + 1);
+        lens[i] = FIELD;
+    }
+    memset(data, 'x', sizeof data);
+    systick[1] = (1u << CLOCK_BITS) - 1;
+    systick[2] = 0;
+    systick[0] = 5; /* on, by the processor's clock */
+    none = ticks_of(nothing);
+    thousand = ticks_of(a_thousand_more) - none;
+    for (uint32_t i = 0; i < sizeof measured / sizeof *measured; i++) {
+        make_card(measured[i].kind);
+        uint32_t ticks = ticks_of(measured[i].call) - none;
+
+        if (answer != ISIS_DONE)
+            return 1;
+        say_number((uint32_t)(((uint64_t)ticks * 1000 + thousand / 2) / thousand));
+        say(" ");
+        say(measured[i].name);
+        say("\n");
+    }
+    return 0;
+}

@@ -1,0 +1,76 @@
+/*
+ * wrong.c: a library that is wrong in one way, so that a test sees the runner say so.
+ *
+ * The linker puts these in the place of isis_check and isis_create (--wrap). Each
+ * makes the call and then does what WRONG names.
+ */
+#include "isis.h"
+
+uint32_t __real_isis_check(const uint8_t *, isis_size, const uint8_t *, isis_size);
+uint32_t __real_isis_create(uint8_t *, isis_size, uint8_t *, isis_size, const uint16_t *, isis_size,
+                            const uint16_t *, isis_size, const uint8_t *, isis_size, uint32_t *);
+
+enum way {
+    READ_BEHIND_MST,
+    READ_BEFORE_MST,
+    READ_BEHIND_XRF,
+    READ_BEFORE_XRF,
+    READ_BEHIND_DATA,
+    WRITE_BEHIND_MST,
+    WRITE_BEFORE_MST,
+    WRITE_BEHIND_XRF,
+    CHANGE_A_BYTE,
+    ANSWER_ONE_MORE,
+    LEAVE_THE_MFN,
+    READ_AN_ODD_WORD,
+};
+
+static void read_at(const uint8_t *at)
+{
+    (void)*(const volatile uint8_t *)at;
+}
+
+static void write_at(const uint8_t *at)
+{
+    *(volatile uint8_t *)at = 0;
+}
+
+static void read_word(const uint8_t *at)
+{
+    uint32_t word;
+
+    __asm__ volatile("ldr %0, [%1]" : "=r"(word) : "r"(at));
+}
+
+uint32_t __wrap_isis_check(const uint8_t *mst, isis_size mst_len, const uint8_t *xrf, isis_size xrf_len)
+{
+    uint32_t answer = __real_isis_check(mst, mst_len, xrf, xrf_len);
+
+    switch ((enum way)WRONG) {
+    case READ_BEHIND_MST: read_at(mst + mst_len); break;
+    case READ_BEFORE_MST: read_at(mst - 1); break;
+    case READ_BEHIND_XRF: read_at(xrf + xrf_len); break;
+    case READ_BEFORE_XRF: read_at(xrf - 1); break;
+    case WRITE_BEHIND_MST: write_at(mst + mst_len); break;
+    case WRITE_BEFORE_MST: write_at(mst - 1); break;
+    case WRITE_BEHIND_XRF: write_at(xrf + xrf_len); break;
+    case CHANGE_A_BYTE: write_at(mst + 4); break;
+    case ANSWER_ONE_MORE: answer++; break;
+    case READ_AN_ODD_WORD: read_word((const uint8_t *)((uintptr_t)mst | 1)); break;
+    default: break;
+    }
+    return answer;
+}
+
+uint32_t __wrap_isis_create(uint8_t *mst, isis_size mst_len, uint8_t *xrf, isis_size xrf_len, const uint16_t *tags,
+                            isis_size tags_len, const uint16_t *lens, isis_size lens_len, const uint8_t *data,
+                            isis_size data_len, uint32_t *mfn)
+{
+    uint32_t made = 0;
+    uint32_t answer = __real_isis_create(mst, mst_len, xrf, xrf_len, tags, tags_len, lens, lens_len, data, data_len,
+                                         WRONG == LEAVE_THE_MFN ? &made : mfn);
+
+    if (WRONG == READ_BEHIND_DATA)
+        read_at(data + data_len);
+    return answer;
+}

@@ -1,0 +1,22 @@
+//! The lists that every core is given.
+
+use crate::recorder::{Recorder, of_family, of_replay_lists};
+use differential::damage::Damaged;
+use differential::families::{FromFormat, Hostile};
+use differential::random_cards::RandomCards;
+
+/// What a list is called, and how it is made.
+pub type Named = (&'static str, fn() -> Recorder);
+
+/// All lists.
+pub const ALL: [Named; 5] = [
+    ("replay-lists", of_replay_lists),
+    ("lists-from-format", || {
+        of_family(&mut FromFormat::new(), 20_000)
+    }),
+    ("damaged-cards", || {
+        of_family(&mut Damaged::default(), 40_000)
+    }),
+    ("random-cards", || of_family(&mut RandomCards, 15_000)),
+    ("hostile-arguments", || of_family(&mut Hostile, 2_000)),
+];

@@ -1,0 +1,133 @@
+//! What the library takes on a key, as the emulated boards show it: instructions of each
+//! call, its stack, and bytes of flash. Printed as tables and never asserted.
+//!
+//!   ./key-archive && cd host && cargo --offline run --release -p board
+
+use board::core::{CORES, Core, root, run};
+use board::list::List;
+use board::lists::ALL;
+use board::recorder::Recorder;
+use board::runner;
+use std::process::Command;
+
+fn main() {
+    instructions();
+    stack();
+    println!();
+    flash();
+}
+
+/// A line of a table: a name, and a number for each core.
+fn line(name: &str, numbers: &[String]) {
+    let columns: String = numbers
+        .iter()
+        .map(|number| format!("{number:>12}"))
+        .collect();
+    println!("{name:<44}{columns}");
+}
+
+fn heading(name: &str) {
+    line(name, &CORES.map(|core| core.name.to_owned()));
+}
+
+/// What c/count.c says of a core: instructions, and of what.
+fn counted(core: &Core, name: &str, files: &[&str]) -> Vec<(String, String)> {
+    let files = [&["host/board/c/count.c"], files].concat();
+    let program = core.build(name, &files, &[]);
+    let ran = core.run(&program, None, &["-icount", "shift=10,sleep=off"]);
+    assert!(ran.well, "{}: {}", core.name, ran.said);
+    let lines = ran.said.lines().filter_map(|line| line.split_once(' '));
+    lines
+        .map(|(count, of)| (count.to_owned(), of.to_owned()))
+        .collect()
+}
+
+fn instructions() {
+    for (title, name, files) in [
+        ("instructions of a call", "count", &[][..]),
+        (
+            "the same, dividing 32-bit numbers",
+            "count-32",
+            &["host/board/c/divide.c"],
+        ),
+    ] {
+        heading(title);
+        let counts = CORES.map(|core| counted(&core, name, files));
+        for row in 0..counts[0].len() {
+            let numbers: Vec<String> = counts.iter().map(|of| of[row].0.clone()).collect();
+            line(&counts[0][row].1, &numbers);
+        }
+        println!();
+    }
+}
+
+fn stack() {
+    heading("stack of a call, bytes");
+    let mut most = CORES.map(|_| runner::Stack::default());
+    let mut calls: usize = 0;
+    for (name, make) in ALL {
+        let recorder: Recorder = make();
+        calls += recorder.lists.iter().map(List::steps).sum::<usize>();
+        for (core, most) in CORES.iter().zip(&mut most) {
+            let used = runner::run(core, name, &recorder).unwrap_or_else(|words| panic!("{words}"));
+            for (most, used) in most.iter_mut().zip(used) {
+                *most = used.max(*most);
+            }
+        }
+    }
+    for (kind, name) in runner::names().enumerate() {
+        let numbers: Vec<String> = most.iter().map(|of| of[kind].to_string()).collect();
+        line(name, &numbers);
+    }
+    println!("the most over {calls} calls on each core");
+}
+
+/// The functions of the interface, as an archive has them.
+fn functions(core: &Core) -> Vec<String> {
+    let listed = run(Command::new("arm-none-eabi-nm")
+        .args(["-g", "--defined-only"])
+        .arg(core.archive()));
+    let names = listed.lines().filter_map(|line| line.split_once(" T "));
+    names.map(|(_, name)| name.to_owned()).collect()
+}
+
+/// Bytes of the library in a program that calls only one function.
+fn reach(core: &Core, function: &str) -> usize {
+    let program = root().join("target/key").join(core.name).join("reach.elf");
+    run(Command::new("arm-none-eabi-ld")
+        .args([
+            "--gc-sections",
+            "--unresolved-symbols=ignore-all",
+            "-e",
+            function,
+            "-u",
+            function,
+        ])
+        .arg(core.archive())
+        .arg("-o")
+        .arg(&program));
+    code(&[program.to_str().expect("a path in letters")])
+}
+
+/// Bytes of code and constants that `size` finds.
+fn code(words: &[&str]) -> usize {
+    let printed = run(Command::new("arm-none-eabi-size").args(words));
+    let last = printed.lines().last().expect("a line");
+    let first = last.split_whitespace().next().expect("a number");
+    first.parse().expect("a number")
+}
+
+fn flash() {
+    heading("flash, bytes");
+    let archive = CORES.map(|core| {
+        let path = core.archive();
+        code(&["-t", path.to_str().expect("a path in letters")]).to_string()
+    });
+    line("the whole archive", &archive);
+    for function in functions(&CORES[0]) {
+        line(
+            &function,
+            &CORES.map(|core| reach(&core, &function).to_string()),
+        );
+    }
+}

@@ -1,0 +1,62 @@
+//! Runs the model's lists on a board, and reads what the runner says.
+
+use crate::ask;
+use crate::core::Core;
+use crate::recorder::Recorder;
+use model::Call;
+use std::fs;
+
+/// How much stack each call used at most, in bytes, by the call's kind.
+pub type Stack = [usize; KINDS];
+
+/// How many calls there are.
+const KINDS: usize = Call::NAMES.len() + ask::NAMES.len();
+
+/// What the calls are called, by their kind.
+pub fn names() -> impl Iterator<Item = &'static str> {
+    Call::NAMES.into_iter().chain(ask::NAMES)
+}
+
+/// Runs all lists on a core; gives the stack used, or what the board said at the first difference.
+pub fn run(core: &Core, name: &str, recorder: &Recorder) -> Result<Stack, String> {
+    run_with(core, name, recorder, &[], &[])
+}
+
+/// The same with more C files and words for the compiler.
+pub fn run_with(
+    core: &Core,
+    name: &str,
+    recorder: &Recorder,
+    files: &[&str],
+    flags: &[&str],
+) -> Result<Stack, String> {
+    let files = [&["host/board/c/runner.c"], files].concat();
+    let program = core.build(name, &files, flags);
+    let mut stack = Stack::default();
+    for list in &recorder.lists {
+        let path = program.with_extension("list");
+        fs::write(&path, list.bytes()).expect("the list could not be written");
+        let ran = core.run(&program, Some(&path), &[]);
+        let all_steps = ran.said.ends_with(&format!("steps {}\n", list.steps()));
+        if !ran.well || !all_steps {
+            return Err(ran.said);
+        }
+        for line in ran.said.lines() {
+            if let Some((kind, bytes)) = stack_in(line) {
+                stack[kind] = stack[kind].max(bytes);
+            }
+        }
+    }
+    Ok(stack)
+}
+
+/// The two numbers of a line `call KIND made COUNT stack BYTES`.
+fn stack_in(line: &str) -> Option<(usize, usize)> {
+    let words: Vec<&str> = line.split(' ').collect();
+    match words[..] {
+        ["call", kind, "made", _, "stack", bytes] => {
+            Some((kind.parse().ok()?, bytes.parse().ok()?))
+        }
+        _ => None,
+    }
+}

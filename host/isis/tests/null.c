@@ -1,0 +1,51 @@
+/*
+ * null.c: a pointer may be NULL where its length is 0. Every function is called so, for
+ * each area that it is lent; the exit status is the line of the first wrong answer.
+ */
+#include "isis.h"
+
+static uint8_t mst[2 * ISIS_BLOCK], xrf[ISIS_BLOCK];
+
+#define IS(answer, call) \
+    if ((call) != (answer)) \
+    return __LINE__
+
+#define NO_CARD NULL, 0, NULL, 0
+#define CARD mst, sizeof mst, xrf, sizeof xrf
+#define NO_DRAFT NULL, 0, NULL, 0, NULL, 0
+#define NO_LISTS NULL, 0, NULL, 0, NULL, 0
+
+int main(void)
+{
+    isis_size start, len, end, count;
+    uint32_t mfn, next, mark, deleted;
+    uint16_t tag;
+
+    IS(ISIS_BAD_LENGTH, isis_format(NO_CARD));
+    IS(ISIS_BAD_LENGTH, isis_format(mst, sizeof mst, NULL, 0));
+    IS(ISIS_BAD_LENGTH, isis_format(NULL, 0, xrf, sizeof xrf));
+    IS(ISIS_BAD_LENGTH, isis_view(NO_CARD, 1, 24, 1, &start, &len));
+    IS(ISIS_BAD_LENGTH, isis_view_settled(NO_CARD, 1, 24, 1, &start, &len));
+    IS(ISIS_BAD_LENGTH, isis_field(NO_CARD, 1, 0, &tag, &start, &len));
+    IS(ISIS_BAD_LENGTH, isis_field_settled(NO_CARD, 1, 0, &tag, &start, &len));
+    IS(ISIS_BAD_LENGTH, isis_fields(NO_CARD, 1, NO_LISTS, &count));
+    IS(ISIS_BAD_LENGTH, isis_fields_settled(NO_CARD, 1, NO_LISTS, &count));
+    IS(ISIS_BAD_LENGTH, isis_next(NO_CARD, &next, &end));
+    IS(ISIS_BAD_LENGTH, isis_state(NO_CARD, 1, &mark, &deleted));
+    IS(ISIS_BAD_LENGTH, isis_create(NO_CARD, NO_DRAFT, &mfn));
+    IS(ISIS_BAD_LENGTH, isis_update(NO_CARD, 1, NO_DRAFT));
+    IS(ISIS_BAD_LENGTH, isis_delete(NO_CARD, 1));
+    IS(ISIS_BAD_LENGTH, isis_settle(NO_CARD, 1));
+    IS(ISIS_BAD_LENGTH, isis_revert(NO_CARD, 1));
+    IS(ISIS_BAD_LENGTH, isis_check(NO_CARD));
+
+    IS(ISIS_DONE, isis_format(CARD));
+    IS(ISIS_DONE, isis_create(CARD, NO_DRAFT, &mfn));
+    IS(1, mfn);
+    IS(ISIS_DONE, isis_update(CARD, mfn, NO_DRAFT));
+    IS(ISIS_NO_FIELD, isis_field(CARD, mfn, 0, &tag, &start, &len));
+    IS(ISIS_DONE, isis_fields(CARD, mfn, NO_LISTS, &count));
+    IS(0, count);
+    IS(ISIS_DONE, isis_check(CARD));
+    return 0;
+}
