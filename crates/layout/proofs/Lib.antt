@@ -4,6 +4,7 @@ pub mod Zero
 pub mod Floor
 pub mod Codec
 pub mod ControlRecord
+pub mod ControlMoves
 pub mod CrossReference
 pub mod LeaderBytes
 pub mod Answers

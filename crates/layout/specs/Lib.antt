@@ -3,4 +3,5 @@ pub mod Entry
 pub mod CrossReference
 pub mod Control
 pub mod Leader
+pub mod NamedBytes
 pub mod Rows

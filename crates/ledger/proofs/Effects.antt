@@ -61,17 +61,17 @@ module _ (L : Ledger) (c : Call) (d : numberL L c ≡ Done) where
   row-not a true h = refl
   row-not a false h = absurd (number-lowest L c .none d a (h refl))
 
-  fine : (not (lengthsFine L) ≡ true → Applies (refusalsL L c) BadLength) → lengthsFine L ≡ true
-  fine f = row-not BadLength (lengthsFine L) f
+  permitted : (not (lengthsFine L) ≡ true → Applies (refusalsL L c) BadLength) → lengthsFine L ≡ true
+  permitted f = row-not BadLength (lengthsFine L) f
 
   known : (k : ℕ) → (not (lengthsFine L) ≡ true → Applies (refusalsL L c) BadLength) → (not (mfnIn L k) ≡ true → Applies (refusalsL L c) NoMfn) → Known L k
   known k f g =
       let r = in-range L k (row-not NoMfn (mfnIn L k) g) in
-      record { lengths = fine f; low = r .0; high = r .1 }
+      record { lengths = permitted f; low = r .0; high = r .1 }
 
 pub create-lengths : (L : Ledger) (f : Draft) → numberL L (create f) ≡ Done → lengthsFine L ≡ true
 unfolding refusalsL
-create-lengths L f d = fine (store L (create f)) d (λ e. inl (refl, e))
+create-lengths L f d = permitted L (create f) d (λ e. inl (refl, e))
 
 pub does : (L : Ledger) (c : Call) → numberL L c ≡ Done → Does L c (effectOf L c)
 unfolding effectOf refusalsL

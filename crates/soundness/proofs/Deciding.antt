@@ -2,17 +2,13 @@
 -- (`entries-split`). A well-formed record holds its own MFN, and a changed one has its settled version elsewhere; so entries that are right but
 -- for the steps are a `Naming`, and the counting law makes of the walk's count whether they name steps only (`walk-decides`).
 use Prim.Native.Nat.{ℕ, _-_, _≤_}
-use native.Mathlib.Nat.{add-zero}
 use native.Mathlib.Omega.{arith}
 use mathlib.Core.Path.{_≡_, refl, sym, ap, _∙_}
 use mathlib.Core.Logic.{⊎-elim}
 use mathlib.Core.Bool.{Bool, true, false, not, _&&_, cond}
 use mathlib.Core.List.{List, [], _∷_}
 use lib.Dec.{eqb}
-use lib.ListN.{length, length-take}
 use borrow.Author.Tests.{eqb-false, ne-eqb}
-use Rattle.word.specs.Integer.{u32At}
-use Rattle.word.proofs.Integers.{u32-part}
 use Rattle.layout.specs.Entry.{placeAddress}
 use Rattle.layout.specs.Control.{nextOf, endOf}
 use Rattle.layout.specs.Leader.{leaderOf}
@@ -22,22 +18,19 @@ use Rattle.layout.specs.declared.entry.Entry.the-variants.{Gone, Malformed, At}
 use Rattle.layout.proofs.Tests.{tests, and-iff, false-true, not-both, cond-holds}
 use Rattle.record.specs.Record.{recordRight, noBack, backRight}
 use Rattle.record.proofs.Facts.{right-facts}
-use Rattle.store.specs.Reading.{mfnKnown, entryFor, isChanged, recordFrom, recordAt, leaderAt, backAddress, backFine, recordFine, settledRecord, settledFine, versionFine}
+use Rattle.store.specs.Reading.{mfnInRange, entryFor, isChanged, recordFrom, recordAt, leaderAt, backAddress, backFine, recordFine, settledRecord, settledFine, versionFine}
 use Rattle.soundness.specs.Sound.{allTo, elem, implies, steps, arrives, placeSound, entrySound, entriesSound}
-use Rattle.soundness.specs.Passes.{namesOf, entryFine, entriesFine, namedTotal, hit, walkOf}
+use Rattle.soundness.specs.Passes.{namesOf, entryFine, entriesFine, namedTotal, mfnAt, hit, walkOf}
 use Rattle.soundness.proofs.Stepping.{steps-ascend, elem-none, elem-cases}
 use Rattle.soundness.proofs.Counting.{allTo-at, allTo-same, allTo-and, every, Once, ascends-once, Naming, named-all}
+use Rattle.store.specs.Store.{store}
 
 -- ---- an entry that is right but for the steps
 
 module _ (mst : List ℕ) (m : ℕ) where
   -- a well-formed record holds its own MFN
-  right-own : (at : ℕ) (deleted : Bool) → recordRight (recordFrom mst at) m deleted ≡ true → u32At mst at ≡ m
-  unfolding leaderOf
-  right-own at deleted e =
-      let f = right-facts (recordFrom mst at) m deleted e .leader in
-      let s : length (recordFrom mst at) ≤ endOf mst - at = simp length-take (omega arith) in
-      ap (u32At mst) (sym (add-zero at)) ∙ sym (u32-part mst at (endOf mst - at) 0 (omega arith)) ∙ f .mfn
+  right-own : (at : ℕ) (deleted : Bool) → recordRight (recordFrom mst at) m deleted ≡ true → mfnAt mst at ≡ m
+  right-own at deleted e = right-facts (recordFrom mst at) m deleted e .leader .mfn
 
   module _ (p : Place) (f : entryFine mst m (At p) ≡ true) where
     both-fine : (recordFine mst m p ≡ true) × (versionFine mst m p ≡ true)
@@ -48,11 +41,11 @@ module _ (mst : List ℕ) (m : ℕ) where
     unfolding recordFine
     record-both = and-iff (recordRight (recordAt mst p) m (p .deleted)) (backFine (endOf mst) p (leaderAt mst p)) .0 (both-fine .0)
 
-    place-own : u32At mst (placeAddress p) ≡ m
+    place-own : mfnAt mst (placeAddress p) ≡ m
     place-own = right-own (placeAddress p) (p .deleted) (record-both .0)
 
     module _ (c : isChanged (p .mark) ≡ true) where
-      back-own : u32At mst (backAddress (leaderAt mst p)) ≡ m
+      back-own : mfnAt mst (backAddress (leaderAt mst p)) ≡ m
       unfolding versionFine settledFine
       back-own =
           right-own (backAddress (leaderAt mst p)) false
@@ -69,14 +62,14 @@ module _ (mst : List ℕ) (m : ℕ) where
           c)
           (sym q)
 
-    names-own : (a : ℕ) → elem a (namesOf mst (At p)) ≡ true → u32At mst a ≡ m
+    names-own : (a : ℕ) → elem a (namesOf mst (At p)) ≡ true → mfnAt mst a ≡ m
     unfolding namesOf
     names-own a i = ⊎-elim (λ q. rw q place-own) (back (isChanged (p .mark)) refl) (elem-cases a (placeAddress p) rest i)
       where
         rest : List ℕ
         rest = cond (isChanged (p .mark)) (backAddress (leaderAt mst p) ∷ []) []
 
-        back : (t : Bool) → isChanged (p .mark) ≡ t → elem a (cond t (backAddress (leaderAt mst p) ∷ []) []) ≡ true → u32At mst a ≡ m
+        back : (t : Bool) → isChanged (p .mark) ≡ t → elem a (cond t (backAddress (leaderAt mst p) ∷ []) []) ≡ true → mfnAt mst a ≡ m
         back true c j =
             ⊎-elim (λ q. rw q (back-own c)) (λ k. absurd (elem-none a k)) (elem-cases a (backAddress (leaderAt mst p)) [] j)
         back false c j = absurd (elem-none a j)
@@ -89,7 +82,7 @@ module _ (mst : List ℕ) (m : ℕ) where
         go true c = (rw (ne-eqb (placeAddress p) (backAddress (leaderAt mst p)) (back-other c)), (refl, tt))
         go false c = (refl, tt)
 
-  entry-own : (e : Entry) → entryFine mst m e ≡ true → (a : ℕ) → elem a (namesOf mst e) ≡ true → u32At mst a ≡ m
+  entry-own : (e : Entry) → entryFine mst m e ≡ true → (a : ℕ) → elem a (namesOf mst e) ≡ true → mfnAt mst a ≡ m
   unfolding entryFine namesOf
   entry-own Gone f a i = absurd (elem-none a i)
   entry-own Malformed f a i = absurd (false-true f)
@@ -128,41 +121,41 @@ module _ (mst : List ℕ) (m : ℕ) where
 module _ (mst xrf : List ℕ) where
   -- every entry below NXTMFN names addresses of a list only
   allNamed : List ℕ → Bool
-  allNamed l = allTo (nextOf mst - 1) (λ (m : ℕ). every (λ (a : ℕ). elem a l) (namesOf mst (entryFor mst xrf m)))
+  allNamed l = allTo (nextOf mst - 1) (λ (m : ℕ). every (λ (a : ℕ). elem a l) (namesOf mst (entryFor (store mst xrf) m)))
 
-  entries-split : (l : List ℕ) → entriesSound mst xrf l ≡ (entriesFine mst xrf && allNamed l)
+  entries-split : (l : List ℕ) → entriesSound (store mst xrf) l ≡ (entriesFine (store mst xrf) && allNamed l)
   unfolding entriesSound entriesFine allNamed
   entries-split l =
-      allTo-same (nextOf mst - 1) (λ (m : ℕ). entrySound mst l m (entryFor mst xrf m))
-      (λ (m : ℕ). entryFine mst m (entryFor mst xrf m) && every (λ (a : ℕ). elem a l) (namesOf mst (entryFor mst xrf m)))
-      (λ m lo hi. entry-splits mst m l (entryFor mst xrf m))
-      ∙ allTo-and (nextOf mst - 1) (λ (m : ℕ). entryFine mst m (entryFor mst xrf m))
-      (λ (m : ℕ). every (λ (a : ℕ). elem a l) (namesOf mst (entryFor mst xrf m)))
+      allTo-same (nextOf mst - 1) (λ (m : ℕ). entrySound mst l m (entryFor (store mst xrf) m))
+      (λ (m : ℕ). entryFine mst m (entryFor (store mst xrf) m) && every (λ (a : ℕ). elem a l) (namesOf mst (entryFor (store mst xrf) m)))
+      (λ m lo hi. entry-splits mst m l (entryFor (store mst xrf) m))
+      ∙ allTo-and (nextOf mst - 1) (λ (m : ℕ). entryFine mst m (entryFor (store mst xrf) m))
+      (λ (m : ℕ). every (λ (a : ℕ). elem a l) (namesOf mst (entryFor (store mst xrf) m)))
 
-  pub entries-wrong : entriesFine mst xrf ≡ false → (l : List ℕ) → entriesSound mst xrf l ≡ false
+  pub entries-wrong : entriesFine (store mst xrf) ≡ false → (l : List ℕ) → entriesSound (store mst xrf) l ≡ false
   entries-wrong h l = entries-split l ∙ rw h
 
-  module _ (low : 1 ≤ nextOf mst) (fine : entriesFine mst xrf ≡ true) where
-    pub entry-fine : (m : ℕ) → 1 ≤ m → m ≤ nextOf mst - 1 → entryFine mst m (entryFor mst xrf m) ≡ true
+  module _ (low : 1 ≤ nextOf mst) (fine : entriesFine (store mst xrf) ≡ true) where
+    pub entry-fine : (m : ℕ) → 1 ≤ m → m ≤ nextOf mst - 1 → entryFine mst m (entryFor (store mst xrf) m) ≡ true
     unfolding entriesFine
-    entry-fine m lo hi = allTo-at (nextOf mst - 1) (λ (m : ℕ). entryFine mst m (entryFor mst xrf m)) fine m lo hi
+    entry-fine m lo hi = allTo-at (nextOf mst - 1) (λ (m : ℕ). entryFine mst m (entryFor (store mst xrf) m)) fine m lo hi
 
-    naming : Naming (nextOf mst - 1) (mfnKnown mst) (λ (m : ℕ). namesOf mst (entryFor mst xrf m)) (u32At mst)
-    unfolding mfnKnown
+    naming : Naming (nextOf mst - 1) (mfnInRange mst) (λ (m : ℕ). namesOf mst (entryFor (store mst xrf) m)) (mfnAt mst)
+    unfolding mfnInRange
     naming =
         record {
           inside = λ m lo hi. simp tests (lo, omega arith);
           outside = λ m h. let q = simp tests at h in (q .0, omega arith);
-          own = λ m a lo hi. entry-own mst m (entryFor mst xrf m) (entry-fine m lo hi) a;
-          once = λ m lo hi. entry-once mst m (entryFor mst xrf m) (entry-fine m lo hi);
+          own = λ m a lo hi. entry-own mst m (entryFor (store mst xrf) m) (entry-fine m lo hi) a;
+          once = λ m lo hi. entry-once mst m (entryFor (store mst xrf) m) (entry-fine m lo hi);
         }
 
     -- THE COUNTS DECIDE
-    pub walk-decides : walkOf mst xrf (namedTotal mst xrf) ≡ (arrives mst (endOf mst) 64 && entriesSound mst xrf (steps mst (endOf mst) 64))
+    pub walk-decides : walkOf (store mst xrf) (namedTotal (store mst xrf)) ≡ (arrives mst 64 && entriesSound (store mst xrf) (steps mst 64))
     unfolding walkOf hit namedTotal allNamed
     walk-decides =
-        let l : List ℕ = steps mst (endOf mst) 64 in
-        ap (λ (t : Bool). arrives mst (endOf mst) 64 && t)
-        (named-all (nextOf mst - 1) (mfnKnown mst) (λ (m : ℕ). namesOf mst (entryFor mst xrf m)) (u32At mst) naming l
-        (ascends-once l 64 (steps-ascend mst (endOf mst) 64))
+        let l : List ℕ = steps mst 64 in
+        ap (λ (t : Bool). arrives mst 64 && t)
+        (named-all (nextOf mst - 1) (mfnInRange mst) (λ (m : ℕ). namesOf mst (entryFor (store mst xrf) m)) (mfnAt mst) naming l
+        (ascends-once l 64 (steps-ascend mst 64))
         ∙ sym (entries-split l ∙ rw fine))

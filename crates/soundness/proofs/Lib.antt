@@ -1,8 +1,11 @@
 pub mod Stepping
-pub mod Standing
+pub mod SoundEntries
 pub mod Counting
 pub mod Deciding
 pub mod Moves
+pub mod Leaving
 pub mod Writes
+pub mod Asked
+pub mod Touching
 pub mod PassAnswers
 pub mod CheckAnswers

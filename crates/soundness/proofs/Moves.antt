@@ -1,8 +1,8 @@
 -- What a call that writes leaves of a sound store. A call changes the entry of one MFN m, and touches bytes of the MST within m's own record or
 -- from the end on, besides the numbers of the control record. The steps of the walk are apart from each other, and a right record holds its own
 -- MFN, so no step of another MFN is touched: every other entry stands as it stood, and its record and settled version are read as before. What
--- a write does to the two files is told by two records, `MstMoved` and `XrfMoved`; the theorem takes those, and each write of the library has a
--- law that gives one.
+-- a write does to the two files is told by two records, `MstMoved`, which names the control integers that it may change, and `XrfMoved`; the
+-- theorem takes those, and each write of the library has a law that gives one.
 use Prim.Native.Nat.{ℕ, _+_, _-_, _≤_, _<_}
 use native.Mathlib.Omega.{arith}
 use native.Mathlib.Decide.{ℕ-discrete}
@@ -12,13 +12,13 @@ use mathlib.Core.Bool.{Bool, true, false}
 use mathlib.Core.List.{List}
 use lib.ListN.{length, getD}
 use Rattle.word.specs.Overwrite.{overwrite}
-use Rattle.word.proofs.Overwrite.{lt-or-ge, overwrite-length, overwrite-other, overwrite-before}
-use Rattle.word.proofs.Integers.{u16-same, u16-other}
+use Rattle.word.proofs.Overwrite.{lt-or-ge, overwrite-length, overwrite-other}
 use Rattle.layout.specs.Sizes.{capacityOf, endMoved, recordLength}
 use Rattle.layout.specs.Entry.{placeAddress}
 use Rattle.layout.specs.CrossReference.{slotAt, headRight, entryAt, slotFree, withEntry}
 use Rattle.layout.specs.Control.{nextOf, endOf}
 use Rattle.layout.specs.Leader.{leaderOf}
+use Rattle.layout.specs.NamedBytes.{Within, NoByte, ControlByte}
 use Rattle.layout.specs.declared.entry.Mark.{Mark}
 use Rattle.layout.specs.declared.entry.Mark.the-variants.{Settled, Changed, New}
 use Rattle.layout.specs.declared.entry.Place.{Place}
@@ -27,15 +27,18 @@ use Rattle.layout.specs.declared.leader.Leader.{Leader}
 use Rattle.layout.proofs.Tests.{tests}
 use Rattle.layout.proofs.Facts.{well-placed-later, end-moved-facts}
 use Rattle.layout.proofs.ControlRecord.{control-facts, next-placed, end-placed, control-right-placed}
+use Rattle.layout.proofs.ControlMoves.{out-of, control-front}
 use Rattle.layout.proofs.CrossReference.{slot-in, entry-later, entry-gone, with-entry-length, with-entry-byte, with-entry-head, with-entry-free, with-entry-other}
 use Rattle.record.specs.Fields.{Field, fieldsOf}
 use Rattle.record.specs.Record.{recordRight, noBack, backRight}
-use Rattle.record.proofs.Local.{ReadsAs, reads-mfn, reads-mfrl, reads-window}
+use Rattle.record.proofs.Local.{ReadsAs, reads-mfn, reads-window}
 use Rattle.store.specs.Reading.{lengthsPermitted, controlFine, entryFor, recordFrom, recordAt, leaderAt, backAddress, backFine, recordFine, settledRecord, settledFine, currentFields}
 use Rattle.store.proofs.Gates.{fine-facts, BackFacts, back-changed, settled-facts, fine-reads, settled-fine-reads}
 use Rattle.soundness.specs.Sound.{elem, mfrlAt, steps, arrives}
-use Rattle.soundness.proofs.Stepping.{MemberFacts, member-facts, steps-apart, MfrlKept, steps-same, arrives-same, arrives-append, elem-kept, elem-new}
-use Rattle.soundness.proofs.Standing.{PlaceStands, EntryStands, is-gone, is-at, Sound, sound-from}
+use Rattle.soundness.specs.Touching.{MayChange, control-integer, own-record, new-byte, TouchesOnly}
+use Rattle.soundness.proofs.Stepping.{MemberFacts, member-facts, steps-apart, mfrl-kept, MfrlKept, steps-same, arrives-same, arrives-append, elem-kept, elem-new}
+use Rattle.soundness.proofs.SoundEntries.{PlaceStands, EntryStands, is-gone, is-at, Sound, sound-from}
+use Rattle.store.specs.Store.{store}
 
 -- ---- what a write does
 
@@ -47,32 +50,32 @@ pub record XrfMoved (xrf xrf′ : List ℕ) (m : ℕ) : Type 0 where
   pub others : (o : ℕ) → 1 ≤ o → (o ≡ m → ⊥) → (end : ℕ) → entryAt xrf′ end o ≡ entryAt xrf end o
   pub slots : (o : ℕ) → 1 ≤ o → (o ≡ m → ⊥) → slotFree xrf′ o ≡ slotFree xrf o
 
--- the n bytes from an address on lie behind the end, or within m's own record
-pub data Touched (mst xrf : List ℕ) (m at n : ℕ) : Type 0 where
-  beyond : endOf mst ≤ at → Touched mst xrf m at n
-  within : (p : Place) → entryFor mst xrf m ≡ At p → PlaceStands mst m p → placeAddress p ≤ at → at + n ≤ placeAddress p + mfrlAt mst (placeAddress p)
-      → Touched mst xrf m at n
+-- the n bytes from an address on are new bytes at the end, or lie within m's own record
+pub data Touched (mst xrf mst′ : List ℕ) (m at n : ℕ) : Type 0 where
+  beyond : endOf mst ≤ at → at + n ≤ endOf mst′ → Touched mst xrf mst′ m at n
+  within : (p : Place) → entryFor (store mst xrf) m ≡ At p → PlaceStands mst m p → placeAddress p ≤ at → at + n ≤ placeAddress p + leaderAt mst p .mfrl
+      → Touched mst xrf mst′ m at n
 
 -- NXTMFN stays, or goes up by one where MFN m is created
 pub data NextMoved (mst mst′ : List ℕ) (m : ℕ) : Type 0 where
   stays : nextOf mst′ ≡ nextOf mst → m < nextOf mst → NextMoved mst mst′ m
   goes-up : nextOf mst′ ≡ nextOf mst + 1 → m ≡ nextOf mst → NextMoved mst mst′ m
 
--- to the MST: only those n bytes, NXTMFN and the end are others, and each step is a step still
-pub record MstMoved (mst xrf mst′ : List ℕ) (m at n : ℕ) : Type 0 where
+-- to the MST: only those n bytes, and the control integers that `May` names, are others, and each step is a step still
+pub record MstMoved (mst xrf mst′ : List ℕ) (May : ℕ → Type 0) (m at n : ℕ) : Type 0 where
   pub long : length mst′ ≡ length mst
-  pub control : controlFine mst′ xrf ≡ true
+  pub control : controlFine (store mst′ xrf) ≡ true
   pub next : NextMoved mst mst′ m
   pub end-up : endOf mst ≤ endOf mst′
-  pub touched : Touched mst xrf m at n
-  pub front : (i : ℕ) → i < 4 → getD mst′ i 0 ≡ getD mst i 0
-  pub kept : (i : ℕ) → 14 ≤ i → (i < at) ⊎ (at + n ≤ i) → getD mst′ i 0 ≡ getD mst i 0
-  pub way : arrives mst′ (endOf mst′) 64 ≡ true
-  pub steps-kept : (a : ℕ) → elem a (steps mst (endOf mst) 64) ≡ true → elem a (steps mst′ (endOf mst′) 64) ≡ true
+  pub touched : Touched mst xrf mst′ m at n
+  pub named : (i : ℕ) → May i → ControlByte i
+  pub kept : (i : ℕ) → (May i → ⊥) → (i < at) ⊎ (at + n ≤ i) → getD mst′ i 0 ≡ getD mst i 0
+  pub way : arrives mst′ 64 ≡ true
+  pub steps-kept : (a : ℕ) → elem a (steps mst 64) ≡ true → elem a (steps mst′ 64) ≡ true
 
 -- of an MFN that is there already
-pub next-stays : {mst xrf mst′ : List ℕ} {m at n : ℕ} → MstMoved mst xrf mst′ m at n → m < nextOf mst → nextOf mst′ ≡ nextOf mst
-next-stays {mst} {xrf} {mst′} {m} w known = go (w .next)
+pub next-stays : {mst xrf mst′ : List ℕ} {May : ℕ → Type 0} {m at n : ℕ} → MstMoved mst xrf mst′ May m at n → m < nextOf mst → nextOf mst′ ≡ nextOf mst
+next-stays {mst} {xrf} {mst′} {m = m} w known = go (w .next)
   where
     go : NextMoved mst mst′ m → nextOf mst′ ≡ nextOf mst
     go (stays e k) = e
@@ -129,31 +132,31 @@ settled-reads {mst} {m} {p} s c = settled-fine-reads mst m p (s .settled c .fine
 
 -- ---- THE THEOREM
 
-module _ {mst xrf mst′ : List ℕ} {m at n : ℕ} (s : Sound mst xrf) (w : MstMoved mst xrf mst′ m at n) where
+module _ {mst xrf mst′ : List ℕ} {May : ℕ → Type 0} {m at n : ℕ} (s : Sound mst xrf) (w : MstMoved mst xrf mst′ May m at n) where
   -- a step none of whose bytes is touched
   abbrev pub Untouched : ℕ → Type 0
   Untouched a = (i : ℕ) → a ≤ i → i < a + mfrlAt mst a → (i < at) ⊎ (at + n ≤ i)
 
-  member : (a : ℕ) → elem a (steps mst (endOf mst) 64) ≡ true → MemberFacts mst (endOf mst) 64 a
-  member a i = member-facts mst (endOf mst) a 64 (s .way) i
+  member : (a : ℕ) → elem a (steps mst 64) ≡ true → MemberFacts mst 64 a
+  member a i = member-facts mst a 64 (s .way) i
 
   -- where nothing before the end is touched
-  pub step-before : endOf mst ≤ at → (a : ℕ) → elem a (steps mst (endOf mst) 64) ≡ true → Untouched a
+  pub step-before : endOf mst ≤ at → (a : ℕ) → elem a (steps mst 64) ≡ true → Untouched a
   step-before h a e i lo hi = let f = member a e in inl (omega arith)
 
   -- a step other than m's own place
-  pub step-apart : (a : ℕ) → elem a (steps mst (endOf mst) 64) ≡ true
-      → ((p : Place) → entryFor mst xrf m ≡ At p → PlaceStands mst m p → a ≡ placeAddress p → ⊥) → Untouched a
+  pub step-apart : (a : ℕ) → elem a (steps mst 64) ≡ true
+      → ((p : Place) → entryFor (store mst xrf) m ≡ At p → PlaceStands mst m p → a ≡ placeAddress p → ⊥) → Untouched a
   step-apart a e other = go (w .touched)
     where
-      go : Touched mst xrf m at n → Untouched a
-      go (beyond h) = step-before h a e
+      go : Touched mst xrf mst′ m at n → Untouched a
+      go (beyond h k) = step-before h a e
       go (within p q f low high) = λ i lo hi.
           ⊎-elim (λ b. inl (omega arith)) (λ b. inr (omega arith))
-          (steps-apart mst (endOf mst) a (placeAddress p) 64 (s .way) e (f .step) (other p q f))
+          (steps-apart mst a (placeAddress p) 64 (s .way) e (f .step) (other p q f))
 
   -- a step that holds another MFN
-  pub step-other : (o a : ℕ) {deleted : Bool} {l : Leader} {fs : List Field} → (o ≡ m → ⊥) → elem a (steps mst (endOf mst) 64) ≡ true
+  pub step-other : (o a : ℕ) {deleted : Bool} {l : Leader} {fs : List Field} → (o ≡ m → ⊥) → elem a (steps mst 64) ≡ true
       → ReadsAs (recordFrom mst a) o deleted l fs → Untouched a
   step-other o a ne e r =
       step-apart a e
@@ -162,15 +165,15 @@ module _ {mst xrf mst′ : List ℕ} {m at n : ℕ} (s : Sound mst xrf) (w : Mst
       ne (reads-mfn r own))
 
   -- a record that is not touched is read as before
-  pub reads-kept : (o a : ℕ) {deleted : Bool} {l : Leader} {fs : List Field} → elem a (steps mst (endOf mst) 64) ≡ true → Untouched a
+  pub reads-kept : (o a : ℕ) {deleted : Bool} {l : Leader} {fs : List Field} → elem a (steps mst 64) ≡ true → Untouched a
       → ReadsAs (recordFrom mst a) o deleted l fs → ReadsAs (recordFrom mst′ a) o deleted l fs
   reads-kept o a {l = l} e u r =
       let f = member a e in
       let g = control-facts mst′ (capacityOf (length xrf)) (w .control) in
-      let own : mfrlAt mst a ≡ l .mfrl = reads-mfrl mst a (endOf mst - a) r in
+      let own : mfrlAt mst a ≡ l .mfrl = ap (λ (x : Leader). x .mfrl) (r .leader) in
       let up = w .end-up in
       reads-window mst a (endOf mst) r mst′ (endOf mst′) (omega arith) (g .end-in)
-      (λ i lo hi. w .kept i (omega arith) (u i lo (omega arith)))
+      (λ i lo hi. w .kept i (λ b. omega (arith, control-front i (w .named i b))) (u i lo (omega arith)))
 
   -- a place whose record and settled version are not touched
   module _ (o : ℕ) (p : Place) (f : PlaceStands mst o p) (u : Untouched (placeAddress p))
@@ -213,7 +216,7 @@ module _ {mst xrf mst′ : List ℕ} {m at n : ℕ} (s : Sound mst xrf) (w : Mst
       (λ c. step-other o (backAddress (leaderAt mst p)) ne (f .settled c .step) (settled-reads f c))
 
   -- m's own settled version, which is at another step
-  pub settled-kept : (p : Place) → entryFor mst xrf m ≡ At p → PlaceStands mst m p → p .mark ≡ Changed
+  pub settled-kept : (p : Place) → entryFor (store mst xrf) m ≡ At p → PlaceStands mst m p → p .mark ≡ Changed
       → ReadsAs (recordFrom mst′ (backAddress (leaderAt mst p))) m false (leaderOf (settledRecord mst p)) (fieldsOf (settledRecord mst p))
   settled-kept p e f c =
       let a : ℕ = backAddress (leaderAt mst p) in
@@ -226,10 +229,10 @@ module _ {mst xrf mst′ : List ℕ} {m at n : ℕ} (s : Sound mst xrf) (w : Mst
   -- with the XRF
   module _ {xrf′ : List ℕ} (x : XrfMoved xrf xrf′ m) where
     -- the entry of another MFN
-    pub entry-kept : (o : ℕ) → (o ≡ m → ⊥) → 1 ≤ o → o < nextOf mst → entryFor mst′ xrf′ o ≡ entryFor mst xrf o
+    pub entry-kept : (o : ℕ) → (o ≡ m → ⊥) → 1 ≤ o → o < nextOf mst → entryFor (store mst′ xrf′) o ≡ entryFor (store mst xrf) o
     entry-kept o ne low high = x .others o low ne (endOf mst′) ∙ go (s .entries o low high)
       where
-        go : EntryStands mst xrf o → entryAt xrf (endOf mst′) o ≡ entryFor mst xrf o
+        go : EntryStands mst xrf o → entryAt xrf (endOf mst′) o ≡ entryFor (store mst xrf) o
         go (is-gone e) = entry-gone xrf (endOf mst) (endOf mst′) o e ∙ sym e
         go (is-at p e f) = entry-later xrf (endOf mst) o p e (endOf mst′) (w .end-up) ∙ sym e
 
@@ -240,7 +243,7 @@ module _ {mst xrf mst′ : List ℕ} {m at n : ℕ} (s : Sound mst xrf) (w : Mst
         go (is-gone e) = is-gone (entry-kept o ne low high ∙ e)
         go (is-at p e f) = is-at p (entry-kept o ne low high ∙ e) (other-kept o p ne f .stands)
 
-    pub other-same : (o : ℕ) (p : Place) → (o ≡ m → ⊥) → 1 ≤ o → o < nextOf mst → entryFor mst xrf o ≡ At p → SameReading mst mst′ p
+    pub other-same : (o : ℕ) (p : Place) → (o ≡ m → ⊥) → 1 ≤ o → o < nextOf mst → entryFor (store mst xrf) o ≡ At p → SameReading mst mst′ p
     other-same o p ne low high e = go (s .entries o low high)
       where
         go : EntryStands mst xrf o → SameReading mst mst′ p
@@ -288,6 +291,22 @@ module _ {mst xrf mst′ : List ℕ} {m at n : ℕ} (s : Sound mst xrf) (w : Mst
         each o low high (yes e) = rw e own
         each o low high (no ne) = other-stands o ne low (other-known o ne high)
 
+-- ---- what is touched
+
+pub moved-touches : {mst xrf mst′ xrf′ : List ℕ} {May : ℕ → Type 0} {m at n : ℕ} → MstMoved mst xrf mst′ May m at n → XrfMoved xrf xrf′ m
+    → TouchesOnly (store mst xrf) (store mst′ xrf′) m
+moved-touches {mst} {xrf} {mst′} {xrf′} {May} {m} {at} {n} w x =
+    record {
+      mst-length = w .long;
+      xrf-length = x .long;
+      mst-kept = λ i off. w .kept i (λ b. off (control-integer (w .named i b))) (out-of at n i (λ h. off (inside i h (w .touched))));
+      xrf-kept = λ i off. x .kept i (out-of (slotAt m) 4 i off);
+    }
+  where
+    inside : (i : ℕ) → Within at n i → Touched mst xrf mst′ m at n → MayChange (store mst xrf) (store mst′ xrf′) m i
+    inside i h (beyond a b) = new-byte (omega (arith, h .0)) (omega (arith, h .1))
+    inside i h (within p e f a b) = own-record p e (omega (arith, h .0), omega (arith, h .1))
+
 -- ---- the writes: the XRF
 
 pub xrf-same : (xrf : List ℕ) (m : ℕ) → XrfMoved xrf xrf m
@@ -310,93 +329,98 @@ xrf-entry xrf m p low high =
 
 -- nothing, and something within m's own record that leaves its MFRL
 module _ {mst xrf : List ℕ} (s : Sound mst xrf) (m : ℕ) (known : m < nextOf mst) where
-  pub mst-same : MstMoved mst xrf mst m (endOf mst) 0
+  pub mst-same : MstMoved mst xrf mst NoByte m (endOf mst) 0
   mst-same =
       record {
         long = refl;
         control = s .control;
         next = stays refl known;
         end-up = omega arith;
-        touched = beyond (omega arith);
-        front = λ i h. refl;
-        kept = λ i h side. refl;
+        touched = beyond (omega arith) (omega arith);
+        named = λ i b. absurd b;
+        kept = λ i off side. refl;
         way = s .way;
         steps-kept = λ a e. e;
       }
 
-  module _ (p : Place) (e : entryFor mst xrf m ≡ At p) (f : PlaceStands mst m p) (k : ℕ) (bs : List ℕ)
-      (inside : k + length bs ≤ mfrlAt mst (placeAddress p))
-      (same : mfrlAt (overwrite mst (placeAddress p + k) bs) (placeAddress p) ≡ mfrlAt mst (placeAddress p)) where
-    own : MemberFacts mst (endOf mst) 64 (placeAddress p)
-    own = member-facts mst (endOf mst) (placeAddress p) 64 (s .way) (f .step)
+  module _ (p : Place) (e : entryFor (store mst xrf) m ≡ At p) (f : PlaceStands mst m p) (at : ℕ) (bs : List ℕ) (from : placeAddress p ≤ at)
+      (to : at + length bs ≤ placeAddress p + leaderAt mst p .mfrl) where
+    own : MemberFacts mst 64 (placeAddress p)
+    own = member-facts mst (placeAddress p) 64 (s .way) (f .step)
 
-    low : 64 ≤ placeAddress p + k
+    low : 64 ≤ at
     low = let g = own in omega arith
 
-    fits : placeAddress p + k + length bs ≤ length mst
+    fits : at + length bs ≤ length mst
     fits = let g = own in let h = s .numbers in omega arith
 
-    mfrl-kept : MfrlKept mst (overwrite mst (placeAddress p + k) bs) (steps mst (endOf mst) 64)
-    mfrl-kept a i = go (ℕ-discrete a (placeAddress p))
-      where
-        go : Dec (a ≡ placeAddress p) → mfrlAt (overwrite mst (placeAddress p + k) bs) a ≡ mfrlAt mst a
-        go (yes z) = rw z same
-        go (no ne) =
-            let g = member-facts mst (endOf mst) a 64 (s .way) i in
-            let l = fits in
-            u16-other mst (placeAddress p + k) bs (a + 4) (omega arith)
-            (⊎-elim (λ b. inl (omega arith)) (λ b. inr (omega arith)) (steps-apart mst (endOf mst) a (placeAddress p) 64 (s .way) i (f .step) ne))
+    pub within-end : endOf (overwrite mst at bs) ≡ endOf mst
+    within-end = end-placed mst at bs (omega (arith, low)) fits
 
-    pub within-end : endOf (overwrite mst (placeAddress p + k) bs) ≡ endOf mst
-    within-end = end-placed mst (placeAddress p + k) bs (omega (arith, low)) fits
+    module _ (same : mfrlAt (overwrite mst at bs) (placeAddress p) ≡ leaderAt mst p .mfrl) where
+      all-kept : MfrlKept mst (overwrite mst at bs) (steps mst 64)
+      all-kept a i = go (ℕ-discrete a (placeAddress p))
+        where
+          go : Dec (a ≡ placeAddress p) → mfrlAt (overwrite mst at bs) a ≡ mfrlAt mst a
+          go (yes z) = rw z same
+          go (no ne) =
+              let g = member-facts mst a 64 (s .way) i in
+              let l = fits in
+              let end = within-end in
+              mfrl-kept mst (overwrite mst at bs) a (omega arith) (omega arith)
+              (λ j lo hi.
+              overwrite-other mst at bs j (omega arith)
+              (⊎-elim (λ b. inl (omega arith)) (λ b. inr (omega arith)) (steps-apart mst a (placeAddress p) 64 (s .way) i (f .step) ne)))
 
-    pub mst-within : MstMoved mst xrf (overwrite mst (placeAddress p + k) bs) m (placeAddress p + k) (length bs)
-    mst-within =
-        let at : ℕ = placeAddress p + k in
-        let h : 64 ≤ at = low in
-        let l : at + length bs ≤ length mst = fits in
-        let g : MemberFacts mst (endOf mst) 64 (placeAddress p) = own in
-        record {
-          long = overwrite-length mst at bs l;
-          control = control-right-placed mst at bs (omega arith) l (capacityOf (length xrf)) ∙ s .control;
-          next = stays (next-placed mst at bs (omega arith) l) known;
-          end-up = rw within-end (omega arith);
-          touched = within p e f (omega arith) (omega arith);
-          front = λ i b. overwrite-before mst at bs i (omega arith) (omega arith);
-          kept = λ i b side. overwrite-other mst at bs i (omega arith) side;
-          way = rw within-end (arrives-same mst (overwrite mst at bs) (endOf mst) 64 mfrl-kept ∙ s .way);
-          steps-kept = λ a i. rw (within-end, steps-same mst (overwrite mst at bs) (endOf mst) 64 mfrl-kept) i;
-        }
+      pub mst-within : MstMoved mst xrf (overwrite mst at bs) NoByte m at (length bs)
+      mst-within =
+          let h : 64 ≤ at = low in
+          let l : at + length bs ≤ length mst = fits in
+          record {
+            long = overwrite-length mst at bs l;
+            control = control-right-placed mst at bs (omega arith) l (capacityOf (length xrf)) ∙ s .control;
+            next = stays (next-placed mst at bs (omega arith) l) known;
+            end-up = rw within-end (omega arith);
+            touched = within p e f from to;
+            named = λ i b. absurd b;
+            kept = λ i off side. overwrite-other mst at bs i (omega arith) side;
+            way = arrives-same mst (overwrite mst at bs) within-end 64 all-kept ∙ s .way;
+            steps-kept = λ a i. rw (steps-same mst (overwrite mst at bs) within-end 64 all-kept) i;
+          }
 
 -- a record of n bytes at the end
-pub record AppendedTo (mst mst′ : List ℕ) (n : ℕ) : Type 0 where
+pub record AppendedTo (mst mst′ : List ℕ) (May : ℕ → Type 0) (n : ℕ) : Type 0 where
   pub long : length mst′ ≡ length mst
   pub end-is : endOf mst′ ≡ endMoved (endOf mst + n)
-  pub front : (i : ℕ) → i < 4 → getD mst′ i 0 ≡ getD mst i 0
-  pub kept : (i : ℕ) → 14 ≤ i → (i < endOf mst) ⊎ (endOf mst + n ≤ i) → getD mst′ i 0 ≡ getD mst i 0
+  pub named : (i : ℕ) → May i → ControlByte i
+  pub kept : (i : ℕ) → (May i → ⊥) → (i < endOf mst) ⊎ (endOf mst + n ≤ i) → getD mst′ i 0 ≡ getD mst i 0
 
-module _ {mst xrf mst′ : List ℕ} {n : ℕ} (s : Sound mst xrf) (a : AppendedTo mst mst′ n) (size : recordLength n ≡ true)
+module _ {mst xrf mst′ : List ℕ} {May : ℕ → Type 0} {n : ℕ} (s : Sound mst xrf) (a : AppendedTo mst mst′ May n) (size : recordLength n ≡ true)
     (mfrl : mfrlAt mst′ (endOf mst) ≡ n) where
-  end-kept : MfrlKept mst mst′ (steps mst (endOf mst) 64)
-  end-kept b i =
-      let g = member-facts mst (endOf mst) b 64 (s .way) i in
-      u16-same mst′ mst (b + 4) (b + 4) (λ j h. a .kept (b + 4 + j) (omega arith) (inl (omega arith)))
+  all-kept-before : MfrlKept mst mst′ (steps mst 64)
+  all-kept-before b i =
+      let g = member-facts mst b 64 (s .way) i in
+      let h = end-moved-facts (endOf mst + n) in
+      let e = a .end-is in
+      mfrl-kept mst mst′ b (omega arith) (omega arith)
+      (λ j lo hi. a .kept j (λ c. omega (arith, control-front j (a .named j c))) (inl (omega arith)))
 
-  pub mst-append : {m : ℕ} → controlFine mst′ xrf ≡ true → NextMoved mst mst′ m → MstMoved mst xrf mst′ m (endOf mst) n
+  pub mst-append : {m : ℕ} → controlFine (store mst′ xrf) ≡ true → NextMoved mst mst′ m → MstMoved mst xrf mst′ May m (endOf mst) n
   mst-append control next =
       let g = end-moved-facts (endOf mst + n) in
+      let e = a .end-is in
       record {
         long = a .long;
         control = control;
         next = next;
-        end-up = rw (a .end-is) (omega arith);
-        touched = beyond (omega arith);
-        front = a .front;
+        end-up = omega arith;
+        touched = beyond (omega arith) (omega arith);
+        named = a .named;
         kept = a .kept;
-        way = rw (a .end-is) (arrives-append mst mst′ (endOf mst) n size mfrl 64 (s .way) end-kept);
-        steps-kept = λ b i. rw (a .end-is) (elem-kept mst mst′ (endOf mst) n size mfrl 64 (s .way) end-kept b i);
+        way = arrives-append mst mst′ n size mfrl (a .end-is) 64 (s .way) all-kept-before;
+        steps-kept = elem-kept mst mst′ n size mfrl (a .end-is) 64 (s .way) all-kept-before;
       }
 
   -- the new record stands at a step
-  pub append-step : elem (endOf mst) (steps mst′ (endOf mst′) 64) ≡ true
-  append-step = rw (a .end-is) (elem-new mst mst′ (endOf mst) n size mfrl 64 (s .way) end-kept)
+  pub append-step : elem (endOf mst) (steps mst′ 64) ≡ true
+  append-step = elem-new mst mst′ n size mfrl (a .end-is) 64 (s .way) all-kept-before

@@ -12,7 +12,6 @@ use lib.ListN.{length}
 use borrow.Author.Tests.{le-leb, lt-leb, le-ltb, eq-eqb, ne-eqb, not-true, not-false}
 use types.Run.{OneOf}
 use denote.Enum.Declared.{tagOf}
-use Rattle.word.specs.Integer.{u16At, u32At}
 use Rattle.word.specs.Overwrite.{part}
 use Rattle.layout.specs.Sizes.{capacityOf, addressOf, endMoved, recordLength}
 use Rattle.layout.specs.Entry.{placeAddress}
@@ -32,44 +31,48 @@ use Rattle.layout.proofs.Tests.{and-false, and-left}
 use Rattle.layout.proofs.Facts.{well-placed-facts}
 use Rattle.layout.proofs.CrossReference.{entry-well-placed}
 use Rattle.store.specs.Answer.{numberOf, after}
-use Rattle.store.specs.Reading.{mfnKnown, entryFor, placeIn, isMalformed, isGone, isChanged, leaderAt, backAddress, recordFine, versionFine}
-use Rattle.store.specs.Steps.{gateOf, knownIf, knownBoth}
-use Rattle.store.specs.Views.{knownAnswer}
+use Rattle.store.specs.Reading.{mfnInRange, entryFor, placeIn, isMalformed, isGone, isChanged, recordFrom, leaderAt, backAddress, recordFine, versionFine}
+use Rattle.store.specs.Gate.{gateOf, knownIf, knownBoth, knownAnswer}
 use Rattle.store.specs.declared.answer.Answer.{Answer}
-use Rattle.store.specs.declared.answer.Answer.the-variants.{Done, BadEntry, PhysicallyDeleted, BadRecord}
+use Rattle.store.specs.declared.answer.Answer.the-variants.{Done, BadEntry, Gone as GoneAnswer, BadRecord}
 use Rattle.store.specs.declared.gate.Gate.the-variants.{Open}
 use Rattle.store.specs.declared.gate.Known.{Known}
 use Rattle.store.specs.declared.gate.Known.the-variants.{Record, Refused}
 use Rattle.store.proofs.Gates.{gate-open, open-end, open-end-in, open-xrf, open-capacity, open-known, open-entry, fine-facts, back-changed}
-use Rattle.soundness.specs.Sound.{allTo, elem, implies, restFree, stepRight, nextStep, steps, arrives}
-use Rattle.soundness.specs.Passes.{bit, count, sumTo, namesOf, entryFine, entriesFine, namedTotal, tallyOf, entryTally, namedUnder, refusedTally, hit, walkOf, Names}
+use Rattle.soundness.specs.Sound.{allTo, elem, implies, restFree, mfrlAt, stepRight, nextStep, steps, arrives}
+use Rattle.soundness.specs.Passes.{bit, count, sumTo, namesOf, entryFine, entriesFine, namedTotal, tallyOf, entryTally, namedUnder, refusedTally, mfnAt, hit, walkOf, Names}
 use Rattle.soundness.specs.declared.passes.Tally.{Tally}
 use Rattle.soundness.specs.declared.passes.Tally.the-variants.{Named, Wrong}
 use Rattle.soundness.proofs.Stepping.{next-up, next-near, steps-more, steps-end, arrives-more, arrives-end}
 use Rattle.soundness.proofs.Counting.{Passed, passed-before, passed-none, passed-more, passed-fails, passed-done, bit-le, sumTo-more}
 use Rattle.soundness.proofs.Deciding.{entry-fine}
+use Rattle.store.specs.Store.{store}
 
 -- ---- stepping
 
-module _ (mst : List ℕ) (end s n : ℕ) (e : n ≡ u16At mst (s + 4)) where
-  module _ (t : Bool) (h : t ≡ recordLength n) where
-    pub step-wrong : not t ≡ true → false ≡ stepRight mst end s
-    unfolding stepRight
-    step-wrong q = rw (← e, ← h, not-true t q)
+-- the leader that is read at a step
+module _ (mst : List ℕ) (end s : ℕ) (h : end ≡ endOf mst) (l : Leader) (u : l ≡ leaderOf (part mst s (end - s))) where
+  step-leader : l ≡ leaderOf (recordFrom mst s)
+  step-leader = u ∙ rw h
 
-    pub step-rest : not t ≡ false → leb (s + n) end ≡ stepRight mst end s
-    unfolding stepRight
-    step-rest q = rw (← e, ← h, not-false t q)
+  module _ (n : ℕ) (e : n ≡ l .mfrl) where
+    mfrl-is : n ≡ mfrlAt mst s
+    mfrl-is = e ∙ ap (λ (x : Leader). x .mfrl) step-leader
 
-  pub next-on : (t : Bool) (r : ℕ) → t ≡ stepRight mst end s → not t ≡ false → r ≡ endMoved (s + n) → r ≡ nextStep mst end s
-  unfolding nextStep
-  next-on t r h q f = rw (f, ← e, ← h, not-false t q)
+    module _ (t : Bool) (r : t ≡ recordLength n) where
+      pub next-wrong : not t ≡ true → end + 1 ≡ nextStep mst s
+      unfolding nextStep stepRight
+      next-wrong q = rw (← mfrl-is, ← r, not-true t q, h)
 
-pub next-past : (mst : List ℕ) (end s : ℕ) (t : Bool) → t ≡ stepRight mst end s → not t ≡ true → end + 1 ≡ nextStep mst end s
-unfolding nextStep
-next-past mst end s t h q = rw (← h, not-true t q)
+      pub next-outside : end < s + n → end + 1 ≡ nextStep mst s
+      unfolding nextStep stepRight
+      next-outside q = rw (← mfrl-is, lt-leb (s + n) (endOf mst) (omega arith), and-false, h)
 
-pub ruleset step-answers = (step-wrong, step-rest, next-on, next-past, arith)
+      pub next-on : not t ≡ false → s + n ≤ end → (a : ℕ) → a ≡ endMoved (s + n) → a ≡ nextStep mst s
+      unfolding nextStep stepRight
+      next-on q k a f = rw (f, ← mfrl-is, ← r, not-false t q, le-leb (s + n) (endOf mst) (omega arith))
+
+pub ruleset step-answers = (next-wrong, next-outside, next-on, arith)
 
 -- ---- the XRF
 
@@ -109,7 +112,7 @@ pub ruleset free-answers = (free-none, free-more, free-fails, free-done, arith)
 
 -- ---- behind an open gate
 
-module _ (mst xrf : List ℕ) (next : Mfn) (end : ℕ) (g : gateOf mst xrf ≡ Open next end) where
+module _ (mst xrf : List ℕ) (next : Mfn) (end : ℕ) (g : gateOf (store mst xrf) ≡ Open next end) where
   pub open-next : next .0 ≡ nextOf mst
   open-next = gate-open mst xrf next end g .next-is
 
@@ -125,9 +128,6 @@ module _ (mst xrf : List ℕ) (next : Mfn) (end : ℕ) (g : gateOf mst xrf ≡ O
   pub open-mst : length mst ≤ 536870400
   open-mst = gate-open mst xrf next end g .sizes .mst-high
 
-  pub open-step : (s : ℕ) → s + 18 ≤ end → s + 4 ≤ length mst
-  open-step s h = let f = gate-open mst xrf next end g in omega arith
-
 -- ---- the first pass
 
 pub refused-gone : (a : Answer) (n : ℕ) → n ≡ numberOf a → n ≡ 7 → Named 0 ≡ refusedTally a
@@ -138,18 +138,18 @@ refused-other a n e h = rw (← e, ne-eqb n 7 h)
 
 -- the record of a known MFN with its settled version, by the kind of entry
 knownEntry : List ℕ → ℕ → Entry → Known
-knownEntry mst m Gone = Refused PhysicallyDeleted
+knownEntry mst m Gone = Refused GoneAnswer
 knownEntry mst m Malformed = Refused BadEntry
 knownEntry mst m (At p) = cond (recordFine mst m p && versionFine mst m p) (Record p (leaderAt mst p)) (Refused BadRecord)
 
-both-entry : (mst xrf : List ℕ) (m : ℕ) → mfnKnown mst m ≡ true → knownBoth mst xrf m ≡ knownEntry mst m (entryFor mst xrf m)
+both-entry : (mst xrf : List ℕ) (m : ℕ) → mfnInRange mst m ≡ true → knownBoth (store mst xrf) m ≡ knownEntry mst m (entryFor (store mst xrf) m)
 unfolding knownBoth knownIf after numberOf knownEntry
-both-entry mst xrf m k = rw k (go (entryFor mst xrf m))
+both-entry mst xrf m k = rw k (go (entryFor (store mst xrf) m))
   where
     refusal : Entry → Answer
     refusal e =
         cond (isMalformed e) BadEntry
-        (cond (isGone e) PhysicallyDeleted
+        (cond (isGone e) GoneAnswer
         (cond (not (recordFine mst m (placeIn e) && versionFine mst m (placeIn e))) BadRecord Done))
 
     go : (e : Entry) → after (refusal e) (Record (placeIn e) (leaderAt mst (placeIn e))) (Refused (refusal e)) ≡ knownEntry mst m e
@@ -180,25 +180,25 @@ tally-entry mst m (At p) = go (recordFine mst m p && versionFine mst m p) (isCha
     go true false c = rw c
     go false t c = refl
 
-module _ (mst xrf : List ℕ) (next : Mfn) (end : ℕ) (g : gateOf mst xrf ≡ Open next end) where
-  module _ (m : ℕ) (lo : 1 ≤ m) (hi : m < next .0) (k : Known) (e : k ≡ knownBoth mst xrf m) where
-    counted : tallyKnown k ≡ entryTally mst m (entryFor mst xrf m)
-    counted = ap tallyKnown (e ∙ both-entry mst xrf m (open-known mst xrf next end g m lo hi)) ∙ tally-entry mst m (entryFor mst xrf m)
+module _ (mst xrf : List ℕ) (next : Mfn) (end : ℕ) (g : gateOf (store mst xrf) ≡ Open next end) where
+  module _ (m : ℕ) (lo : 1 ≤ m) (hi : m < next .0) (k : Known) (e : k ≡ knownBoth (store mst xrf) m) where
+    counted : tallyKnown k ≡ entryTally mst m (entryFor (store mst xrf) m)
+    counted = ap tallyKnown (e ∙ both-entry mst xrf m (open-known mst xrf next end g m lo hi)) ∙ tally-entry mst m (entryFor (store mst xrf) m)
 
-    pub tally-refused : (a b : Answer) (r : Tally) → k ≡ Refused a → b ≡ knownAnswer k → r ≡ refusedTally b → r ≡ entryTally mst m (entryFor mst xrf m)
+    pub tally-refused : (a b : Answer) (r : Tally) → k ≡ Refused a → b ≡ knownAnswer k → r ≡ refusedTally b → r ≡ entryTally mst m (entryFor (store mst xrf) m)
     unfolding tallyKnown
     tally-refused a b r q u v =
         let w : b ≡ a = u ∙ ap knownAnswer q in
         v ∙ ap refusedTally w ∙ sym (ap tallyKnown q) ∙ counted
 
-    pub tally-found : (p : Place) (l : Leader) (n : ℕ) → k ≡ Record p l → n ≡ namedUnder (p .mark) → Named n ≡ entryTally mst m (entryFor mst xrf m)
+    pub tally-found : (p : Place) (l : Leader) (n : ℕ) → k ≡ Record p l → n ≡ namedUnder (p .mark) → Named n ≡ entryTally mst m (entryFor (store mst xrf) m)
     unfolding tallyKnown
     tally-found p l n q u = ap Named u ∙ sym (ap tallyKnown q) ∙ counted
 
 -- the tally of the entries before m
 pub record Tallied (mst xrf : List ℕ) (m named : ℕ) : Type 0 where
-  pub fine : Passed (λ (i : ℕ). entryFine mst i (entryFor mst xrf i)) m
-  pub named-is : named ≡ sumTo (m - 1) (λ (i : ℕ). length (namesOf mst (entryFor mst xrf i)))
+  pub fine : Passed (λ (i : ℕ). entryFine mst i (entryFor (store mst xrf) i)) m
+  pub named-is : named ≡ sumTo (m - 1) (λ (i : ℕ). length (namesOf mst (entryFor (store mst xrf) i)))
   pub few : named ≤ 2 * (m - 1)
 
 -- a tally tells both of its parts
@@ -223,40 +223,40 @@ names-few mst (At p) = go (isChanged (p .mark))
 module _ (mst xrf : List ℕ) where
   pub tally-none : Tallied mst xrf 1 0
   unfolding sumTo
-  tally-none = record { fine = passed-none (λ (i : ℕ). entryFine mst i (entryFor mst xrf i)); named-is = refl; few = omega arith }
+  tally-none = record { fine = passed-none (λ (i : ℕ). entryFine mst i (entryFor (store mst xrf) i)); named-is = refl; few = omega arith }
 
-  module _ (m : ℕ) (t : Tally) (e : t ≡ entryTally mst m (entryFor mst xrf m)) where
+  module _ (m : ℕ) (t : Tally) (e : t ≡ entryTally mst m (entryFor (store mst xrf) m)) where
     module _ (n : ℕ) (h : t ≡ Named n) where
-      parts : (entryFine mst m (entryFor mst xrf m) ≡ true) × (length (namesOf mst (entryFor mst xrf m)) ≡ n)
+      parts : (entryFine mst m (entryFor (store mst xrf) m) ≡ true) × (length (namesOf mst (entryFor (store mst xrf) m)) ≡ n)
       unfolding entryTally
-      parts = named-parts (entryFine mst m (entryFor mst xrf m)) (length (namesOf mst (entryFor mst xrf m))) n (sym e ∙ h)
+      parts = named-parts (entryFine mst m (entryFor (store mst xrf) m)) (length (namesOf mst (entryFor (store mst xrf) m))) n (sym e ∙ h)
 
       pub tally-few : n ≤ 2
-      tally-few = omega (arith, parts .1, names-few mst (entryFor mst xrf m))
+      tally-few = omega (arith, parts .1, names-few mst (entryFor (store mst xrf) m))
 
       pub tally-more : (named : ℕ) → 1 ≤ m → Tallied mst xrf m named → Tallied mst xrf (m + 1) (named + n)
       tally-more named lo w =
-          let s = sumTo-more m (λ (i : ℕ). length (namesOf mst (entryFor mst xrf i))) lo in
+          let s = sumTo-more m (λ (i : ℕ). length (namesOf mst (entryFor (store mst xrf) i))) lo in
           record {
-            fine = passed-more (λ (i : ℕ). entryFine mst i (entryFor mst xrf i)) m lo (w .fine) (parts .0);
+            fine = passed-more (λ (i : ℕ). entryFine mst i (entryFor (store mst xrf) i)) m lo (w .fine) (parts .0);
             named-is = omega (arith, w .named-is, parts .1, s);
             few = omega (arith, w .few, tally-few);
           }
 
-    pub tally-wrong : (next : Mfn) (end : ℕ) → gateOf mst xrf ≡ Open next end → t ≡ Wrong → 1 ≤ m → m < next .0 → Wrong ≡ tallyOf mst xrf
+    pub tally-wrong : (next : Mfn) (end : ℕ) → gateOf (store mst xrf) ≡ Open next end → t ≡ Wrong → 1 ≤ m → m < next .0 → Wrong ≡ tallyOf (store mst xrf)
     unfolding tallyOf entriesFine entryTally
     tally-wrong next end g h lo hi =
         let n = open-next mst xrf next end g in
-        let f = wrong-part (entryFine mst m (entryFor mst xrf m)) (length (namesOf mst (entryFor mst xrf m))) (sym e ∙ h) in
-        rw (sym (passed-fails (λ (i : ℕ). entryFine mst i (entryFor mst xrf i)) m (nextOf mst - 1) lo (omega arith) f))
+        let f = wrong-part (entryFine mst m (entryFor (store mst xrf) m)) (length (namesOf mst (entryFor (store mst xrf) m))) (sym e ∙ h) in
+        rw (sym (passed-fails (λ (i : ℕ). entryFine mst i (entryFor (store mst xrf) i)) m (nextOf mst - 1) lo (omega arith) f))
 
-  pub tally-done : (m named : ℕ) (next : Mfn) (end : ℕ) → gateOf mst xrf ≡ Open next end → Tallied mst xrf m named → m ≤ next .0 → next .0 ≤ m
-      → Named named ≡ tallyOf mst xrf
+  pub tally-done : (m named : ℕ) (next : Mfn) (end : ℕ) → gateOf (store mst xrf) ≡ Open next end → Tallied mst xrf m named → m ≤ next .0 → next .0 ≤ m
+      → Named named ≡ tallyOf (store mst xrf)
   unfolding tallyOf entriesFine namedTotal
   tally-done m named next end g w lo hi =
       let l = open-low mst xrf next end g in
       let h : m ≡ nextOf mst = omega (arith, open-next mst xrf next end g) in
-      let f = passed-done (λ (i : ℕ). entryFine mst i (entryFor mst xrf i)) m (nextOf mst - 1) (w .fine) (omega arith) (omega arith) in
+      let f = passed-done (λ (i : ℕ). entryFine mst i (entryFor (store mst xrf) i)) m (nextOf mst - 1) (w .fine) (omega arith) (omega arith) in
       rw (sym f) (ap Named (rw h at (w .named-is)))
 
 pub ruleset tally-answers =
@@ -310,108 +310,114 @@ no-names mst Gone s o = refl
 no-names mst Malformed s o = refl
 no-names mst (At p) s o = ⊎-elim (λ (z : _≡_ {A = ℕ} 2 0). absurd (omega arith)) (λ (z : _≡_ {A = ℕ} 2 1). absurd (omega arith)) o
 
-module _ (mst xrf : List ℕ) (s m : ℕ) (e : m ≡ u32At mst s) where
-  pub hit-low : m < 1 → 0 ≡ bit (hit mst xrf s)
-  unfolding bit hit mfnKnown
+module _ (mst xrf : List ℕ) (next : Mfn) (end : ℕ) (g : gateOf (store mst xrf) ≡ Open next end) (s : ℕ) (l : Leader) (v : l ≡ leaderOf (part mst s (end - s)))
+    (m : ℕ) (w : m ≡ l .mfn .0) where
+  e : m ≡ mfnAt mst s
+  e = w ∙ ap (λ (x : Leader). x .mfn .0) (step-leader mst end s (open-end mst xrf next end g) l v)
+
+  pub hit-low : m < 1 → 0 ≡ bit (hit (store mst xrf) s)
+  unfolding bit hit mfnInRange
   hit-low h = rw (← e, lt-leb 1 m h)
 
-  module _ (next : Mfn) (end : ℕ) (g : gateOf mst xrf ≡ Open next end) where
-    pub hit-high : next .0 ≤ m → 0 ≡ bit (hit mst xrf s)
-    unfolding bit hit mfnKnown
-    hit-high h =
-        let f = gate-open mst xrf next end g in
-        let k : nextOf mst ≤ m = omega arith in
-        rw (← e, le-ltb m (nextOf mst) k, and-false)
+  pub hit-high : next .0 ≤ m → 0 ≡ bit (hit (store mst xrf) s)
+  unfolding bit hit mfnInRange
+  hit-high h =
+      let f = gate-open mst xrf next end g in
+      let k : nextOf mst ≤ m = omega arith in
+      rw (← e, le-ltb m (nextOf mst) k, and-false)
 
-    module _ (lo : 1 ≤ m) (hi : m < next .0) (n : Entry) (u : n ≡ entryAt xrf end m) where
-      entry-is : entryFor mst xrf m ≡ n
-      entry-is = open-entry mst xrf next end g m n u
+  module _ (lo : 1 ≤ m) (hi : m < next .0) (n : Entry) (u : n ≡ entryAt xrf end m) where
+    entry-is : entryFor (store mst xrf) m ≡ n
+    entry-is = open-entry mst xrf next end g m n u
 
-      hit-is : hit mst xrf s ≡ elem s (namesOf mst n)
-      unfolding hit
-      hit-is = rw (← e, open-known mst xrf next end g m lo hi, entry-is)
+    hit-is : hit (store mst xrf) s ≡ elem s (namesOf mst n)
+    unfolding hit
+    hit-is = rw (← e, open-known mst xrf next end g m lo hi, entry-is)
 
-      pub hit-no-place : OneOf (0 ∷ 1 ∷ []) (tagOf entry.the-type n) → 0 ≡ bit (hit mst xrf s)
-      unfolding bit
-      hit-no-place o = rw (hit-is, no-names mst n s o)
+    pub hit-no-place : OneOf (0 ∷ 1 ∷ []) (tagOf entry.the-type n) → 0 ≡ bit (hit (store mst xrf) s)
+    unfolding bit
+    hit-no-place o = rw (hit-is, no-names mst n s o)
 
-      module _ (p : Place) (h : n ≡ At p) where
-        pub hit-told : (r : ℕ) → r ≡ bit (elem s (namesOf mst (At p))) → r ≡ bit (hit mst xrf s)
-        hit-told r q = q ∙ ap bit (sym (hit-is ∙ ap (λ (x : Entry). elem s (namesOf mst x)) h))
+    module _ (p : Place) (h : n ≡ At p) where
+      pub hit-told : (r : ℕ) → r ≡ bit (elem s (namesOf mst (At p))) → r ≡ bit (hit (store mst xrf) s)
+      hit-told r q = q ∙ ap bit (sym (hit-is ∙ ap (λ (x : Entry). elem s (namesOf mst x)) h))
 
-        place-fine : entriesFine mst xrf ≡ true → recordFine mst m p ≡ true
-        unfolding entryFine
-        place-fine fine =
-            let f = gate-open mst xrf next end g in
-            let q : entryFine mst m (At p) ≡ true =
-            sym (ap (entryFine mst m) (entry-is ∙ h)) ∙ entry-fine mst xrf (f .next-low) fine m lo (omega arith) in
-            and-left (recordFine mst m p) (versionFine mst m p) q
+      place-fine : entriesFine (store mst xrf) ≡ true → recordFine mst m p ≡ true
+      unfolding entryFine
+      place-fine fine =
+          let f = gate-open mst xrf next end g in
+          let q : entryFine mst m (At p) ≡ true =
+          sym (ap (entryFine mst m) (entry-is ∙ h)) ∙ entry-fine mst xrf (f .next-low) fine m lo (omega arith) in
+          and-left (recordFine mst m p) (versionFine mst m p) q
 
-        pub hit-names : entriesFine mst xrf ≡ true → Names mst end p
-        hit-names fine =
-            let f = gate-open mst xrf next end g in
-            let w = well-placed-facts end (p .block .0) (p .offset) (entry-well-placed xrf end m p (sym u ∙ h)) in
-            record {
-              end-is = f .end-is;
-              end-in = omega arith;
-              block = w .block;
-              room = w .room;
-              back-block =
-                  λ c. back-changed (endOf mst) p (leaderAt mst p) (fine-facts mst m p (place-fine fine) .back) c .facts .block;
-            }
+      pub hit-names : entriesFine (store mst xrf) ≡ true → Names mst end p
+      hit-names fine =
+          let f = gate-open mst xrf next end g in
+          let w = well-placed-facts end (p .block .0) (p .offset) (entry-well-placed xrf end m p (sym u ∙ h)) in
+          record {
+            end-is = f .end-is;
+            end-in = omega arith;
+            block = w .block;
+            room = w .room;
+            back-block =
+                λ c. back-changed (endOf mst) p (leaderAt mst p) (fine-facts mst m p (place-fine fine) .back) c .facts .block;
+          }
 
 pub ruleset hit-answers =
-    (hit-place, hit-no-back, hit-block, hit-back, hit-not-back, hit-low, hit-high, hit-no-place, hit-told, hit-names, open-step, open-capacity, open-xrf, arith)
+    (hit-place, hit-no-back, hit-block, hit-back, hit-not-back, hit-low, hit-high, hit-no-place, hit-told, hit-names, open-end-in, open-capacity, open-xrf, arith)
 
 pub bit-small : (r : ℕ) (b : Bool) → r ≡ bit b → r ≤ 1
 bit-small r b e = omega (arith, bit-le b)
 
 -- the walk has come to `at`
 pub record Walked (mst xrf : List ℕ) (end hits at : ℕ) : Type 0 where
-  pub hits-are : count (hit mst xrf) (steps mst end 64) ≡ hits + count (hit mst xrf) (steps mst end at)
-  pub way : arrives mst end 64 ≡ arrives mst end at
+  pub end-is : end ≡ endOf mst
+  pub hits-are : count (hit (store mst xrf)) (steps mst 64) ≡ hits + count (hit (store mst xrf)) (steps mst at)
+  pub way : arrives mst 64 ≡ arrives mst at
   pub few : hits ≤ at
   pub near : at ≤ end + 12
 
 module _ (mst xrf : List ℕ) (end : ℕ) where
-  pub walk-none : (next : Mfn) → gateOf mst xrf ≡ Open next end → Walked mst xrf end 0 64
+  pub walk-none : (next : Mfn) → gateOf (store mst xrf) ≡ Open next end → Walked mst xrf end 0 64
   walk-none next g =
       let h = open-end-low mst xrf next end g in
-      record { hits-are = omega arith; way = refl; few = omega arith; near = omega arith }
+      record { end-is = open-end mst xrf next end g; hits-are = omega arith; way = refl; few = omega arith; near = omega arith }
 
   module _ (hits at : ℕ) (w : Walked mst xrf end hits at) where
-    pub walk-more : (r next : ℕ) → at + 18 ≤ end → r ≡ bit (hit mst xrf at) → next ≡ nextStep mst end at → Walked mst xrf end (hits + r) next
-    unfolding count
-    walk-more r next room h n =
-        let q : count (hit mst xrf) (steps mst end 64) ≡ hits + (bit (hit mst xrf at) + count (hit mst xrf) (steps mst end (nextStep mst end at))) =
-        rw (steps-more mst end at room) at (w .hits-are) in
-        rw n
-        (record {
-          hits-are = omega (arith, q, h);
-          way = w .way ∙ arrives-more mst end at room;
-          few = omega (arith, w .few, h, bit-le (hit mst xrf at), next-up mst end at room);
-          near = next-near mst end at room;
-        })
+    module _ (fits : at + 18 ≤ end) where
+      room : at + 18 ≤ endOf mst
+      room = omega (arith, w .end-is)
 
-    module _ (named : ℕ) (next : Mfn) (g : gateOf mst xrf ≡ Open next end) (full : end < at + 18) where
-      end-is : end ≡ endOf mst
-      end-is = open-end mst xrf next end g
+      pub walk-more : (r next : ℕ) → r ≡ bit (hit (store mst xrf) at) → next ≡ nextStep mst at → Walked mst xrf end (hits + r) next
+      unfolding count
+      walk-more r next h n =
+          let q : count (hit (store mst xrf)) (steps mst 64) ≡ hits + (bit (hit (store mst xrf) at) + count (hit (store mst xrf)) (steps mst (nextStep mst at))) =
+          rw (steps-more mst at room) at (w .hits-are) in
+          rw n
+          (record {
+            end-is = w .end-is;
+            hits-are = omega (arith, q, h);
+            way = w .way ∙ arrives-more mst at room;
+            few = omega (arith, w .few, h, bit-le (hit (store mst xrf) at), next-up mst at room);
+            near = omega (arith, w .end-is, next-near mst at room);
+          })
 
-      arrived : arrives mst (endOf mst) 64 ≡ eqb at end
-      arrived = rw (← end-is) (w .way ∙ arrives-end mst end at full)
+      pub walk-rises : (next : ℕ) → next ≡ nextStep mst at → at < next
+      walk-rises next h = omega (arith, next-up mst at room)
 
-      pub walk-lost : (at ≡ end → ⊥) → false ≡ walkOf mst xrf named
+    module _ (named : ℕ) (full : end < at + 18) where
+      arrived : arrives mst 64 ≡ eqb at end
+      arrived = w .way ∙ arrives-end mst at (omega (arith, w .end-is)) ∙ ap (eqb at) (sym (w .end-is))
+
+      pub walk-lost : (at ≡ end → ⊥) → false ≡ walkOf (store mst xrf) named
       unfolding walkOf
       walk-lost d = rw (arrived, ne-eqb at end d)
 
-      pub walk-done : at ≡ end → eqb hits named ≡ walkOf mst xrf named
+      pub walk-done : at ≡ end → eqb hits named ≡ walkOf (store mst xrf) named
       unfolding walkOf count
       walk-done h =
-          let q : count (hit mst xrf) (steps mst end 64) ≡ hits + 0 = rw (steps-end mst end at full) at (w .hits-are) in
-          let c : count (hit mst xrf) (steps mst (endOf mst) 64) ≡ hits = rw (← end-is) (omega (arith, q)) in
+          let q : count (hit (store mst xrf)) (steps mst 64) ≡ hits + 0 = rw (steps-end mst at (omega (arith, w .end-is))) at (w .hits-are) in
+          let c : count (hit (store mst xrf)) (steps mst 64) ≡ hits = omega (arith, q) in
           rw (arrived, eq-eqb at end h, c)
 
-pub walk-rises : (mst : List ℕ) (end at next : ℕ) → next ≡ nextStep mst end at → at + 18 ≤ end → at < next
-walk-rises mst end at next h room = omega (arith, next-up mst end at room)
-
-pub ruleset walk-answers = (walk-none, walk-more, walk-lost, walk-done, open-end-in, open-mst, arith)
+pub ruleset walk-answers = (walk-none, walk-more, walk-lost, walk-done, open-end, open-end-in, open-mst, arith)

@@ -1,4 +1,4 @@
--- What the passes of the check find. Each entry names a place, and under the changed mark a back place. The first pass over the MFNs asks all of
+-- Inner: serves the functions of the check, no part of what is promised. What the passes of the check find. Each entry names a place, and under the changed mark a back place. The first pass over the MFNs asks all of
 -- an entry but whether these are steps, and counts them; the second walks the steps, and counts those that the entry of the MFN written there
 -- names. That the two counts agree exactly if every entry names steps only is a law (proofs/Deciding.antt), and no part of what is promised.
 use Prim.Native.Nat.{ℕ, zero, suc, _+_, _-_, _≤_}
@@ -7,16 +7,17 @@ use mathlib.Core.Bool.{Bool, true, false, _&&_, cond}
 use mathlib.Core.List.{List, [], _∷_}
 use lib.Dec.{eqb}
 use lib.ListN.{length}
-use Rattle.word.specs.Integer.{u32At}
 use Rattle.layout.specs.Entry.{placeAddress}
 use Rattle.layout.specs.Control.{nextOf, endOf}
+use Rattle.layout.specs.Leader.{leaderOf}
 use Rattle.layout.specs.declared.entry.Mark.{Mark}
 use Rattle.layout.specs.declared.entry.Mark.the-variants.{Changed}
 use Rattle.layout.specs.declared.entry.Place.{Place}
 use Rattle.layout.specs.declared.entry.Entry.{Entry}
 use Rattle.layout.specs.declared.entry.Entry.the-variants.{Gone, Malformed, At}
+use Rattle.store.specs.Store.{Store}
 use Rattle.store.specs.Answer.{numberOf}
-use Rattle.store.specs.Reading.{mfnKnown, entryFor, isChanged, leaderAt, backAddress, recordFine, versionFine}
+use Rattle.store.specs.Reading.{mfnInRange, entryFor, isChanged, recordFrom, leaderAt, backAddress, recordFine, versionFine}
 use Rattle.store.specs.declared.answer.Answer.{Answer}
 use Rattle.soundness.specs.Sound.{allTo, elem, steps, arrives}
 use Rattle.soundness.specs.declared.passes.Tally.{Tally}
@@ -54,15 +55,15 @@ entryFine mst m Malformed = false
 entryFine mst m (At p) = recordFine mst m p && versionFine mst m p
 
 -- every entry below NXTMFN
-unfoldable pub entriesFine : List ℕ → List ℕ → Bool
-entriesFine mst xrf = allTo (nextOf mst - 1) (λ m. entryFine mst m (entryFor mst xrf m))
+unfoldable pub entriesFine : Store → Bool
+entriesFine s = allTo (nextOf (s .mst) - 1) (λ m. entryFine (s .mst) m (entryFor s m))
 
 -- how many addresses the entries below NXTMFN name
-unfoldable pub namedTotal : List ℕ → List ℕ → ℕ
-namedTotal mst xrf = sumTo (nextOf mst - 1) (λ m. length (namesOf mst (entryFor mst xrf m)))
+unfoldable pub namedTotal : Store → ℕ
+namedTotal s = sumTo (nextOf (s .mst) - 1) (λ m. length (namesOf (s .mst) (entryFor s m)))
 
-unfoldable pub tallyOf : List ℕ → List ℕ → Tally
-tallyOf mst xrf = cond (entriesFine mst xrf) (Named (namedTotal mst xrf)) Wrong
+unfoldable pub tallyOf : Store → Tally
+tallyOf s = cond (entriesFine s) (Named (namedTotal s)) Wrong
 
 -- the same for one entry
 unfoldable pub entryTally : List ℕ → ℕ → Entry → Tally
@@ -78,13 +79,17 @@ refusedTally a = cond (eqb (numberOf a) 7) (Named 0) Wrong
 
 -- ---- the second pass
 
--- the entry of the MFN written at the step s names this step
-unfoldable pub hit : List ℕ → List ℕ → ℕ → Bool
-hit mst xrf s = mfnKnown mst (u32At mst s) && elem s (namesOf mst (entryFor mst xrf (u32At mst s)))
+-- the MFN written at a step
+abbrev pub mfnAt : List ℕ → ℕ → ℕ
+mfnAt mst s = leaderOf (recordFrom mst s) .mfn .0
+
+-- the entry of that MFN names the step
+unfoldable pub hit : Store → ℕ → Bool
+hit s a = mfnInRange (s .mst) (mfnAt (s .mst) a) && elem a (namesOf (s .mst) (entryFor s (mfnAt (s .mst) a)))
 
 -- one arrives at the end, and as many steps are named as the entries name addresses
-unfoldable pub walkOf : List ℕ → List ℕ → ℕ → Bool
-walkOf mst xrf named = arrives mst (endOf mst) 64 && eqb (count (hit mst xrf) (steps mst (endOf mst) 64)) named
+unfoldable pub walkOf : Store → ℕ → Bool
+walkOf s named = arrives (s .mst) 64 && eqb (count (hit s) (steps (s .mst) 64)) named
 
 -- what is enough to read the addresses that a place names
 pub record Names (mst : List ℕ) (end : ℕ) (p : Place) : Type 0 where

@@ -4,19 +4,20 @@ use mathlib.Core.Bool.{Bool, true, false, not, _&&_, _||_, cond}
 use mathlib.Core.List.{List, [], _∷_}
 use lib.Dec.{eqb, leb}
 use lib.ListN.{length}
-use Rattle.word.specs.Integer.{u16At}
 use Rattle.layout.specs.Sizes.{capacityOf, endMoved, recordLength}
 use Rattle.layout.specs.Entry.{placeAddress}
 use Rattle.layout.specs.CrossReference.{headRight, slotFree}
 use Rattle.layout.specs.Control.{nextOf, endOf}
+use Rattle.layout.specs.Leader.{leaderOf}
 use Rattle.layout.specs.declared.entry.Place.{Place}
 use Rattle.layout.specs.declared.entry.Entry.{Entry}
 use Rattle.layout.specs.declared.entry.Entry.the-variants.{Gone, Malformed, At}
+use Rattle.store.specs.Store.{Store}
 use Rattle.store.specs.Answer.{refuse, lowest}
-use Rattle.store.specs.Reading.{lengthsPermitted, controlFine, entryFor, isChanged, leaderAt, backAddress, recordFine, settledFine}
+use Rattle.store.specs.Reading.{lengthsPermitted, controlFine, entryFor, isChanged, recordFrom, leaderAt, backAddress, recordFine, settledFine}
 use Rattle.store.specs.Refusals.{gated}
 use Rattle.store.specs.declared.answer.Answer.{Answer}
-use Rattle.store.specs.declared.answer.Answer.the-variants.{Unsound}
+use Rattle.store.specs.declared.answer.Answer.the-variants.{NotSound}
 
 -- each of 1 to n passes
 unfoldable pub allTo : ℕ → (ℕ → Bool) → Bool
@@ -41,34 +42,34 @@ headsRight xrf = allTo (length xrf / 512) (headRight xrf)
 unfoldable pub restFree : List ℕ → ℕ → Bool
 restFree xrf next = allTo (capacityOf (length xrf)) (λ m. implies (leb next m) (slotFree xrf m))
 
--- MFRL at a step
+-- MFRL at a step, where a record is read as the part of the MST from its first byte
 abbrev pub mfrlAt : List ℕ → ℕ → ℕ
-mfrlAt mst s = u16At mst (s + 4)
+mfrlAt mst s = leaderOf (recordFrom mst s) .mfrl
 
 -- MFRL is even and in range, and the step ends at or before the end
-unfoldable pub stepRight : List ℕ → ℕ → ℕ → Bool
-stepRight mst end s = recordLength (mfrlAt mst s) && leb (s + mfrlAt mst s) end
+unfoldable pub stepRight : List ℕ → ℕ → Bool
+stepRight mst s = recordLength (mfrlAt mst s) && leb (s + mfrlAt mst s) (endOf mst)
 
 -- the next step: by MFRL, and over offsets 500 to 510; past the end where MFRL is not right
-unfoldable pub nextStep : List ℕ → ℕ → ℕ → ℕ
-nextStep mst end s = cond (stepRight mst end s) (endMoved (s + mfrlAt mst s)) (end + 1)
+unfoldable pub nextStep : List ℕ → ℕ → ℕ
+nextStep mst s = cond (stepRight mst s) (endMoved (s + mfrlAt mst s)) (endOf mst + 1)
 
 -- the steps from an address on, at most n: each has 18 bytes before the end
-unfoldable pub stepsIn : ℕ → List ℕ → ℕ → ℕ → List ℕ
-stepsIn zero mst end at = []
-stepsIn (suc n) mst end at = cond (leb (at + 18) end) (at ∷ stepsIn n mst end (nextStep mst end at)) []
+unfoldable pub stepsIn : ℕ → List ℕ → ℕ → List ℕ
+stepsIn zero mst at = []
+stepsIn (suc n) mst at = cond (leb (at + 18) (endOf mst)) (at ∷ stepsIn n mst (nextStep mst at)) []
 
 -- stepping from an address on, at most n times, one arrives exactly at the end
-unfoldable pub arrivesIn : ℕ → List ℕ → ℕ → ℕ → Bool
-arrivesIn zero mst end at = eqb at end
-arrivesIn (suc n) mst end at = cond (leb (at + 18) end) (arrivesIn n mst end (nextStep mst end at)) (eqb at end)
+unfoldable pub arrivesIn : ℕ → List ℕ → ℕ → Bool
+arrivesIn zero mst at = eqb at (endOf mst)
+arrivesIn (suc n) mst at = cond (leb (at + 18) (endOf mst)) (arrivesIn n mst (nextStep mst at)) (eqb at (endOf mst))
 
 -- no walk has more steps than there are bytes to the end
-unfoldable pub steps : List ℕ → ℕ → ℕ → List ℕ
-steps mst end at = stepsIn (end - at) mst end at
+unfoldable pub steps : List ℕ → ℕ → List ℕ
+steps mst at = stepsIn (endOf mst - at) mst at
 
-unfoldable pub arrives : List ℕ → ℕ → ℕ → Bool
-arrives mst end at = arrivesIn (end - at) mst end at
+unfoldable pub arrives : List ℕ → ℕ → Bool
+arrives mst at = arrivesIn (endOf mst - at) mst at
 
 -- a place is one of the steps with a well-formed record, and its back place, if changed, one with a well-formed settled version
 unfoldable pub placeSound : List ℕ → List ℕ → ℕ → Place → Bool
@@ -84,21 +85,21 @@ entrySound mst l m Malformed = false
 entrySound mst l m (At p) = placeSound mst l m p
 
 -- every entry below NXTMFN
-unfoldable pub entriesSound : List ℕ → List ℕ → List ℕ → Bool
-entriesSound mst xrf l = allTo (nextOf mst - 1) (λ m. entrySound mst l m (entryFor mst xrf m))
+unfoldable pub entriesSound : Store → List ℕ → Bool
+entriesSound s l = allTo (nextOf (s .mst) - 1) (λ m. entrySound (s .mst) l m (entryFor s m))
 
 -- A SOUND STORE, its lengths and control record right: every XRF block's first integer is right, slots from NXTMFN on are 0; from address 64
 -- one arrives exactly at the end; every entry below NXTMFN is sound
-unfoldable pub bodySound : List ℕ → List ℕ → Bool
-bodySound mst xrf =
-    headsRight xrf
-    && restFree xrf (nextOf mst)
-    && arrives mst (endOf mst) 64
-    && entriesSound mst xrf (steps mst (endOf mst) 64)
+unfoldable pub bodySound : Store → Bool
+bodySound s =
+    headsRight (s .xrf)
+    && restFree (s .xrf) (nextOf (s .mst))
+    && arrives (s .mst) 64
+    && entriesSound s (steps (s .mst) 64)
 
-unfoldable pub soundOf : List ℕ → List ℕ → Bool
-soundOf mst xrf = lengthsPermitted mst xrf && controlFine mst xrf && bodySound mst xrf
+unfoldable pub soundOf : Store → Bool
+soundOf s = lengthsPermitted s && controlFine s && bodySound s
 
 -- check: 1, 2, 14 or 0
-unfoldable pub checkAnswer : List ℕ → List ℕ → Answer
-checkAnswer mst xrf = lowest (gated mst xrf (refuse Unsound (not (bodySound mst xrf)) ∷ []))
+unfoldable pub checkAnswer : Store → Answer
+checkAnswer s = lowest (gated s (refuse NotSound (not (bodySound s)) ∷ []))

@@ -1,4 +1,4 @@
 // The whole-store check: passes exactly the sound stores, in time linear in the bytes and MFNs and with constant memory.
 pub mod check;
-pub mod passes;
-pub mod steps;
+mod passes;
+mod steps;

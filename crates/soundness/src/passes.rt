@@ -14,18 +14,19 @@ ghost use Prim.Native.Nat.{_+_, _≤_, _<_};
 ghost use lib.ListN.{length};
 ghost use Rattle.layout.specs.Sizes.{capacityOf};
 ghost use Rattle.store.specs.Reading.{entryFor};
-ghost use Rattle.store.specs.Steps.{gateOf};
+ghost use Rattle.store.specs.Gate.{gateOf};
 ghost use Rattle.soundness.specs.Sound.{elem, headsRight, restFree};
 ghost use Rattle.soundness.specs.Passes.{bit, namesOf, namedUnder, refusedTally, entryTally, entriesFine, tallyOf, hit, walkOf, Names};
+ghost use Rattle.store.specs.Store.{store};
 
 // What the first pass finds: how many steps the entries name, or that one of them is wrong.
-pub enum Tally {
+pub(crate) enum Tally {
     Named(usize),
     Wrong,
 }
 
 // Whether the first integer of every XRF block is right.
-pub fn heads_right(xrf: &[u8]) -> bool
+pub(crate) fn heads_right(xrf: &[u8]) -> bool
     requires { ⌜ length (now xrf) ≤ 2097152 ⌝ }
     ensures { λ r. ⌜ r ≡ headsRight (now (xrf .entry)) ⌝ }
 {
@@ -41,7 +42,7 @@ pub fn heads_right(xrf: &[u8]) -> bool
 }
 
 // Whether every slot from NXTMFN on holds 0.
-pub fn rest_free(xrf: &[u8], next: Mfn) -> bool
+pub(crate) fn rest_free(xrf: &[u8], next: Mfn) -> bool
     requires { ⌜ (1 ≤ next .0) × (next .0 ≤ capacityOf (length (now xrf)) + 1) × (length (now xrf) ≤ 2097152) ⌝ }
     ensures { λ r. ⌜ r ≡ restFree (now (xrf .entry)) (next .0) ⌝ }
 {
@@ -80,22 +81,22 @@ fn refused_tally(a: Answer) -> Tally
 
 // The tally of one entry.
 fn tally_entry(mst: &[u8], xrf: &[u8], next: Mfn, end: usize, m: Mfn) -> Tally
-    requires { ⌜ gateOf (now mst) (now xrf) ≡ Gate.Open next end ⌝ }
+    requires { ⌜ gateOf (store (now mst) (now xrf)) ≡ Gate.Open next end ⌝ }
     requires { ⌜ (1 ≤ m .0) × (m .0 < next .0) ⌝ }
-    ensures { λ r. ⌜ r ≡ entryTally (now (mst .entry)) (m .0) (entryFor (now (mst .entry)) (now (xrf .entry)) (m .0)) ⌝ }
+    ensures { λ r. ⌜ r ≡ entryTally (now (mst .entry)) (m .0) (entryFor (store (now (mst .entry)) (now (xrf .entry))) (m .0)) ⌝ }
 {
     let k = store::gate::find_both(mst, xrf, next, end, m);
     let Known::Record { place, leader: _ } = k else {
-        return refused_tally(store::views::known_answer(k));
+        return refused_tally(store::gate::known_answer(k));
     };
     let mark = place.mark;
     Tally::Named(named_under(mark))
 }
 
 // The first pass: every entry below NXTMFN.
-pub fn tally_entries(mst: &[u8], xrf: &[u8], next: Mfn, end: usize) -> Tally
-    requires { ⌜ gateOf (now mst) (now xrf) ≡ Gate.Open next end ⌝ }
-    ensures { λ r. ⌜ r ≡ tallyOf (now (mst .entry)) (now (xrf .entry)) ⌝ }
+pub(crate) fn tally_entries(mst: &[u8], xrf: &[u8], next: Mfn, end: usize) -> Tally
+    requires { ⌜ gateOf (store (now mst) (now xrf)) ≡ Gate.Open next end ⌝ }
+    ensures { λ r. ⌜ r ≡ tallyOf (store (now (mst .entry)) (now (xrf .entry))) ⌝ }
 {
     let mut named: usize = 0;
     let mut m: u32 = 1;
@@ -134,18 +135,19 @@ fn place_hit(mst: &[u8], end: usize, p: Place, s: usize) -> usize
 
 // 1 where the entry of the MFN written at the step `s` names this step, else 0.
 fn step_hit(mst: &[u8], xrf: &[u8], next: Mfn, end: usize, s: usize) -> usize
-    requires { ⌜ gateOf (now mst) (now xrf) ≡ Gate.Open next end ⌝ }
-    requires { ⌜ (entriesFine (now mst) (now xrf) ≡ true) × (s + 18 ≤ end) ⌝ }
-    ensures { λ r. ⌜ r ≡ bit (hit (now (mst .entry)) (now (xrf .entry)) s) ⌝ }
+    requires { ⌜ gateOf (store (now mst) (now xrf)) ≡ Gate.Open next end ⌝ }
+    requires { ⌜ (entriesFine (store (now mst) (now xrf)) ≡ true) × (s + 18 ≤ end) ⌝ }
+    ensures { λ r. ⌜ r ≡ bit (hit (store (now (mst .entry)) (now (xrf .entry))) s) ⌝ }
 {
-    let m = word::integer::u32_at(mst, s);
-    if m < 1 {
+    let l = layout::leader::read_leader(&mst[s..end]);
+    let m = l.mfn;
+    if m.0 < 1 {
         return 0;
     }
-    if next.0 <= m {
+    if next.0 <= m.0 {
         return 0;
     }
-    let e = layout::cross_reference::entry_at(xrf, end, Mfn(m));
+    let e = layout::cross_reference::entry_at(xrf, end, m);
     let Entry::At(p) = e else {
         return 0;
     };
@@ -153,10 +155,10 @@ fn step_hit(mst: &[u8], xrf: &[u8], next: Mfn, end: usize, s: usize) -> usize
 }
 
 // The second pass: whether stepping from address 64 on one arrives at the end, and meets all that the entries name.
-pub fn walk_steps(mst: &[u8], xrf: &[u8], next: Mfn, end: usize, named: usize) -> bool
-    requires { ⌜ gateOf (now mst) (now xrf) ≡ Gate.Open next end ⌝ }
-    requires { ⌜ entriesFine (now mst) (now xrf) ≡ true ⌝ }
-    ensures { λ r. ⌜ r ≡ walkOf (now (mst .entry)) (now (xrf .entry)) named ⌝ }
+pub(crate) fn walk_steps(mst: &[u8], xrf: &[u8], next: Mfn, end: usize, named: usize) -> bool
+    requires { ⌜ gateOf (store (now mst) (now xrf)) ≡ Gate.Open next end ⌝ }
+    requires { ⌜ entriesFine (store (now mst) (now xrf)) ≡ true ⌝ }
+    ensures { λ r. ⌜ r ≡ walkOf (store (now (mst .entry)) (now (xrf .entry))) named ⌝ }
 {
     let mut hits: usize = 0;
     let mut at: usize = 64;

@@ -2,28 +2,21 @@
 ghost use mathlib.Core.Path.{_≡_};
 ghost use Prim.Native.Nat.{_+_, _≤_};
 ghost use lib.ListN.{length};
-ghost use Rattle.soundness.specs.Sound.{stepRight, nextStep};
-
-// Whether the record at the step `s` has a right MFRL and ends at or before the end.
-fn step_right(mst: &[u8], end: usize, s: usize) -> bool
-    requires { ⌜ (s + 18 ≤ end) × (end ≤ length (now mst)) ⌝ }
-    ensures { λ r. ⌜ r ≡ stepRight (now (mst .entry)) end s ⌝ }
-{
-    let mfrl = word::integer::u16_at(mst, s + 4) as usize;
-    if !layout::sizes::record_length(mfrl) {
-        return false;
-    }
-    s + mfrl <= end
-}
+ghost use Rattle.layout.specs.Control.{endOf};
+ghost use Rattle.soundness.specs.Sound.{nextStep};
 
 // The step after `s`; past the end where MFRL is not right.
-pub fn next_step(mst: &[u8], end: usize, s: usize) -> usize
-    requires { ⌜ (s + 18 ≤ end) × (end ≤ length (now mst)) × (length (now mst) ≤ 536870400) ⌝ }
-    ensures { λ r. ⌜ r ≡ nextStep (now (mst .entry)) end s ⌝ }
+pub(crate) fn next_step(mst: &[u8], end: usize, s: usize) -> usize
+    requires { ⌜ (s + 18 ≤ end) × (end ≡ endOf (now mst)) × (end ≤ length (now mst)) × (length (now mst) ≤ 536870400) ⌝ }
+    ensures { λ r. ⌜ r ≡ nextStep (now (mst .entry)) s ⌝ }
 {
-    if !step_right(mst, end, s) {
+    let l = layout::leader::read_leader(&mst[s..end]);
+    let mfrl = l.mfrl as usize;
+    if !layout::sizes::record_length(mfrl) {
         return end + 1;
     }
-    let mfrl = word::integer::u16_at(mst, s + 4) as usize;
+    if end < s + mfrl {
+        return end + 1;
+    }
     layout::sizes::end_moved(s + mfrl)
 }

@@ -3,8 +3,17 @@ use Rattle.soundness.proofs.PassAnswers.{hit-answers}
 use Rattle.soundness.proofs.passes.step_hit.Statement.{statement}
 use Rattle.soundness.proofs.passes.step_hit.Tie as tie
 
-u32-at-requires : tie.Need-u32-at-requires
-u32-at-requires c κs = search hit-answers
+sub-read-leader : tie.Need-sub-read-leader
+sub-read-leader c = search needs
+
+part-read-leader-start : tie.Need-part-read-leader-start
+part-read-leader-start c = search needs
+
+part-read-leader-end : tie.Need-part-read-leader-end
+part-read-leader-end c = search hit-answers
+
+read-leader-requires : tie.Need-read-leader-requires
+read-leader-requires c κs = search needs
 
 returns : tie.Need-returns
 returns c = search hit-answers
@@ -31,7 +40,10 @@ pub step-hit-spec : {M : Type 1} → statement M
 step-hit-spec =
     tie.close
     (tie.spec
-    u32-at-requires
+    sub-read-leader
+    part-read-leader-start
+    part-read-leader-end
+    read-leader-requires
     returns
     returns-2
     entry-at-requires

@@ -29,7 +29,8 @@ next-step-requires : tie.Need-next-step-requires Inv-loop μ-loop
 next-step-requires c κs = search walk-answers
 
 loop-less : tie.Need-loop-less Inv-loop μ-loop
-loop-less c = omega (arith, walk-rises _ _ _ _ (c .next-step .ensures) (c .before .before .loop-test .taken))
+loop-less c =
+    omega (arith, walk-rises _ _ _ _ _ (c .before .before .before .loop .inv) (c .before .before .loop-test .taken) _ (c .next-step .ensures))
 
 loop-again : tie.Need-loop-again Inv-loop μ-loop
 loop-again c = search walk-answers

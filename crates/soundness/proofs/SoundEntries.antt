@@ -14,7 +14,7 @@ use Rattle.word.proofs.Overwrite.{lt-or-ge}
 use Rattle.layout.specs.Sizes.{capacityOf}
 use Rattle.layout.specs.Entry.{placeAddress}
 use Rattle.layout.specs.CrossReference.{xrfBlock, headRight, slotFree}
-use Rattle.layout.specs.Control.{nextOf, endOf}
+use Rattle.layout.specs.Control.{nextOf}
 use Rattle.layout.specs.declared.entry.Mark.{Mark}
 use Rattle.layout.specs.declared.entry.Mark.the-variants.{Settled, Changed, New}
 use Rattle.layout.specs.declared.entry.Place.{Place}
@@ -24,47 +24,48 @@ use Rattle.layout.proofs.Tests.{tests, false-true}
 use Rattle.layout.proofs.ControlRecord.{ControlFacts, control-facts}
 use Rattle.layout.proofs.CrossReference.{block-in}
 use Rattle.store.specs.Answer.{Refusal, refuse, lowest}
-use Rattle.store.specs.Reading.{lengthsPermitted, controlFine, mfnKnown, entryFor, placeFor, isMalformed, isGone, isChanged, leaderAt, backAddress, recordFine, settledFine, versionFine}
+use Rattle.store.specs.Reading.{lengthsPermitted, controlFine, mfnInRange, entryFor, placeFor, isMalformed, isGone, isChanged, leaderAt, backAddress, recordFine, settledFine, versionFine}
 use Rattle.store.specs.Refusals.{gated, named, fine, bothFine}
 use Rattle.store.specs.declared.answer.Answer.{Answer}
-use Rattle.store.specs.declared.answer.Answer.the-variants.{NoSuchMfn, BadEntry, PhysicallyDeleted, BadRecord}
+use Rattle.store.specs.declared.answer.Answer.the-variants.{NoMfn, BadEntry, Gone as GoneAnswer, BadRecord}
 use Rattle.store.proofs.Gates.{LengthsFacts, lengths-facts, mfn-facts}
 use Rattle.soundness.proofs.Counting.{allTo-at, allTo-all}
 use Rattle.soundness.specs.Sound.{allTo, elem, implies, headsRight, restFree, steps, arrives, placeSound, entrySound, entriesSound, bodySound, soundOf}
+use Rattle.store.specs.Store.{store}
 
 -- ---- the facts
 
 -- the settled version of a changed record is right, and stands at a step
 pub record SettledStands (mst : List ℕ) (m : ℕ) (p : Place) : Type 0 where
   pub fine : settledFine mst m p ≡ true
-  pub step : elem (backAddress (leaderAt mst p)) (steps mst (endOf mst) 64) ≡ true
+  pub step : elem (backAddress (leaderAt mst p)) (steps mst 64) ≡ true
 
 -- the record at a place is right and stands at a step, and so does its settled version if it is changed
 pub record PlaceStands (mst : List ℕ) (m : ℕ) (p : Place) : Type 0 where
   pub fine : recordFine mst m p ≡ true
-  pub step : elem (placeAddress p) (steps mst (endOf mst) 64) ≡ true
+  pub step : elem (placeAddress p) (steps mst 64) ≡ true
   pub settled : p .mark ≡ Changed → SettledStands mst m p
 
 -- the entry of MFN m is -2048, or names such a place
 pub data EntryStands (mst xrf : List ℕ) (m : ℕ) : Type 0 where
-  is-gone : entryFor mst xrf m ≡ Gone → EntryStands mst xrf m
-  is-at : (p : Place) → entryFor mst xrf m ≡ At p → PlaceStands mst m p → EntryStands mst xrf m
+  is-gone : entryFor (store mst xrf) m ≡ Gone → EntryStands mst xrf m
+  is-at : (p : Place) → entryFor (store mst xrf) m ≡ At p → PlaceStands mst m p → EntryStands mst xrf m
 
 -- a sound store, fact by fact: what `soundOf` tests
 pub record Sound (mst xrf : List ℕ) : Type 0 where
-  pub lengths : lengthsPermitted mst xrf ≡ true
-  pub control : controlFine mst xrf ≡ true
+  pub lengths : lengthsPermitted (store mst xrf) ≡ true
+  pub control : controlFine (store mst xrf) ≡ true
   pub sizes : LengthsFacts mst xrf
   pub numbers : ControlFacts mst (capacityOf (length xrf))
   pub heads : (k : ℕ) → 1 ≤ k → k ≤ length xrf / 512 → headRight xrf k ≡ true
   pub free : (m : ℕ) → nextOf mst ≤ m → m ≤ capacityOf (length xrf) → slotFree xrf m ≡ true
-  pub way : arrives mst (endOf mst) 64 ≡ true
+  pub way : arrives mst 64 ≡ true
   pub entries : (m : ℕ) → 1 ≤ m → m < nextOf mst → EntryStands mst xrf m
 
-pub sound-from : {mst xrf : List ℕ} → lengthsPermitted mst xrf ≡ true → controlFine mst xrf ≡ true
+pub sound-from : {mst xrf : List ℕ} → lengthsPermitted (store mst xrf) ≡ true → controlFine (store mst xrf) ≡ true
     → ((k : ℕ) → 1 ≤ k → k ≤ length xrf / 512 → headRight xrf k ≡ true)
     → ((m : ℕ) → nextOf mst ≤ m → m ≤ capacityOf (length xrf) → slotFree xrf m ≡ true)
-    → arrives mst (endOf mst) 64 ≡ true
+    → arrives mst 64 ≡ true
     → ((m : ℕ) → 1 ≤ m → m < nextOf mst → EntryStands mst xrf m) → Sound mst xrf
 sound-from {mst} {xrf} lengths control heads free way entries =
     record {
@@ -94,37 +95,37 @@ implying true b h = h refl
 implying false b h = refl
 
 module _ (mst : List ℕ) (m : ℕ) (p : Place) where
-  place-stands : placeSound mst (steps mst (endOf mst) 64) m p ≡ true → PlaceStands mst m p
+  place-stands : placeSound mst (steps mst 64) m p ≡ true → PlaceStands mst m p
   unfolding placeSound
   place-stands e =
       let q = simp tests at e in
       record { fine = q .0 .0; step = q .0 .1; settled = λ c. back (q .1) c }
     where
-      back : implies (isChanged (p .mark)) (settledFine mst m p && elem (backAddress (leaderAt mst p)) (steps mst (endOf mst) 64)) ≡ true
+      back : implies (isChanged (p .mark)) (settledFine mst m p && elem (backAddress (leaderAt mst p)) (steps mst 64)) ≡ true
           → p .mark ≡ Changed → SettledStands mst m p
       back e c =
           let r =
           simp tests at
-          (implied (isChanged (p .mark)) (settledFine mst m p && elem (backAddress (leaderAt mst p)) (steps mst (endOf mst) 64)) e (rw c refl)) in
+          (implied (isChanged (p .mark)) (settledFine mst m p && elem (backAddress (leaderAt mst p)) (steps mst 64)) e (rw c refl)) in
           record { fine = r .0; step = r .1 }
 
-  place-sound : PlaceStands mst m p → placeSound mst (steps mst (endOf mst) 64) m p ≡ true
+  place-sound : PlaceStands mst m p → placeSound mst (steps mst 64) m p ≡ true
   unfolding placeSound
   place-sound s =
       simp tests (
         (s .fine, s .step),
-        implying (isChanged (p .mark)) (settledFine mst m p && elem (backAddress (leaderAt mst p)) (steps mst (endOf mst) 64))
+        implying (isChanged (p .mark)) (settledFine mst m p && elem (backAddress (leaderAt mst p)) (steps mst 64))
             (λ c. let r = s .settled (changed-is (p .mark) c) in simp tests (r .fine, r .step)),
       )
 
 module _ (mst xrf : List ℕ) (m : ℕ) where
-  entry-stands : (e : Entry) → entryFor mst xrf m ≡ e → entrySound mst (steps mst (endOf mst) 64) m e ≡ true → EntryStands mst xrf m
+  entry-stands : (e : Entry) → entryFor (store mst xrf) m ≡ e → entrySound mst (steps mst 64) m e ≡ true → EntryStands mst xrf m
   unfolding entrySound
   entry-stands Gone q t = is-gone q
   entry-stands Malformed q t = absurd (false-true t)
   entry-stands (At p) q t = is-at p q (place-stands mst m p t)
 
-  entry-sound : EntryStands mst xrf m → entrySound mst (steps mst (endOf mst) 64) m (entryFor mst xrf m) ≡ true
+  entry-sound : EntryStands mst xrf m → entrySound mst (steps mst 64) m (entryFor (store mst xrf) m) ≡ true
   unfolding entrySound
   entry-sound (is-gone q) = rw q
   entry-sound (is-at p q s) = rw q (place-sound mst m p s)
@@ -132,7 +133,7 @@ module _ (mst xrf : List ℕ) (m : ℕ) where
 -- ---- THE LAWS
 
 module _ (mst xrf : List ℕ) where
-  pub body-stands : lengthsPermitted mst xrf ≡ true → controlFine mst xrf ≡ true → bodySound mst xrf ≡ true → Sound mst xrf
+  pub body-stands : lengthsPermitted (store mst xrf) ≡ true → controlFine (store mst xrf) ≡ true → bodySound (store mst xrf) ≡ true → Sound mst xrf
   unfolding bodySound headsRight restFree entriesSound
   body-stands lengths control e =
       let q = simp tests at e in
@@ -141,8 +142,8 @@ module _ (mst xrf : List ℕ) where
       (λ m low high. free (q .0 .0 .1) m low high)
       (q .0 .1)
       (λ m low high.
-      entry-stands mst xrf m (entryFor mst xrf m) refl
-      (allTo-at (nextOf mst - 1) (λ (o : ℕ). entrySound mst (steps mst (endOf mst) 64) o (entryFor mst xrf o)) (q .1) m low (omega arith)))
+      entry-stands mst xrf m (entryFor (store mst xrf) m) refl
+      (allTo-at (nextOf mst - 1) (λ (o : ℕ). entrySound mst (steps mst 64) o (entryFor (store mst xrf) o)) (q .1) m low (omega arith)))
     where
       free : allTo (capacityOf (length xrf)) (λ (m : ℕ). implies (leb (nextOf mst) m) (slotFree xrf m)) ≡ true
           → (m : ℕ) → nextOf mst ≤ m → m ≤ capacityOf (length xrf) → slotFree xrf m ≡ true
@@ -152,11 +153,11 @@ module _ (mst xrf : List ℕ) where
           (allTo-at (capacityOf (length xrf)) (λ (o : ℕ). implies (leb (nextOf mst) o) (slotFree xrf o)) e m (omega arith) high)
           (le-leb (nextOf mst) m low)
 
-  pub stands : soundOf mst xrf ≡ true → Sound mst xrf
+  pub stands : soundOf (store mst xrf) ≡ true → Sound mst xrf
   unfolding soundOf
   stands e = let q = simp tests at e in body-stands (q .0 .0) (q .0 .1) (q .1)
 
-  pub body-sound : Sound mst xrf → bodySound mst xrf ≡ true
+  pub body-sound : Sound mst xrf → bodySound (store mst xrf) ≡ true
   unfolding bodySound headsRight restFree entriesSound
   body-sound s =
       simp tests (
@@ -168,16 +169,16 @@ module _ (mst xrf : List ℕ) where
           ),
           s .way,
         ),
-        allTo-all (nextOf mst - 1) (λ (m : ℕ). entrySound mst (steps mst (endOf mst) 64) m (entryFor mst xrf m))
+        allTo-all (nextOf mst - 1) (λ (m : ℕ). entrySound mst (steps mst 64) m (entryFor (store mst xrf) m))
             (λ m low high. entry-sound mst xrf m (s .entries m low (omega arith))),
       )
 
-  pub sound : Sound mst xrf → soundOf mst xrf ≡ true
+  pub sound : Sound mst xrf → soundOf (store mst xrf) ≡ true
   unfolding soundOf
   sound s = simp tests ((s .lengths, s .control), body-sound s)
 
 -- the place of an entry
-pub at-stands : {mst xrf : List ℕ} → Sound mst xrf → (m : ℕ) (p : Place) → 1 ≤ m → m < nextOf mst → entryFor mst xrf m ≡ At p → PlaceStands mst m p
+pub at-stands : {mst xrf : List ℕ} → Sound mst xrf → (m : ℕ) (p : Place) → 1 ≤ m → m < nextOf mst → entryFor (store mst xrf) m ≡ At p → PlaceStands mst m p
 at-stands {mst} {xrf} s m p low high e = go (s .entries m low high)
   where
     go : EntryStands mst xrf m → PlaceStands mst m p
@@ -188,8 +189,8 @@ at-stands {mst} {xrf} s m p low high e = go (s .entries m low high)
 
 -- 4, 6, 7 and 8, where 6 never comes of a known MFN, and 8 never of one that is not gone
 named-rows : (known malformed gone right : Bool) (rest : Answer) → (known ≡ true → malformed ≡ false) → (known ≡ true → gone ≡ false → right ≡ true)
-    → cond (not known) NoSuchMfn (cond malformed BadEntry (cond gone PhysicallyDeleted (cond (not right) BadRecord rest)))
-    ≡ cond (not known) NoSuchMfn (cond gone PhysicallyDeleted rest)
+    → cond (not known) NoMfn (cond malformed BadEntry (cond gone GoneAnswer (cond (not right) BadRecord rest)))
+    ≡ cond (not known) NoMfn (cond gone GoneAnswer rest)
 named-rows true malformed true right rest a b = rw (a refl)
 named-rows true malformed false right rest a b = rw (a refl, b refl refl)
 named-rows false malformed gone right rest a b = refl
@@ -204,54 +205,54 @@ version-fine mst m p s = go (isChanged (p .mark)) refl
 
 module _ {mst xrf : List ℕ} (s : Sound mst xrf) where
   -- 1 and 2
-  pub gated-sound : (rest : List Refusal) → lowest (gated mst xrf rest) ≡ lowest rest
+  pub gated-sound : (rest : List Refusal) → lowest (gated (store mst xrf) rest) ≡ lowest rest
   gated-sound rest = rw (s .lengths, s .control)
 
   module _ (m : ℕ) where
-    module _ (known : mfnKnown mst m ≡ true) where
+    module _ (known : mfnInRange mst m ≡ true) where
       pub known-stands : EntryStands mst xrf m
       known-stands = let q = mfn-facts mst m known in s .entries m (q .low) (q .high)
 
       -- 6
-      pub not-malformed : isMalformed (entryFor mst xrf m) ≡ false
+      pub not-malformed : isMalformed (entryFor (store mst xrf) m) ≡ false
       not-malformed = go known-stands
         where
-          go : EntryStands mst xrf m → isMalformed (entryFor mst xrf m) ≡ false
+          go : EntryStands mst xrf m → isMalformed (entryFor (store mst xrf) m) ≡ false
           go (is-gone e) = rw e
           go (is-at p e f) = rw e
 
-      module _ (there : isGone (entryFor mst xrf m) ≡ false) where
+      module _ (there : isGone (entryFor (store mst xrf) m) ≡ false) where
         -- the place that is there
-        pub place-for-stands : PlaceStands mst m (placeFor mst xrf m)
+        pub place-for-stands : PlaceStands mst m (placeFor (store mst xrf) m)
         place-for-stands = go known-stands
           where
-            go : EntryStands mst xrf m → PlaceStands mst m (placeFor mst xrf m)
+            go : EntryStands mst xrf m → PlaceStands mst m (placeFor (store mst xrf) m)
             go (is-gone e) = absurd (false-true (sym (rw e at there)))
             go (is-at p e f) = rw e f
 
-        pub entry-for-place : entryFor mst xrf m ≡ At (placeFor mst xrf m)
+        pub entry-for-place : entryFor (store mst xrf) m ≡ At (placeFor (store mst xrf) m)
         entry-for-place = go known-stands
           where
-            go : EntryStands mst xrf m → entryFor mst xrf m ≡ At (placeFor mst xrf m)
+            go : EntryStands mst xrf m → entryFor (store mst xrf) m ≡ At (placeFor (store mst xrf) m)
             go (is-gone e) = absurd (false-true (sym (rw e at there)))
             go (is-at p e f) = rw e
 
         -- 8, where the record is used, and where its settled version is too
-        pub fine-sound : fine mst xrf m ≡ true
+        pub fine-sound : fine (store mst xrf) m ≡ true
         fine-sound = place-for-stands .fine
 
-        pub both-fine-sound : bothFine mst xrf m ≡ true
-        both-fine-sound = simp tests (place-for-stands .fine, version-fine mst m (placeFor mst xrf m) place-for-stands)
+        pub both-fine-sound : bothFine (store mst xrf) m ≡ true
+        both-fine-sound = simp tests (place-for-stands .fine, version-fine mst m (placeFor (store mst xrf) m) place-for-stands)
 
-    pub named-fine : (rest : List Refusal) → lowest (named mst xrf m (fine mst xrf m) rest)
-        ≡ lowest (refuse NoSuchMfn (not (mfnKnown mst m)) ∷ refuse PhysicallyDeleted (isGone (entryFor mst xrf m)) ∷ rest)
+    pub named-fine : (rest : List Refusal) → lowest (named (store mst xrf) m (fine (store mst xrf) m) rest)
+        ≡ lowest (refuse NoMfn (not (mfnInRange mst m)) ∷ refuse GoneAnswer (isGone (entryFor (store mst xrf) m)) ∷ rest)
     named-fine rest =
-        named-rows (mfnKnown mst m) (isMalformed (entryFor mst xrf m)) (isGone (entryFor mst xrf m)) (fine mst xrf m) (lowest rest) not-malformed fine-sound
+        named-rows (mfnInRange mst m) (isMalformed (entryFor (store mst xrf) m)) (isGone (entryFor (store mst xrf) m)) (fine (store mst xrf) m) (lowest rest) not-malformed fine-sound
 
-    pub named-both : (rest : List Refusal) → lowest (named mst xrf m (bothFine mst xrf m) rest)
-        ≡ lowest (refuse NoSuchMfn (not (mfnKnown mst m)) ∷ refuse PhysicallyDeleted (isGone (entryFor mst xrf m)) ∷ rest)
+    pub named-both : (rest : List Refusal) → lowest (named (store mst xrf) m (bothFine (store mst xrf) m) rest)
+        ≡ lowest (refuse NoMfn (not (mfnInRange mst m)) ∷ refuse GoneAnswer (isGone (entryFor (store mst xrf) m)) ∷ rest)
     named-both rest =
-        named-rows (mfnKnown mst m) (isMalformed (entryFor mst xrf m)) (isGone (entryFor mst xrf m)) (bothFine mst xrf m) (lowest rest) not-malformed both-fine-sound
+        named-rows (mfnInRange mst m) (isMalformed (entryFor (store mst xrf) m)) (isGone (entryFor (store mst xrf) m)) (bothFine (store mst xrf) m) (lowest rest) not-malformed both-fine-sound
 
   -- 6 of a create, where 5 does not come
   pub create-row : nextOf mst ≤ capacityOf (length xrf) → headRight xrf (xrfBlock (nextOf mst)) && slotFree xrf (nextOf mst) ≡ true
