@@ -21,7 +21,7 @@ use Rattle.store.specs.Answer.{numberOf, lowest, after}
 use Rattle.store.specs.Reading.{placeFor, recordAt, shownSettled, currentFields}
 use Rattle.store.specs.Store.{store}
 use Rattle.store.specs.declared.answer.Answer.{Answer}
-use Rattle.store.specs.declared.answer.Answer.the-variants.{Done, ListTooShort}
+use Rattle.store.specs.declared.answer.Answer.the-variants.{Done, NoRoomInList}
 use Rattle.store.proofs.Gates.{Refusing, after-refused, after-cases}
 use Rattle.views.specs.Views.{onCurrent, onSettled, settledAddress}
 use Rattle.views.specs.Listing.{Lists, shortFor, counted, leaves, allFieldsAnswer, allFieldsOf, allFieldsLeaves, settledAllFieldsAnswer, settledAllFieldsOf, settledAllFieldsLeaves, fieldsNamed, NamesAll}
@@ -81,7 +81,7 @@ module _ (mst xrf : List ℕ) (m : ℕ) (l : Lists) where
       → NamesAll mst (currentFields mst (placeFor (store mst xrf) m)) (allFieldsOf (store mst xrf) m l .count) l (allFieldsLeaves (store mst xrf) m l)
   unfolding allFieldsAnswer allFieldsOf allFieldsLeaves
   all-fields-named e =
-      let d = done-before _ _ (sym (current-then mst xrf m ListTooShort (shortFor (recordAt mst (placeFor (store mst xrf) m)) l)) ∙ e) in
+      let d = done-before _ _ (sym (current-then mst xrf m NoRoomInList (shortFor (recordAt mst (placeFor (store mst xrf) m)) l)) ∙ e) in
       rw e (names-all mst (placeAddress (placeFor (store mst xrf) m)) (endOf mst) (current-readable mst xrf m d) l)
 
   -- and of the settled view's record
@@ -89,7 +89,7 @@ module _ (mst xrf : List ℕ) (m : ℕ) (l : Lists) where
       → NamesAll mst (fieldsOf (shownSettled mst (placeFor (store mst xrf) m))) (settledAllFieldsOf (store mst xrf) m l .count) l (settledAllFieldsLeaves (store mst xrf) m l)
   unfolding settledAllFieldsAnswer settledAllFieldsOf settledAllFieldsLeaves
   settled-all-fields-named e =
-      let d = done-before _ _ (sym (settled-then mst xrf m ListTooShort (shortFor (shownSettled mst (placeFor (store mst xrf) m)) l)) ∙ e) in
+      let d = done-before _ _ (sym (settled-then mst xrf m NoRoomInList (shortFor (shownSettled mst (placeFor (store mst xrf) m)) l)) ∙ e) in
       rw (e, ← settled-from mst (placeFor (store mst xrf) m))
       (names-all mst (settledAddress mst (placeFor (store mst xrf) m)) (endOf mst) (settled-readable mst xrf m d) l)
 

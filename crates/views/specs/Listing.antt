@@ -16,7 +16,7 @@ use Rattle.store.specs.Store.{Store}
 use Rattle.store.specs.Answer.{Refusal, refuse, lowest, after}
 use Rattle.store.specs.Reading.{placeFor, recordAt, shownSettled}
 use Rattle.store.specs.declared.answer.Answer.{Answer}
-use Rattle.store.specs.declared.answer.Answer.the-variants.{ListTooShort}
+use Rattle.store.specs.declared.answer.Answer.the-variants.{NoRoomInList}
 use Rattle.views.specs.Views.{onCurrent, onSettled, settledAddress}
 use Rattle.views.specs.declared.listing.Listed.{Listed}
 
@@ -40,13 +40,13 @@ shortFor rec l = not (allAtLeast (leaderOf rec .nvf) (length (l .tags)) (length 
 -- ---- refusals, of the current version and of the settled one
 
 abbrev pub allFieldsRefusals : Store → ℕ → Lists → List Refusal
-allFieldsRefusals s m l = onCurrent s m (refuse ListTooShort (shortFor (recordAt (s .mst) (placeFor s m)) l) ∷ [])
+allFieldsRefusals s m l = onCurrent s m (refuse NoRoomInList (shortFor (recordAt (s .mst) (placeFor s m)) l) ∷ [])
 
 unfoldable pub allFieldsAnswer : Store → ℕ → Lists → Answer
 allFieldsAnswer s m l = lowest (allFieldsRefusals s m l)
 
 abbrev pub settledAllFieldsRefusals : Store → ℕ → Lists → List Refusal
-settledAllFieldsRefusals s m l = onSettled s m (refuse ListTooShort (shortFor (shownSettled (s .mst) (placeFor s m)) l) ∷ [])
+settledAllFieldsRefusals s m l = onSettled s m (refuse NoRoomInList (shortFor (shownSettled (s .mst) (placeFor s m)) l) ∷ [])
 
 unfoldable pub settledAllFieldsAnswer : Store → ℕ → Lists → Answer
 settledAllFieldsAnswer s m l = lowest (settledAllFieldsRefusals s m l)
