@@ -9,15 +9,16 @@ use borrow.Author.Tests.{ltb-false}
 use Rattle.layout.specs.Control.{endOf}
 use Rattle.layout.specs.declared.entry.Mark.the-variants.{Changed}
 use Rattle.layout.specs.declared.entry.Entry.the-variants.{At}
-use Rattle.record.specs.Draft.{draftRight, draftFields}
 use Rattle.record.specs.Bytes.{needFor}
 use Rattle.store.specs.Answer.{Refusal, refuse, lowest, numberOf}
-use Rattle.store.specs.Reading.{mfnKnown, entryFor, placeFor, isGone, isSettled, isNew, leaderAt, currentFields}
-use Rattle.store.specs.Refusals.{named, fine, bothFine, exceeds, updateAppends, updateAnswer, deleteAnswer, settleAnswer, revertAnswer}
-use Rattle.store.specs.declared.answer.Answer.the-variants.{Done, BadDraft, NoSuchMfn, PhysicallyDeleted, Deleted, NotPending, NeverSettled, NoRoom}
+use Rattle.store.specs.Reading.{mfnInRange, entryFor, placeFor, isGone, isSettled, isNew, leaderAt, currentFields}
+use Rattle.store.specs.Refusals.{named, fine, bothFine}
+use Rattle.writing.specs.Refusals.{exceeds, updateAppends, updateAnswer, deleteAnswer, settleAnswer, revertAnswer}
+use Rattle.store.specs.declared.answer.Answer.the-variants.{Done, BadDraft, NoMfn, Gone as GoneAnswer, Deleted, NotPending, NeverSettled, NoRoom}
 use Rattle.store.proofs.Gates.{Refusing, passed, holds}
-use Rattle.store.proofs.Results.{only-changed}
-use Rattle.soundness.proofs.Standing.{Sound, gated-sound, named-fine, named-both, entry-for-place}
+use Rattle.writing.proofs.Results.{only-changed}
+use Rattle.store.specs.Store.{store, Draft, isRight, fieldsIn}
+use Rattle.soundness.proofs.SoundEntries.{Sound, gated-sound, named-fine, named-both, entry-for-place}
 
 -- ---- the answers of the rows are refusals
 
@@ -25,11 +26,11 @@ pub no-draft : Refusing BadDraft
 unfolding numberOf
 no-draft z = omega arith
 
-pub no-mfn : Refusing NoSuchMfn
+pub no-mfn : Refusing NoMfn
 unfolding numberOf
 no-mfn z = omega arith
 
-no-entry : Refusing PhysicallyDeleted
+no-entry : Refusing GoneAnswer
 unfolding numberOf
 no-entry z = omega arith
 
@@ -53,21 +54,21 @@ no-room z = omega arith
 
 -- the MFN is there, at the place of its entry
 pub record There (mst xrf : List ℕ) (m : ℕ) : Type 0 where
-  pub known : mfnKnown mst m ≡ true
-  pub entry : entryFor mst xrf m ≡ At (placeFor mst xrf m)
+  pub known : mfnInRange mst m ≡ true
+  pub entry : entryFor (store mst xrf) m ≡ At (placeFor (store mst xrf) m)
 
 module _ {mst xrf : List ℕ} (s : Sound mst xrf) (m : ℕ) where
   -- the rows of an MFN passed
-  there : (rest : List Refusal) → lowest (named mst xrf m (fine mst xrf m) rest) ≡ Done → There mst xrf m × (lowest rest ≡ Done)
+  there : (rest : List Refusal) → lowest (named (store mst xrf) m (fine (store mst xrf) m) rest) ≡ Done → There mst xrf m × (lowest rest ≡ Done)
   there rest e =
-      let k = holds (mfnKnown mst m) NoSuchMfn (cond (isGone (entryFor mst xrf m)) PhysicallyDeleted (lowest rest)) no-mfn (sym (named-fine s m rest) ∙ e) in
-      let g = passed (isGone (entryFor mst xrf m)) PhysicallyDeleted (lowest rest) no-entry (k .1) in
+      let k = holds (mfnInRange mst m) NoMfn (cond (isGone (entryFor (store mst xrf) m)) GoneAnswer (lowest rest)) no-mfn (sym (named-fine s m rest) ∙ e) in
+      let g = passed (isGone (entryFor (store mst xrf) m)) GoneAnswer (lowest rest) no-entry (k .1) in
       (record { known = k .0; entry = entry-for-place s m (k .0) (g .0) }, g .1)
 
-  there-both : (rest : List Refusal) → lowest (named mst xrf m (bothFine mst xrf m) rest) ≡ Done → There mst xrf m × (lowest rest ≡ Done)
+  there-both : (rest : List Refusal) → lowest (named (store mst xrf) m (bothFine (store mst xrf) m) rest) ≡ Done → There mst xrf m × (lowest rest ≡ Done)
   there-both rest e =
-      let k = holds (mfnKnown mst m) NoSuchMfn (cond (isGone (entryFor mst xrf m)) PhysicallyDeleted (lowest rest)) no-mfn (sym (named-both s m rest) ∙ e) in
-      let g = passed (isGone (entryFor mst xrf m)) PhysicallyDeleted (lowest rest) no-entry (k .1) in
+      let k = holds (mfnInRange mst m) NoMfn (cond (isGone (entryFor (store mst xrf) m)) GoneAnswer (lowest rest)) no-mfn (sym (named-both s m rest) ∙ e) in
+      let g = passed (isGone (entryFor (store mst xrf) m)) GoneAnswer (lowest rest) no-entry (k .1) in
       (record { known = k .0; entry = entry-for-place s m (k .0) (g .0) }, g .1)
 
   -- room, where the call writes at the end
@@ -76,42 +77,42 @@ module _ {mst xrf : List ℕ} (s : Sound mst xrf) (m : ℕ) where
   room-for appends need e a = ltb-false (length mst) (endOf mst + need) (rw a at e)
 
   -- an update that is done
-  pub record UpdateAsked (tags lens bytes : List ℕ) : Type 0 where
-    pub draft : draftRight tags lens bytes ≡ true
+  pub record UpdateAsked (d : Draft) : Type 0 where
+    pub draft : isRight d ≡ true
     pub here : There mst xrf m
-    pub live : placeFor mst xrf m .deleted ≡ false
-    pub room : updateAppends (placeFor mst xrf m) (leaderAt mst (placeFor mst xrf m)) (needFor (draftFields tags lens bytes)) ≡ true
-        → endOf mst + needFor (draftFields tags lens bytes) ≤ length mst
+    pub live : placeFor (store mst xrf) m .deleted ≡ false
+    pub room : updateAppends (placeFor (store mst xrf) m) (leaderAt mst (placeFor (store mst xrf) m)) (needFor (fieldsIn d)) ≡ true
+        → endOf mst + needFor (fieldsIn d) ≤ length mst
 
-  pub update-asked : (tags lens bytes : List ℕ) → updateAnswer mst xrf m tags lens bytes ≡ Done → UpdateAsked tags lens bytes
+  pub update-asked : (d : Draft) → updateAnswer (store mst xrf) m d ≡ Done → UpdateAsked d
   unfolding updateAnswer
-  update-asked tags lens bytes e =
-      let need = needFor (draftFields tags lens bytes) in
-      let p = placeFor mst xrf m in
+  update-asked d e =
+      let need = needFor (fieldsIn d) in
+      let p = placeFor (store mst xrf) m in
       let last : List Refusal = refuse NoRoom (updateAppends p (leaderAt mst p) need && exceeds mst need) ∷ [] in
       let rest : List Refusal = refuse Deleted (p .deleted) ∷ last in
-      let d =
-      holds (draftRight tags lens bytes) BadDraft (lowest (named mst xrf m (fine mst xrf m) rest)) no-draft
-      (sym (gated-sound s (refuse BadDraft (not (draftRight tags lens bytes)) ∷ named mst xrf m (fine mst xrf m) rest)) ∙ e) in
-      let h = there rest (d .1) in
+      let r =
+      holds (isRight d) BadDraft (lowest (named (store mst xrf) m (fine (store mst xrf) m) rest)) no-draft
+      (sym (gated-sound s (refuse BadDraft (not (isRight d)) ∷ named (store mst xrf) m (fine (store mst xrf) m) rest)) ∙ e) in
+      let h = there rest (r .1) in
       let l = passed (p .deleted) Deleted (lowest last) no-live (h .1) in
-      let r = passed (updateAppends p (leaderAt mst p) need && exceeds mst need) NoRoom Done no-room (l .1) in
-      record { draft = d .0; here = h .0; live = l .0; room = λ a. room-for (updateAppends p (leaderAt mst p) need) need (r .0) a }
+      let w = passed (updateAppends p (leaderAt mst p) need && exceeds mst need) NoRoom Done no-room (l .1) in
+      record { draft = r .0; here = h .0; live = l .0; room = λ a. room-for (updateAppends p (leaderAt mst p) need) need (w .0) a }
 
   -- a delete that is done
   pub record DeleteAsked : Type 0 where
     pub here : There mst xrf m
-    pub live : placeFor mst xrf m .deleted ≡ false
-    pub room : isSettled (placeFor mst xrf m .mark) ≡ true → endOf mst + needFor (currentFields mst (placeFor mst xrf m)) ≤ length mst
+    pub live : placeFor (store mst xrf) m .deleted ≡ false
+    pub room : isSettled (placeFor (store mst xrf) m .mark) ≡ true → endOf mst + needFor (currentFields mst (placeFor (store mst xrf) m)) ≤ length mst
 
-  pub delete-asked : deleteAnswer mst xrf m ≡ Done → DeleteAsked
+  pub delete-asked : deleteAnswer (store mst xrf) m ≡ Done → DeleteAsked
   unfolding deleteAnswer
   delete-asked e =
-      let p = placeFor mst xrf m in
+      let p = placeFor (store mst xrf) m in
       let need = needFor (currentFields mst p) in
       let last : List Refusal = refuse NoRoom (isSettled (p .mark) && exceeds mst need) ∷ [] in
       let rest : List Refusal = refuse Deleted (p .deleted) ∷ last in
-      let h = there rest (sym (gated-sound s (named mst xrf m (fine mst xrf m) rest)) ∙ e) in
+      let h = there rest (sym (gated-sound s (named (store mst xrf) m (fine (store mst xrf) m) rest)) ∙ e) in
       let l = passed (p .deleted) Deleted (lowest last) no-live (h .1) in
       let r = passed (isSettled (p .mark) && exceeds mst need) NoRoom Done no-room (l .1) in
       record { here = h .0; live = l .0; room = λ a. room-for (isSettled (p .mark)) need (r .0) a }
@@ -119,28 +120,28 @@ module _ {mst xrf : List ℕ} (s : Sound mst xrf) (m : ℕ) where
   -- a settle that is done
   pub record SettleAsked : Type 0 where
     pub here : There mst xrf m
-    pub pending : isSettled (placeFor mst xrf m .mark) ≡ false
+    pub pending : isSettled (placeFor (store mst xrf) m .mark) ≡ false
 
-  pub settle-asked : settleAnswer mst xrf m ≡ Done → SettleAsked
+  pub settle-asked : settleAnswer (store mst xrf) m ≡ Done → SettleAsked
   unfolding settleAnswer
   settle-asked e =
-      let rest : List Refusal = refuse NotPending (isSettled (placeFor mst xrf m .mark)) ∷ [] in
-      let h = there rest (sym (gated-sound s (named mst xrf m (fine mst xrf m) rest)) ∙ e) in
-      let p = passed (isSettled (placeFor mst xrf m .mark)) NotPending Done no-pending (h .1) in
+      let rest : List Refusal = refuse NotPending (isSettled (placeFor (store mst xrf) m .mark)) ∷ [] in
+      let h = there rest (sym (gated-sound s (named (store mst xrf) m (fine (store mst xrf) m) rest)) ∙ e) in
+      let p = passed (isSettled (placeFor (store mst xrf) m .mark)) NotPending Done no-pending (h .1) in
       record { here = h .0; pending = p .0 }
 
   -- a revert that is done
   pub record RevertAsked : Type 0 where
     pub here : There mst xrf m
-    pub changed : placeFor mst xrf m .mark ≡ Changed
+    pub changed : placeFor (store mst xrf) m .mark ≡ Changed
 
-  pub revert-asked : revertAnswer mst xrf m ≡ Done → RevertAsked
+  pub revert-asked : revertAnswer (store mst xrf) m ≡ Done → RevertAsked
   unfolding revertAnswer
   revert-asked e =
-      let p = placeFor mst xrf m in
+      let p = placeFor (store mst xrf) m in
       let last : List Refusal = refuse NeverSettled (isNew (p .mark)) ∷ [] in
       let rest : List Refusal = refuse NotPending (isSettled (p .mark)) ∷ last in
-      let h = there-both rest (sym (gated-sound s (named mst xrf m (bothFine mst xrf m) rest)) ∙ e) in
+      let h = there-both rest (sym (gated-sound s (named (store mst xrf) m (bothFine (store mst xrf) m) rest)) ∙ e) in
       let n = passed (isSettled (p .mark)) NotPending (lowest last) no-pending (h .1) in
       let w = passed (isNew (p .mark)) NeverSettled Done no-settled (n .1) in
       record { here = h .0; changed = only-changed (p .mark) (n .0) (w .0) }
