@@ -8,7 +8,6 @@ pub mod Formatting
 pub mod Changing
 pub mod Either
 pub mod Creating
-pub mod Asked
 pub mod Versions
 pub mod Theorem
 pub mod Ascending

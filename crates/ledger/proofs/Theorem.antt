@@ -18,6 +18,7 @@ use Rattle.store.specs.declared.answer.Answer.{Answer}
 use Rattle.store.specs.declared.answer.Answer.the-variants.{Done}
 use Rattle.store.proofs.Gates.{after-same}
 use Rattle.soundness.proofs.SoundEntries.{Sound, stands, body-sound, EntryStands, is-gone, is-at, known-stands, create-row, below-capacity, version-fine}
+use Rattle.soundness.proofs.Asked.{create-asked, update-asked, delete-asked, settle-asked, revert-asked}
 use Rattle.store.specs.Store.{Store, store, Draft}
 use Rattle.ledger.specs.Call.{Call, format, view, viewSettled, create, update, delete, settle, revert, check, outcome, plain}
 use Rattle.ledger.specs.Ledger.{Ledger, nextMfn, empty}
@@ -30,9 +31,8 @@ use Rattle.ledger.proofs.Reading.{Opened, Seen, absent, physically, pre
 use Rattle.ledger.proofs.Answering.{format-answer, create-answer, update-answer, delete-answer, settle-answer, revert-answer, check-answer}
 use Rattle.ledger.proofs.Viewing.{view-outcome, settled-view-outcome}
 use Rattle.ledger.proofs.Formatting.{formatted, formatted-sound, formatted-ledger, format-leaves}
-use Rattle.ledger.proofs.Creating.{create-asked, create-left}
+use Rattle.ledger.proofs.Creating.{create-left}
 use Rattle.ledger.proofs.Either.{Left, either}
-use Rattle.ledger.proofs.Asked.{update-asked, delete-asked, settle-asked, revert-asked}
 use Rattle.ledger.proofs.Versions.{update-left, delete-left, settle-left, revert-left}
 use Rattle.ledger.proofs.Lists.{Step, Run, run-all}
 
@@ -92,7 +92,7 @@ module _ (t : Store) (h : SoundStore t) where
   step (viewSettled m tag occ) = asked (viewSettled m tag occ) (settled-view-outcome t opened m tag occ (see m)) refl refl
   step (create d) =
       written (create d) (createAnswer t d) _ (create-answer t opened d (λ e. create-row s (below-capacity s e))) (create-gives d) refl
-      (λ e. create-left (t .mst) (t .xrf) d s (create-asked (t .mst) (t .xrf) d s e))
+      (λ e. create-left (t .mst) (t .xrf) d s (create-asked s d e))
   step (update m d) =
       written (update m d) (updateAnswer t m d) _ (update-answer t opened m d (see m)) refl refl
       (λ e.

@@ -21,6 +21,7 @@ use Rattle.writing.specs.Calls.{pendingMark, updatedMst, updatedXrf, deletedMst
 use Rattle.store.proofs.Gates.{MfnFacts, mfn-facts}
 use Rattle.soundness.proofs.SoundEntries.{Sound, sound}
 use Rattle.soundness.proofs.Leaving.{Leaves}
+use Rattle.soundness.proofs.Asked.{There}
 use Rattle.soundness.proofs.Writes.{update-appends, update-stays, delete-appends, delete-stays, settled-leaves, reverted-leaves}
 use Rattle.ledger.specs.Call.{update, delete, settle, revert}
 use Rattle.ledger.specs.Ledger.{settled, changed, held, Ledger, itemOf, keptLength, settledOr, settledFields}
@@ -32,7 +33,6 @@ use Rattle.ledger.proofs.Reading.{Opened}
 use Rattle.ledger.proofs.Answering.{settled-mark, appends-is, item-at}
 use Rattle.ledger.proofs.Changing.{markingFor, ledger-set}
 use Rattle.ledger.proofs.Either.{Left}
-use Rattle.ledger.proofs.Asked.{There}
 
 -- the mark of a new version at the end, and of one in place
 changed-marking : (mst : List ℕ) (p : Place) (k : Mark) (need : ℕ)
