@@ -18,11 +18,12 @@ use Rattle.word.specs.Integer.{u16At, u32At, le}
 use Rattle.word.specs.Overwrite.{overwrite}
 use Rattle.word.specs.Signed.{signedOf, bitsOf}
 use Rattle.word.proofs.TwosComplement.{back-of}
-use Rattle.layout.specs.Sizes.{blocksWithin, mstPermitted, xrfPermitted, addressOf, blockAt, offsetAt, endMoved, recordLength, tagPermitted}
+use Rattle.layout.specs.Sizes.{mstBlocks, recordMost, tagMost, offsetMost, blocksWithin, mstPermitted, xrfPermitted, addressOf, blockAt, offsetAt, endMoved, recordLength, tagPermitted}
 use Rattle.layout.specs.Entry.{wellPlaced, markedPlace, placeOf, markBits, entryOf, encodeOf}
-use Rattle.layout.specs.Control.{nextOf, endOf, numbersRight, endRight, controlRight, controlOf, withNext, withEnd, formattedMst}
+use Rattle.layout.specs.Control.{storedOffset, readOffset, nextOf, endOf, numbersRight, endRight, controlRight, withNext, withEnd, formattedMst}
 use Rattle.layout.specs.CrossReference.{xrfBlock, slotAt, headBits, headRight, slotFree, entryAt, withEntry, withHeads, formattedXrf}
-use Rattle.layout.specs.Leader.{leaderBytes, leaderOf, firstBytes}
+use Rattle.layout.specs.Leader.{leaderBytes, leaderOf}
+use Rattle.layout.specs.Inner.{controlOf, firstBytes}
 use Rattle.layout.specs.declared.leader.Leader.{Leader}
 use Rattle.layout.specs.declared.control.Control.the-variants.{Right, Wrong}
 use Rattle.layout.specs.declared.sizes.Block.{Block}
@@ -61,7 +62,7 @@ module _ (n : ℕ) where
   unfolding recordLength
   length-short h = rw (lt-leb _ _ h, and-false)
 
-  pub length-rest : n % 2 ≡ 0 → 18 ≤ n → leb n 32766 ≡ recordLength n
+  pub length-rest : n % 2 ≡ 0 → 18 ≤ n → leb n recordMost ≡ recordLength n
   unfolding recordLength
   length-rest h k = rw (eq-eqb _ _ h, le-leb _ _ k)
 
@@ -69,7 +70,7 @@ module _ (n : ℕ) where
   unfolding tagPermitted
   tag-none h = rw (lt-leb _ _ h)
 
-  pub tag-rest : 1 ≤ n → leb n 32767 ≡ tagPermitted n
+  pub tag-rest : 1 ≤ n → leb n tagMost ≡ tagPermitted n
   unfolding tagPermitted
   tag-rest h = rw (le-leb _ _ h)
 
@@ -92,7 +93,7 @@ module _ (end b p : ℕ) where
   unfolding wellPlaced
   placed-odd h = rw (ne-eqb _ _ h, and-false)
 
-  pub placed-late : 498 < p → false ≡ wellPlaced end b p
+  pub placed-late : offsetMost < p → false ≡ wellPlaced end b p
   unfolding wellPlaced
   placed-late h = rw (lt-leb _ _ h, and-false)
 
@@ -101,7 +102,7 @@ module _ (end b p : ℕ) where
     unfolding wellPlaced
     placed-low h = rw (← e, lt-leb _ _ h, and-false)
 
-    pub placed-rest : 1 ≤ b → p % 2 ≡ 0 → p ≤ 498 → 64 ≤ at → leb (at + 18) end ≡ wellPlaced end b p
+    pub placed-rest : 1 ≤ b → p % 2 ≡ 0 → p ≤ offsetMost → 64 ≤ at → leb (at + 18) end ≡ wellPlaced end b p
     unfolding wellPlaced
     placed-rest h i j k = rw (← e, le-leb _ _ h, eq-eqb _ _ i, le-leb _ _ j, le-leb _ _ k)
 
@@ -183,26 +184,26 @@ module _ (mst : List ℕ) where
     unfolding endRight
     end-no-block h = rw (← e, lt-leb 1 b h)
 
-    pub end-is : (p r : ℕ) → p ≡ u16At mst 12 → r ≡ addressOf b p → r ≡ endOf mst
+    pub end-is : (p r : ℕ) → p ≡ u16At mst 12 → r ≡ addressOf b (readOffset p) → r ≡ endOf mst
     unfolding endOf
     end-is p r f s = rw (s, e, f)
 
   module _ (p : ℕ) (e : p ≡ u16At mst 12) where
-    pub end-odd : (p % 2 ≡ 0 → ⊥) → false ≡ endRight mst
+    pub end-odd : (p % 2 ≡ storedOffset 0 % 2 → ⊥) → false ≡ endRight mst
     unfolding endRight
     end-odd h = rw (← e, ne-eqb _ _ h, and-false)
 
-    pub end-late : 498 < p → false ≡ endRight mst
+    pub end-late : storedOffset offsetMost < p → false ≡ endRight mst
     unfolding endRight
-    end-late h = rw (← e, lt-leb p 498 h, and-false)
+    end-late h = rw (← e, lt-leb p (storedOffset offsetMost) h, and-false)
 
     pub end-low : (r : ℕ) → r ≡ endOf mst → r < 64 → false ≡ endRight mst
     unfolding endRight
     end-low r f h = rw (← f, lt-leb 64 r h, and-false)
 
-    pub end-rest : (b r : ℕ) → b ≡ u32At mst 8 → 1 ≤ b → p % 2 ≡ 0 → p ≤ 498 → r ≡ endOf mst → 64 ≤ r → leb r (length mst) ≡ endRight mst
+    pub end-rest : (b r : ℕ) → b ≡ u32At mst 8 → 1 ≤ b → p % 2 ≡ storedOffset 0 % 2 → p ≤ storedOffset offsetMost → r ≡ endOf mst → 64 ≤ r → leb r (length mst) ≡ endRight mst
     unfolding endRight
-    end-rest b r f h i j g k = rw (← f, ← e, ← g, le-leb 1 b h, eq-eqb _ _ i, le-leb p 498 j, le-leb 64 r k)
+    end-rest b r f h i j g k = rw (← f, ← e, ← g, le-leb 1 b h, eq-eqb _ _ i, le-leb p (storedOffset offsetMost) j, le-leb 64 r k)
 
   end-long : (t : Bool) → endRight mst ≡ t → length mst < 64 → endRight mst ≡ false
   unfolding endRight
@@ -256,15 +257,15 @@ module _ (xrf : List ℕ) where
     unfolding slotFree
     slot-tested r f = rw (f, e)
 
-  module _ (end m : ℕ) (right : Bool) (e : right ≡ headRight xrf (xrfBlock m)) where
+  module _ (end m k : ℕ) (right : Bool) (b : k ≡ xrfBlock m) (e : right ≡ headRight xrf k) where
     pub entry-no-head : not right ≡ true → Malformed ≡ entryAt xrf end m
     unfolding entryAt
-    entry-no-head h = rw (← e, not-true right h)
+    entry-no-head h = rw (← b, ← e, not-true right h)
 
     pub entry-told : (at : ℕ) (z : ℤ) (r : Entry) → not right ≡ false → at ≡ slotAt m → mag z < 2 ^ 31 → z ≡ signedOf (u32At xrf at)
         → r ≡ entryOf end (toZ w32 (ofZ w32 z)) → r ≡ entryAt xrf end m
     unfolding entryAt
-    entry-told at z r h i j k l = rw (← e, not-false right h, l, back-of j k, i)
+    entry-told at z r h i j o l = rw (← b, ← e, not-false right h, l, back-of j o, i)
 
   pub entry-put : (m at : ℕ) (pl : Place) (z : ℤ) (out : List ℕ) → at ≡ slotAt m → mag z < 2 ^ 31 → z ≡ encodeOf pl
       → out ≡ overwrite xrf at (le 4 (bitsOf (toZ w32 (ofZ w32 z)))) → out ≡ withEntry xrf m pl
@@ -282,7 +283,7 @@ pub ruleset xrf-answers = (head-last, head-plain, head-tested, slot-tested, entr
 module _ (mst zero : List ℕ) (h : mstPermitted (length mst) ≡ true) (e : zero ≡ overwrite mst 0 (replicate (length mst) 0)) where
   pub long-zero : 64 ≤ length zero
   long-zero =
-      let f = blocks-facts 1048575 (length mst) h in
+      let f = blocks-facts mstBlocks (length mst) h in
       let l : length (replicate {A = ℕ} (length mst) 0) ≡ length mst = length-replicate (length mst) 0 in
       rw (e, overwrite-whole mst (replicate (length mst) 0) l) (omega arith)
 
@@ -294,10 +295,10 @@ module _ (mst out : List ℕ) where
   unfolding withNext
   next-put n e = e
 
-  pub end-put : (b p e : ℕ) (half : List ℕ) → half ≡ overwrite mst 8 (le 4 b) → b ≡ blockAt e → out ≡ overwrite half 12 (le 2 p) → p ≡ offsetAt e
+  pub end-put : (b p e : ℕ) (half : List ℕ) → half ≡ overwrite mst 8 (le 4 b) → b ≡ blockAt e → out ≡ overwrite half 12 (le 2 (storedOffset p)) → p ≡ offsetAt e
       → 64 ≤ length mst → out ≡ withEnd mst e
   unfolding withEnd
-  end-put b p e half h i j k long = rw (j, h, i, k) (overwrite-next mst 8 (le 4 (blockAt e)) (le 2 (offsetAt e)) (omega arith))
+  end-put b p e half h i j k long = rw (j, h, i, k) (overwrite-next mst 8 (le 4 (blockAt e)) (le 2 (storedOffset (offsetAt e))) (omega arith))
 
   pub mst-put : (zero next : List ℕ) → zero ≡ overwrite mst 0 (replicate (length mst) 0) → next ≡ withNext zero 1 → out ≡ withEnd next 64 → out ≡ formattedMst (length mst)
   unfolding formattedMst

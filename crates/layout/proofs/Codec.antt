@@ -13,7 +13,8 @@ use mir.Val.{SFits, ofZ}
 use borrow.Author.Tests.{lt-ltb, le-ltb, ne-eqb, eqb-true}
 use Rattle.word.specs.Signed.{signedOf, bitsOf}
 use Rattle.word.proofs.TwosComplement.{bits-bound, signed-bits, bits-signed}
-use Rattle.layout.specs.Entry.{wellPlaced, blockOf, lowOf, deletedOf, isGone, placed, markedPlace, placeOf, entryOf, markBits, signedBlock, encodeOf}
+use Rattle.layout.specs.Sizes.{mstBlocks, mstMost, offsetMost}
+use Rattle.layout.specs.Entry.{wellPlaced, blockOf, lowOf, deletedOf, meansGone, placed, markedPlace, placeOf, entryOf, markBits, signedBlock, encodeOf}
 use Rattle.layout.specs.declared.entry.Mark.{Mark}
 use Rattle.layout.specs.declared.entry.Mark.the-variants.{Settled, Changed, New}
 use Rattle.layout.specs.declared.entry.Place.{Place}
@@ -28,7 +29,7 @@ pub deleted-is : (z : ℤ) → ltZ z (pos 0) ≡ deletedOf z
 deleted-is (pos n) = le-ltb n 0 (omega arith)
 deleted-is (negsuc n) = refl
 
-pub not-gone : (z : ℤ) → SFits w32 z → (ofZ w32 z ≡ 4294965248 → ⊥) → isGone z ≡ false
+pub not-gone : (z : ℤ) → SFits w32 z → (ofZ w32 z ≡ 4294965248 → ⊥) → meansGone z ≡ false
 not-gone (pos n) f k = refl
 not-gone (negsuc n) f k = ne-eqb n 2047 (λ e. k (ap (λ (x : ℕ). 4294967296 - suc x) e))
 
@@ -53,7 +54,7 @@ marks-small Changed = omega arith
 marks-small New = omega arith
 
 -- the offset and the mark in a low part
-module _ (b p : ℕ) (d : Bool) (h : p ≤ 498) where
+module _ (b p : ℕ) (d : Bool) (h : p ≤ offsetMost) where
   low-offset : (m : Mark) → (p + markBits m) % 512 ≡ p
   unfolding markBits
   low-offset Settled = omega arith
@@ -83,7 +84,7 @@ module _ (b low : ℕ) (hb : 1 ≤ b) (hl : low < 2048) where
   dead-low = omega arith
 
 -- what stands in 32 bits
-fits : (b low : ℕ) (d : Bool) → 1 ≤ b → b ≤ 1048575 → low < 2048 → SFits w32 (signedBlock d b *ℤ pos 2048 +ℤ pos low)
+fits : (b low : ℕ) (d : Bool) → 1 ≤ b → b ≤ mstBlocks → low < 2048 → SFits w32 (signedBlock d b *ℤ pos 2048 +ℤ pos low)
 fits b low false hb h hl = record { sfits = omega arith }
 fits b low true hb h hl = rw (deleted-entry b low (omega arith)) (record { sfits = omega arith })
 
@@ -161,7 +162,7 @@ module _ (end : ℕ) (e : ℤ) (pl : Place) (h : entryOf end e ≡ At pl) where
       let b : ℕ = natAbs (blockOf e) in
       let low : ℕ = lowOf e in
       cond-place (wellPlaced end b (low % 512)) (markedPlace b (low % 512) (deletedOf e) (low / 512)) pl
-      (cond-gone (isGone e) (placeOf end b (deletedOf e) low) pl h)
+      (cond-gone (meansGone e) (placeOf end b (deletedOf e) low) pl h)
 
   read-holds : Holds (natAbs (blockOf e)) (lowOf e % 512) (deletedOf e) (lowOf e / 512) pl
   read-holds = marked-holds (natAbs (blockOf e)) (lowOf e % 512) (deletedOf e) (lowOf e / 512) pl (read .1)
@@ -191,7 +192,7 @@ module _ (end : ℕ) (pl : Place) (w : wellPlaced end (pl .block .0) (pl .offset
   pub decode-same : (e : ℤ) (other : ℕ) → entryOf other e ≡ At pl → entryOf end e ≡ At pl
   decode-same e other h = ap (entryOf end) (sym (encode-decode other e pl h)) ∙ decode-encode
 
-  module _ (m : end ≤ 536870400) where
+  module _ (m : end ≤ mstMost) where
     low-small : pl .offset + markBits (pl .mark) < 2048
     low-small = let f = well-placed-facts end (pl .block .0) (pl .offset) w in omega (arith, marks-small (pl .mark))
 
@@ -235,17 +236,17 @@ gone-test : (t : Bool) (x : Entry) → (x ≡ Gone → ⊥) → cond t Gone x �
 gone-test true x n e = refl
 gone-test false x n e = absurd (n e)
 
-is-gone : (e : ℤ) → isGone e ≡ true → e ≡ negsuc 2047
-is-gone (pos n) h = absurd (false-true h)
-is-gone (negsuc n) h = ap negsuc (eqb-true n 2047 h)
+means-gone : (e : ℤ) → meansGone e ≡ true → e ≡ negsuc 2047
+means-gone (pos n) h = absurd (false-true h)
+means-gone (negsuc n) h = ap negsuc (eqb-true n 2047 h)
 
 pub decoded-gone : (end : ℕ) (e : ℤ) → entryOf end e ≡ Gone → e ≡ negsuc 2047
 unfolding entryOf placeOf
 decoded-gone end e h =
     let b : ℕ = natAbs (blockOf e) in
     let low : ℕ = lowOf e in
-    is-gone e
-    (gone-test (isGone e) (placeOf end b (deletedOf e) low)
+    means-gone e
+    (gone-test (meansGone e) (placeOf end b (deletedOf e) low)
     (place-not-gone (wellPlaced end b (low % 512)) b (low % 512) (deletedOf e) (low / 512)) h)
 
 -- whatever the end

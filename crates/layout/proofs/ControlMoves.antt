@@ -6,12 +6,11 @@ use native.Mathlib.Omega.{arith}
 use mathlib.Core.Path.{_≡_, _∙_}
 use mathlib.Core.Logic.{_⊎_, inl, inr, ⊎-elim}
 use mathlib.Core.Bool.{true}
-use mathlib.Core.List.{List, _++_}
+use mathlib.Core.List.{List}
 use lib.ListN.{length, getD}
 use Rattle.word.specs.Integer.{le}
 use Rattle.word.proofs.Overwrite.{lt-or-ge, overwrite-other}
-use Rattle.layout.specs.Sizes.{blockAt, offsetAt}
-use Rattle.layout.specs.Control.{nextOf, endOf, controlRight, withNext, withEnd}
+use Rattle.layout.specs.Control.{endBytes, nextOf, endOf, controlRight, withNext, withEnd}
 use Rattle.layout.specs.NamedBytes.{Within, NextByte, EndByte, ControlByte, next-mfn, the-end}
 use Rattle.layout.proofs.ControlRecord.{next-length, next-of-next, end-of-next, control-right-next, end-length, next-of-end, end-of-end, control-right-end}
 
@@ -34,7 +33,7 @@ next-kept mst n long i off = overwrite-other mst 4 (le 4 n) i (omega arith) (out
 
 pub end-kept : (mst : List ℕ) (e : ℕ) → 64 ≤ length mst → (i : ℕ) → (EndByte i → ⊥) → getD (withEnd mst e) i 0 ≡ getD mst i 0
 unfolding withEnd EndByte
-end-kept mst e long i off = overwrite-other mst 8 (le 4 (blockAt e) ++ le 2 (offsetAt e)) i (omega arith) (out-of 8 6 i off)
+end-kept mst e long i off = overwrite-other mst 8 (endBytes e) i (omega arith) (out-of 8 6 i off)
 
 -- ---- what a call writes
 

@@ -16,7 +16,7 @@ use Rattle.word.specs.Overwrite.{overwrite}
 use Rattle.word.specs.Signed.{signedOf, bitsOf}
 use Rattle.word.proofs.Overwrite.{lt-or-ge, overwrite-length, overwrite-other}
 use Rattle.word.proofs.Integers.{u32-placed, u32-other}
-use Rattle.layout.specs.Sizes.{capacityOf, xrfPermitted}
+use Rattle.layout.specs.Sizes.{xrfBlocks, mstMost, capacityOf, xrfPermitted}
 use Rattle.layout.specs.Entry.{wellPlaced, entryOf, encodeOf}
 use Rattle.layout.specs.CrossReference.{xrfBlock, slotAt, headBits, headRight, entryAt, slotFree, withEntry, withHeads, formattedXrf}
 use Rattle.layout.specs.declared.entry.Place.{Place}
@@ -116,7 +116,7 @@ module _ (xrf : List ℕ) (m : ℕ) (pl : Place) where
       unfolding entryAt
       with-entry-other end = rw (with-entry-head (xrfBlock o), with-entry-u32 (slotAt o) (slots-apart o m other-low low other))
 
-    module _ (end : ℕ) (w : wellPlaced end (pl .block .0) (pl .offset) ≡ true) (most : end ≤ 536870400) where
+    module _ (end : ℕ) (w : wellPlaced end (pl .block .0) (pl .offset) ≡ true) (most : end ≤ mstMost) where
       pub with-entry-bits : u32At (withEntry xrf m pl) (slotAt m) ≡ bitsOf (encodeOf pl)
       unfolding withEntry
       with-entry-bits = u32-placed xrf (slotAt m) (bitsOf (encodeOf pl)) in-slot (encoded-bound end pl w most)
@@ -127,7 +127,7 @@ module _ (xrf : List ℕ) (m : ℕ) (pl : Place) where
 
 -- ---- the first integers are written, and format
 
-pub head-bound : (n k : ℕ) → 1 ≤ k → k ≤ 4096 → headBits n k < 4294967296
+pub head-bound : (n k : ℕ) → 1 ≤ k → k ≤ xrfBlocks → headBits n k < 4294967296
 unfolding headBits
 head-bound n k h l = either (eqb k n)
   where
@@ -160,7 +160,7 @@ module _ (n : ℕ) (xrf : List ℕ) where
       swap s = ⊎-elim inr inl s
 
   -- each first integer that was written stands
-  pub heads-read : (k j : ℕ) → k * 512 ≤ length xrf → k ≤ 4096 → j < k → u32At (withHeads n k xrf) (j * 512) ≡ headBits n (suc j)
+  pub heads-read : (k j : ℕ) → k * 512 ≤ length xrf → k ≤ xrfBlocks → j < k → u32At (withHeads n k xrf) (j * 512) ≡ headBits n (suc j)
   unfolding withHeads
   heads-read zero j h l i = absurd (omega arith)
   heads-read (suc k) j h l i = ⊎-elim (λ g. before g (heads-read k j (omega arith) (omega arith) g)) last (lt-or-ge j k)
@@ -190,7 +190,7 @@ module _ (n : ℕ) (h : xrfPermitted n ≡ true) where
   formatted-read : (j : ℕ) → j < n / 512 → u32At (formattedXrf n) (j * 512) ≡ headBits (n / 512) (suc j)
   unfolding formattedXrf
   formatted-read j l =
-      let f = blocks-facts 4096 n h in
+      let f = blocks-facts xrfBlocks n h in
       heads-read (n / 512) (zeros n) (n / 512) j whole (omega arith) l
 
   pub formatted-head : (k : ℕ) → 1 ≤ k → k ≤ n / 512 → headRight (formattedXrf n) k ≡ true

@@ -7,13 +7,13 @@ use mathlib.Core.Logic.{⊎-elim}
 use mathlib.Core.Bool.{true}
 use borrow.Author.Tests.{le-leb, lt-leb}
 use Rattle.word.proofs.Overwrite.{lt-or-ge}
-use Rattle.layout.specs.Sizes.{blocksWithin, addressOf, blockAt, offsetAt, endMoved, recordLength, tagPermitted}
+use Rattle.layout.specs.Sizes.{mstBlocks, mstMost, recordMost, tagMost, offsetMost, blocksWithin, addressOf, blockAt, offsetAt, endMoved, recordLength, tagPermitted}
 use Rattle.layout.specs.Entry.{wellPlaced}
 use Rattle.layout.proofs.Tests.{tests}
 
 -- ---- lengths of the two files
 
--- of n bytes: mstPermitted n is blocksWithin 1048575 n, xrfPermitted n is blocksWithin 4096 n
+-- of n bytes: mstPermitted n is blocksWithin mstBlocks n, xrfPermitted n is blocksWithin xrfBlocks n
 pub record BlocksFacts (most n : ℕ) : Type 0 where
   pub whole : n % 512 ≡ 0
   pub low : 512 ≤ n
@@ -30,21 +30,21 @@ module _ (most n : ℕ) where
 pub record RecordLengthFacts (n : ℕ) : Type 0 where
   pub even : n % 2 ≡ 0
   pub low : 18 ≤ n
-  pub high : n ≤ 32766
+  pub high : n ≤ recordMost
 
 module _ (n : ℕ) where
   pub record-length-facts : recordLength n ≡ true → RecordLengthFacts n
   unfolding recordLength
   record-length-facts e = let q = simp tests at e in record { even = q .0 .0; low = q .0 .1; high = q .1 }
 
-  pub record-length-from : n % 2 ≡ 0 → 18 ≤ n → n ≤ 32766 → recordLength n ≡ true
+  pub record-length-from : n % 2 ≡ 0 → 18 ≤ n → n ≤ recordMost → recordLength n ≡ true
   unfolding recordLength
   record-length-from a b c = simp tests ((a, b), c)
 
 -- a tag that is permitted
 pub record TagFacts (t : ℕ) : Type 0 where
   pub low : 1 ≤ t
-  pub high : t ≤ 32767
+  pub high : t ≤ tagMost
 
 module _ (t : ℕ) where
   pub tag-facts : tagPermitted t ≡ true → TagFacts t
@@ -62,7 +62,7 @@ address-of-at a = omega arith
 pub record WellPlacedFacts (end b p : ℕ) : Type 0 where
   pub block : 1 ≤ b
   pub even : p % 2 ≡ 0
-  pub offset : p ≤ 498
+  pub offset : p ≤ offsetMost
   pub above : 64 ≤ addressOf b p
   pub room : addressOf b p + 18 ≤ end
 
@@ -72,7 +72,7 @@ well-placed-facts end b p e =
     let q = simp tests at e in
     record { block = q .0 .0 .0 .0; even = q .0 .0 .0 .1; offset = q .0 .0 .1; above = q .0 .1; room = q .1 }
 
-pub well-placed-from : (end b p : ℕ) → 1 ≤ b → p % 2 ≡ 0 → p ≤ 498 → 64 ≤ addressOf b p → addressOf b p + 18 ≤ end → wellPlaced end b p ≡ true
+pub well-placed-from : (end b p : ℕ) → 1 ≤ b → p % 2 ≡ 0 → p ≤ offsetMost → 64 ≤ addressOf b p → addressOf b p + 18 ≤ end → wellPlaced end b p ≡ true
 unfolding wellPlaced
 well-placed-from end b p h i j k l = simp tests ((((h, i), j), k), l)
 
@@ -84,11 +84,11 @@ module _ (end b p : ℕ) (e : wellPlaced end b p ≡ true) where
       well-placed-from later b p (f .block) (f .even) (f .offset) (f .above) (omega arith)
 
   -- what an entry can hold, where the end lies in an MST
-  pub encodable : end ≤ 536870400 → (1 ≤ b) × (b ≤ 1048575) × (p ≤ 498)
+  pub encodable : end ≤ mstMost → (1 ≤ b) × (b ≤ mstBlocks) × (p ≤ offsetMost)
   encodable h = let f = well-placed-facts end b p e in (f .block, omega arith, f .offset)
 
 -- of an address
-pub well-placed-at : (end a : ℕ) → a % 2 ≡ 0 → a % 512 ≤ 498 → 64 ≤ a → a + 18 ≤ end → wellPlaced end (blockAt a) (offsetAt a) ≡ true
+pub well-placed-at : (end a : ℕ) → a % 2 ≡ 0 → a % 512 ≤ offsetMost → 64 ≤ a → a + 18 ≤ end → wellPlaced end (blockAt a) (offsetAt a) ≡ true
 well-placed-at end a h i j k = well-placed-from end (blockAt a) (offsetAt a) (omega arith) (omega arith) i (omega arith) (omega arith)
 
 -- ---- the end
@@ -107,7 +107,7 @@ pub record EndMovedFacts (a end : ℕ) : Type 0 where
   pub low : a ≤ end
   pub near : end ≤ a + 12
   pub even : a % 2 ≡ 0 → end % 2 ≡ 0
-  pub offset : a % 2 ≡ 0 → end % 512 ≤ 498
+  pub offset : a % 2 ≡ 0 → end % 512 ≤ offsetMost
 
 module _ (a : ℕ) where
   pub end-moved-facts : EndMovedFacts a (endMoved a)

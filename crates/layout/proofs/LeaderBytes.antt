@@ -10,7 +10,8 @@ use Rattle.word.specs.Integer.{u16At, u32At, le}
 use Rattle.word.specs.Overwrite.{part}
 use Rattle.word.proofs.Overwrite.{part-add}
 use Rattle.word.proofs.Integers.{Bytes, u16-same, u32-same, u32-le, u16-le-at, u32-le-at, u16-back, u32-back}
-use Rattle.layout.specs.Leader.{leaderBytes, leaderOf, firstBytes}
+use Rattle.layout.specs.Leader.{leaderBytes, leaderOf}
+use Rattle.layout.specs.Inner.{firstBytes}
 use Rattle.layout.specs.declared.leader.Leader.{Leader}
 
 -- ---- what eighteen bytes hold

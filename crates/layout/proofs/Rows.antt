@@ -1,11 +1,12 @@
--- Rows P1 to P12, by computation.
+-- Rows P1 to P12, by computation: each entry from its number to its bytes and from its bytes to its kind.
 use mathlib.Core.Path.{_≡_, refl}
 use mathlib.Core.List.{map}
-use Rattle.word.specs.Signed.{bitsOf}
+use Rattle.word.specs.Integer.{u32At}
+use Rattle.word.specs.Signed.{signedOf, bitsOf}
 use Rattle.layout.specs.Sizes.{endMoved}
 use Rattle.layout.specs.Entry.{wellPlaced, markedPlace, placeOf, entryOf}
 use Rattle.layout.specs.Rows.{calculated, rows}
 
 pub rows-right : map calculated rows ≡ rows
-unfolding calculated rows entryOf placeOf markedPlace wellPlaced bitsOf endMoved
+unfolding calculated rows entryOf placeOf markedPlace wellPlaced u32At signedOf bitsOf endMoved
 rows-right = refl

@@ -7,16 +7,33 @@
 --   12     NXTMFP    the end's offset, even, at most 498
 --   14     MFTYPE    0
 --   16-63  ignored and kept
-use Prim.Native.Nat.{ℕ, _+_, _%_}
-use mathlib.Core.Bool.{Bool, _&&_, cond}
+use Prim.Native.Nat.{ℕ, _+_, _-_, _%_}
+use mathlib.Core.Bool.{Bool, _&&_}
 use mathlib.Core.List.{List, _++_}
 use lib.Dec.{eqb, leb}
 use lib.ListN.{length, replicate}
 use Rattle.word.specs.Integer.{u16At, u32At, le}
 use Rattle.word.specs.Overwrite.{overwrite}
-use Rattle.layout.specs.Sizes.{addressOf, blockAt, offsetAt}
-use Rattle.layout.specs.declared.control.Control.{Control}
-use Rattle.layout.specs.declared.control.Control.the-variants.{Right, Wrong}
+use Rattle.layout.specs.Sizes.{offsetMost, addressOf, blockAt, offsetAt}
+
+-- all that is read of it stands in its first bytes
+abbrev pub controlRead : ℕ
+controlRead = 16
+
+-- ---- how the end is stored: its block as it is, its offset counted from a number
+
+-- NXTMFP counts the end's offset from here
+abbrev pub offsetsFrom : ℕ
+offsetsFrom = 0
+
+-- what is stored of an offset, and the offset that is read of it
+abbrev pub storedOffset : ℕ → ℕ
+storedOffset p = p + offsetsFrom
+
+abbrev pub readOffset : ℕ → ℕ
+readOffset n = n - offsetsFrom
+
+-- ---- what the control record says
 
 -- NXTMFN
 unfoldable pub nextOf : List ℕ → ℕ
@@ -24,7 +41,7 @@ nextOf mst = u32At mst 4
 
 -- the end: the offset, counted from 0, where the next record goes
 unfoldable pub endOf : List ℕ → ℕ
-endOf mst = addressOf (u32At mst 8) (u16At mst 12)
+endOf mst = addressOf (u32At mst 8) (readOffset (u16At mst 12))
 
 -- CTLMFN and MFTYPE are 0, and NXTMFN lies in 1 to capacity + 1
 unfoldable pub numbersRight : List ℕ → ℕ → Bool
@@ -35,8 +52,8 @@ numbersRight mst capacity =
 unfoldable pub endRight : List ℕ → Bool
 endRight mst =
     leb 1 (u32At mst 8)
-    && eqb (u16At mst 12 % 2) 0
-    && leb (u16At mst 12) 498
+    && eqb (u16At mst 12 % 2) (storedOffset 0 % 2)
+    && leb (u16At mst 12) (storedOffset offsetMost)
     && leb 64 (endOf mst)
     && leb (endOf mst) (length mst)
 
@@ -44,17 +61,19 @@ endRight mst =
 unfoldable pub controlRight : List ℕ → ℕ → Bool
 controlRight mst capacity = numbersRight mst capacity && endRight mst
 
--- what is read of it: NXTMFN and the end, where it is right
-unfoldable pub controlOf : List ℕ → ℕ → Control
-controlOf mst capacity = cond (controlRight mst capacity) (Right (record { 0 = nextOf mst }) (endOf mst)) Wrong
+-- ---- what is written of it
 
 -- the MST with another NXTMFN
 unfoldable pub withNext : List ℕ → ℕ → List ℕ
 withNext mst n = overwrite mst 4 (le 4 n)
 
+-- NXTMFB and NXTMFP of an end
+abbrev pub endBytes : ℕ → List ℕ
+endBytes e = le 4 (blockAt e) ++ le 2 (storedOffset (offsetAt e))
+
 -- the MST with another end
 unfoldable pub withEnd : List ℕ → ℕ → List ℕ
-withEnd mst e = overwrite mst 8 (le 4 (blockAt e) ++ le 2 (offsetAt e))
+withEnd mst e = overwrite mst 8 (endBytes e)
 
 -- what format leaves in an MST of n bytes: zero, but for NXTMFN 1 and the end 64
 unfoldable pub formattedMst : ℕ → List ℕ

@@ -3,7 +3,7 @@ use Prim.Native.Nat.{ℕ, _+_, _-_, _/_, _%_}
 use mathlib.Core.Bool.{Bool, true, false, _&&_, cond}
 use lib.Dec.{eqb, leb}
 use lib.IntN.{ℤ, pos, negsuc, negℤ, natAbs, _+ℤ_, _*ℤ_}
-use Rattle.layout.specs.Sizes.{addressOf}
+use Rattle.layout.specs.Sizes.{offsetMost, addressOf}
 use Rattle.layout.specs.declared.entry.Mark.{Mark}
 use Rattle.layout.specs.declared.entry.Mark.the-variants.{Settled, Changed, New}
 use Rattle.layout.specs.declared.entry.Place.{Place}
@@ -12,7 +12,7 @@ use Rattle.layout.specs.declared.entry.Entry.the-variants.{Gone, Malform
 
 -- a well-formed place: an even offset up to 498, an address of 64 or more, and 18 bytes before the end. Blocks count from 1
 unfoldable pub wellPlaced : ℕ → ℕ → ℕ → Bool
-wellPlaced end b p = leb 1 b && eqb (p % 2) 0 && leb p 498 && leb 64 (addressOf b p) && leb (addressOf b p + 18) end
+wellPlaced end b p = leb 1 b && eqb (p % 2) 0 && leb p offsetMost && leb 64 (addressOf b p) && leb (addressOf b p + 18) end
 
 -- block is the quotient by 2048 rounded toward minus infinity: -(n + 1) goes to -(n / 2048 + 1)
 abbrev pub blockOf : ℤ → ℤ
@@ -30,13 +30,28 @@ deletedOf (pos n) = false
 deletedOf (negsuc n) = true
 
 -- entry -2048 means physically deleted
-abbrev pub isGone : ℤ → Bool
-isGone (pos n) = false
-isGone (negsuc n) = eqb n 2047
+abbrev pub meansGone : ℤ → Bool
+meansGone (pos n) = false
+meansGone (negsuc n) = eqb n 2047
 
 -- block, offset, deleted or not, mark
 abbrev pub placed : ℕ → ℕ → Bool → Mark → Place
 placed b p d m = record { block = record { 0 = b }; offset = p; deleted = d; mark = m }
+
+abbrev pub isSettled : Mark → Bool
+isSettled Settled = true
+isSettled Changed = false
+isSettled New = false
+
+abbrev pub isChanged : Mark → Bool
+isChanged Settled = false
+isChanged Changed = true
+isChanged New = false
+
+abbrev pub isNew : Mark → Bool
+isNew Settled = false
+isNew Changed = false
+isNew New = true
 
 -- the mark by the 512s above the offset: + 512 if changed, + 1024 if new; both together is malformed
 unfoldable pub markedPlace : ℕ → ℕ → Bool → ℕ → Entry
@@ -52,7 +67,7 @@ placeOf end b d low = cond (wellPlaced end b (low % 512)) (markedPlace b (low % 
 
 -- which kind of entry a number is, with the end known: gone, malformed, or a place; the place is the block's absolute value
 unfoldable pub entryOf : ℕ → ℤ → Entry
-entryOf end e = cond (isGone e) Gone (placeOf end (natAbs (blockOf e)) (deletedOf e) (lowOf e))
+entryOf end e = cond (meansGone e) Gone (placeOf end (natAbs (blockOf e)) (deletedOf e) (lowOf e))
 
 -- what a mark adds to the offset
 unfoldable pub markBits : Mark → ℕ

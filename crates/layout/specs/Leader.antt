@@ -8,9 +8,8 @@
 --   12     BASE     where the data begins
 --   14     NVF      number of fields
 --   16     STATUS   1 if deleted, otherwise 0
-use Prim.Native.Nat.{ℕ, zero, suc}
-use mathlib.Core.List.{List, [], _∷_, _++_}
-use lib.ListN.{getD}
+use Prim.Native.Nat.{ℕ}
+use mathlib.Core.List.{List, _++_}
 use Rattle.word.specs.Integer.{u16At, u32At, le}
 use Rattle.layout.specs.declared.leader.Leader.{Leader}
 
@@ -31,12 +30,3 @@ leaderOf s =
       nvf = u16At s 14;
       status = u16At s 16;
     }
-
--- k bytes from index i on, one by one
-abbrev pub bytesFrom : List ℕ → ℕ → ℕ → List ℕ
-bytesFrom s i zero = []
-bytesFrom s i (suc k) = getD s i 0 ∷ bytesFrom s (suc i) k
-
--- the first eighteen bytes as one piece
-abbrev pub firstBytes : List ℕ → List ℕ
-firstBytes s = bytesFrom s 0 18

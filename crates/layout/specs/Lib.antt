@@ -4,4 +4,5 @@ pub mod CrossReference
 pub mod Control
 pub mod Leader
 pub mod NamedBytes
+pub mod Inner
 pub mod Rows

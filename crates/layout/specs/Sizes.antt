@@ -1,7 +1,48 @@
--- Sizes and addresses: document 01, "Sizes" and "Control record".
+-- Sizes, limits and addresses: document 01, "Sizes" and "Control record".
 use Prim.Native.Nat.{ℕ, _+_, _*_, _-_, _/_, _%_}
 use mathlib.Core.Bool.{Bool, _&&_, cond}
 use lib.Dec.{eqb, leb}
+
+-- ---- limits
+
+-- the most blocks of an MST and of an XRF
+abbrev pub mstBlocks : ℕ
+mstBlocks = 1048575
+
+abbrev pub xrfBlocks : ℕ
+xrfBlocks = 4096
+
+-- the most bytes of an MST and of an XRF: so many blocks of 512
+abbrev pub mstMost : ℕ
+mstMost = 536870400
+
+abbrev pub xrfMost : ℕ
+xrfMost = 2097152
+
+-- the most MFNs: 127 for each block of the longest XRF
+abbrev pub mfnMost : ℕ
+mfnMost = 520192
+
+-- the most bytes of a record, and the most fields: 18 + 6 × 5,458 is 32,766
+abbrev pub recordMost : ℕ
+recordMost = 32766
+
+abbrev pub fieldsMost : ℕ
+fieldsMost = 5458
+
+-- the highest tag
+abbrev pub tagMost : ℕ
+tagMost = 32767
+
+-- the highest offset in its block at which a record begins
+abbrev pub offsetMost : ℕ
+offsetMost = 498
+
+-- the first address whose block number does not fit in 32 bits: 512 × (2 ^ 32 - 1)
+abbrev pub addressLimit : ℕ
+addressLimit = 2199023255040
+
+-- ---- sizes
 
 -- n bytes are 1 to `most` blocks of 512
 unfoldable pub blocksWithin : ℕ → ℕ → Bool
@@ -9,11 +50,11 @@ blocksWithin most n = eqb (n % 512) 0 && leb 512 n && leb n (512 * most)
 
 -- MST: 1 to 1,048,575 blocks of 512 bytes
 abbrev pub mstPermitted : ℕ → Bool
-mstPermitted n = blocksWithin 1048575 n
+mstPermitted n = blocksWithin mstBlocks n
 
 -- XRF: 1 to 4,096 blocks of 512
 abbrev pub xrfPermitted : ℕ → Bool
-xrfPermitted n = blocksWithin 4096 n
+xrfPermitted n = blocksWithin xrfBlocks n
 
 -- capacity: 127 MFNs per XRF block, for an XRF of n bytes
 abbrev pub capacityOf : ℕ → ℕ
@@ -36,8 +77,8 @@ endMoved a = cond (leb 500 (a % 512)) ((a / 512 + 1) * 512) a
 
 -- a record is even, 18 to 32,766 bytes long
 unfoldable pub recordLength : ℕ → Bool
-recordLength n = eqb (n % 2) 0 && leb 18 n && leb n 32766
+recordLength n = eqb (n % 2) 0 && leb 18 n && leb n recordMost
 
 -- a tag is 1 to 32,767
 unfoldable pub tagPermitted : ℕ → Bool
-tagPermitted t = leb 1 t && leb t 32767
+tagPermitted t = leb 1 t && leb t tagMost

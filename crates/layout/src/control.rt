@@ -1,6 +1,7 @@
 // The control record. Bytes 16 to 63 are never read, and only format writes them.
 use crate::sizes::Block;
 use crate::sizes::Mfn;
+use crate::sizes::OFFSET_MOST;
 use word::integer::u16_at;
 use word::integer::u32_at;
 ghost use mathlib.Core.Path.{_≡_};
@@ -8,8 +9,12 @@ ghost use mathlib.Core.Bool.{true};
 ghost use Prim.Native.Nat.{_+_, _≤_, _<_};
 ghost use lib.ListN.{length};
 ghost use Rattle.word.specs.Integer.{u32At};
-ghost use Rattle.layout.specs.Sizes.{mstPermitted};
-ghost use Rattle.layout.specs.Control.{endOf, numbersRight, endRight, controlOf, withNext, withEnd, formattedMst};
+ghost use Rattle.layout.specs.Sizes.{addressLimit, mstPermitted};
+ghost use Rattle.layout.specs.Inner.{controlOf};
+ghost use Rattle.layout.specs.Control.{endOf, numbersRight, endRight, withNext, withEnd, formattedMst};
+
+// NXTMFP counts the end's offset from here.
+const OFFSETS_FROM: u16 = 0;
 
 // What the control record says, where it is right.
 pub enum Control {
@@ -39,7 +44,7 @@ fn end_of(mst: &[u8]) -> usize
     requires { ⌜ (64 ≤ length (now mst)) × (1 ≤ u32At (now mst) 8) ⌝ }
     ensures { λ r. ⌜ r ≡ endOf (now (mst .entry)) ⌝ }
 {
-    crate::sizes::address(Block(u32_at(mst, 8)), u16_at(mst, 12))
+    crate::sizes::address(Block(u32_at(mst, 8)), u16_at(mst, 12) - OFFSETS_FROM)
 }
 
 fn end_right(mst: &[u8]) -> bool
@@ -49,11 +54,11 @@ fn end_right(mst: &[u8]) -> bool
     if u32_at(mst, 8) < 1 {
         return false;
     }
-    let offset = u16_at(mst, 12);
-    if offset % 2 != 0 {
+    let stored = u16_at(mst, 12);
+    if stored % 2 != OFFSETS_FROM % 2 {
         return false;
     }
-    if 498 < offset {
+    if OFFSET_MOST + OFFSETS_FROM < stored {
         return false;
     }
     let end = end_of(mst);
@@ -92,12 +97,12 @@ pub fn put_next(mst: &mut [u8], next: Mfn)
 
 // Writes the end.
 pub fn put_end(mst: &mut [u8], end: usize)
-    requires { ⌜ (64 ≤ length (now mst)) × (end < 2199023255040) ⌝ }
+    requires { ⌜ (64 ≤ length (now mst)) × (end < addressLimit) ⌝ }
     ensures { λ _. ⌜ now (mst .exit) ≡ withEnd (now (mst .entry)) end ⌝ }
 {
     let b = crate::sizes::block_at(end);
     word::integer::put_u32(mst, 8, b.0);
-    word::integer::put_u16(mst, 12, crate::sizes::offset_at(end));
+    word::integer::put_u16(mst, 12, crate::sizes::offset_at(end) + OFFSETS_FROM);
 }
 
 // Empties an MST of permitted length.

@@ -6,11 +6,11 @@ ghost use mathlib.Core.Path.{_≡_};
 ghost use mathlib.Core.Bool.{true};
 ghost use Prim.Native.Nat.{_+_, _*_, _/_, _≤_};
 ghost use lib.ListN.{length};
-ghost use Rattle.layout.specs.Sizes.{capacityOf, xrfPermitted};
+ghost use Rattle.layout.specs.Sizes.{mstBlocks, xrfBlocks, xrfMost, offsetMost, capacityOf, xrfPermitted};
 ghost use Rattle.layout.specs.CrossReference.{xrfBlock, slotAt, headBits, headRight, entryAt, slotFree, withEntry, withHeads, formattedXrf};
 
 // Where the entry of `m` begins.
-pub fn slot_at(m: Mfn) -> usize
+fn slot_at(m: Mfn) -> usize
     requires { ⌜ 1 ≤ m .0 ⌝ }
     ensures { λ r. ⌜ r ≡ slotAt (m .0) ⌝ }
 {
@@ -18,9 +18,17 @@ pub fn slot_at(m: Mfn) -> usize
     k / 127 * 512 + 4 + k % 127 * 4
 }
 
+// The XRF block that the entry of `m` stands in.
+pub fn xrf_block(m: Mfn) -> usize
+    requires { ⌜ 1 ≤ m .0 ⌝ }
+    ensures { λ r. ⌜ r ≡ xrfBlock (m .0) ⌝ }
+{
+    (m.0 as usize - 1) / 127 + 1
+}
+
 // The first integer of block `k` of `n`, as 32 bits.
 fn head_bits(n: usize, k: usize) -> u32
-    requires { ⌜ (1 ≤ k) × (k ≤ 4096) ⌝ }
+    requires { ⌜ (1 ≤ k) × (k ≤ xrfBlocks) ⌝ }
     ensures { λ r. ⌜ r ≡ headBits n k ⌝ }
 {
     if k == n {
@@ -32,7 +40,7 @@ fn head_bits(n: usize, k: usize) -> u32
 
 // Whether the first integer of block `k` is right.
 pub fn head_right(xrf: &[u8], k: usize) -> bool
-    requires { ⌜ (1 ≤ k) × (k * 512 ≤ length (now xrf)) × (k ≤ 4096) ⌝ }
+    requires { ⌜ (1 ≤ k) × (k * 512 ≤ length (now xrf)) × (k ≤ xrfBlocks) ⌝ }
     ensures { λ r. ⌜ r ≡ headRight (now (xrf .entry)) k ⌝ }
 {
     let head = word::integer::u32_at(xrf, (k - 1) * 512);
@@ -41,11 +49,10 @@ pub fn head_right(xrf: &[u8], k: usize) -> bool
 
 // The entry of `m`, with the end known.
 pub fn entry_at(xrf: &[u8], end: usize, m: Mfn) -> Entry
-    requires { ⌜ (1 ≤ m .0) × (m .0 ≤ capacityOf (length (now xrf))) × (length (now xrf) ≤ 2097152) ⌝ }
+    requires { ⌜ (1 ≤ m .0) × (m .0 ≤ capacityOf (length (now xrf))) × (length (now xrf) ≤ xrfMost) ⌝ }
     ensures { λ r. ⌜ r ≡ entryAt (now (xrf .entry)) end (m .0) ⌝ }
 {
-    let k = (m.0 as usize - 1) / 127 + 1;
-    if !head_right(xrf, k) {
+    if !head_right(xrf, xrf_block(m)) {
         return Entry::Malformed;
     }
     crate::entry::decode(end, word::signed::i32_at(xrf, slot_at(m)))
@@ -62,7 +69,7 @@ pub fn slot_free(xrf: &[u8], m: Mfn) -> bool
 // Makes `p` the entry of `m`.
 pub fn put_entry(xrf: &mut [u8], m: Mfn, p: Place)
     requires { ⌜ (1 ≤ m .0) × (m .0 ≤ capacityOf (length (now xrf))) ⌝ }
-    requires { ⌜ (1 ≤ p .block .0) × (p .block .0 ≤ 1048575) × (p .offset ≤ 498) ⌝ }
+    requires { ⌜ (1 ≤ p .block .0) × (p .block .0 ≤ mstBlocks) × (p .offset ≤ offsetMost) ⌝ }
     ensures { λ _. ⌜ now (xrf .exit) ≡ withEntry (now (xrf .entry)) (m .0) p ⌝ }
 {
     word::signed::put_i32(xrf, slot_at(m), crate::entry::encode(p))

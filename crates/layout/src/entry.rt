@@ -1,9 +1,11 @@
 // The cross-reference entry: its kinds, and its 32 bits. Signed division lives only here.
 use crate::sizes::Block;
+use crate::sizes::OFFSET_MOST;
 ghost use mathlib.Core.Path.{_≡_};
 ghost use mathlib.Core.Bool.{true};
 ghost use Prim.Native.Nat.{_+_, _≤_};
 ghost use lib.IntN.{natAbs};
+ghost use Rattle.layout.specs.Sizes.{mstBlocks, offsetMost};
 ghost use Rattle.layout.specs.Entry.{wellPlaced, blockOf, lowOf, markedPlace, placeOf, entryOf, markBits, encodeOf, placeAddress};
 
 // What is pending: nothing, a change of a settled record, or a record never settled.
@@ -38,7 +40,7 @@ pub fn well_placed(end: usize, block: Block, offset: u16) -> bool
     if offset % 2 != 0 {
         return false;
     }
-    if 498 < offset {
+    if OFFSET_MOST < offset {
         return false;
     }
     let at = crate::sizes::address(block, offset);
@@ -60,14 +62,14 @@ fn floor_block(e: i32) -> i32
 fn low_part(e: i32) -> u32
     ensures { λ r. ⌜ r ≡ lowOf e ⌝ }
 {
-    let n = word::signed::magnitude(e);
+    let n = word::signed::complement_if_negative(e);
     if 0 <= e { n % 2048 } else { 2047 - n % 2048 }
 }
 
 fn absolute(b: i32) -> u32
     ensures { λ r. ⌜ r ≡ natAbs b ⌝ }
 {
-    let n = word::signed::magnitude(b);
+    let n = word::signed::complement_if_negative(b);
     if 0 <= b { n } else { n + 1 }
 }
 
@@ -110,7 +112,7 @@ fn place_of(end: usize, block: u32, deleted: bool, low: u32) -> Entry
 }
 
 // Which kind of entry `e` is, with the end known.
-pub fn decode(end: usize, e: i32) -> Entry
+pub(crate) fn decode(end: usize, e: i32) -> Entry
     ensures { λ r. ⌜ r ≡ entryOf end e ⌝ }
 {
     if e == -2048 {
@@ -131,8 +133,8 @@ fn mark_bits(m: Mark) -> u32
 }
 
 // The entry that names a place.
-pub fn encode(p: Place) -> i32
-    requires { ⌜ (1 ≤ p .block .0) × (p .block .0 ≤ 1048575) × (p .offset ≤ 498) ⌝ }
+pub(crate) fn encode(p: Place) -> i32
+    requires { ⌜ (1 ≤ p .block .0) × (p .block .0 ≤ mstBlocks) × (p .offset ≤ offsetMost) ⌝ }
     ensures { λ r. ⌜ r ≡ encodeOf p ⌝ }
 {
     let m = p.mark;

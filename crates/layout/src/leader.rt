@@ -5,7 +5,8 @@ ghost use mathlib.Core.Path.{_≡_};
 ghost use Prim.Native.Nat.{_+_, _*_, _≤_};
 ghost use lib.ListN.{length};
 ghost use Rattle.word.specs.Overwrite.{overwrite};
-ghost use Rattle.layout.specs.Leader.{leaderBytes, leaderOf, firstBytes};
+ghost use Rattle.layout.specs.Leader.{leaderBytes, leaderOf};
+ghost use Rattle.layout.specs.Inner.{firstBytes};
 
 pub struct Leader {
     pub mfn: Mfn,
@@ -18,7 +19,7 @@ pub struct Leader {
 }
 
 // The eighteen bytes of a leader.
-pub fn leader_bytes(l: Leader) -> [u8; 18]
+fn leader_bytes(l: Leader) -> [u8; 18]
     ensures { λ r. ⌜ r ≡ leaderBytes l ⌝ }
 {
     let m = l.mfn.0;
@@ -46,7 +47,7 @@ pub fn leader_bytes(l: Leader) -> [u8; 18]
 }
 
 // The leader that eighteen bytes hold.
-pub fn leader_of(b: [u8; 18]) -> Leader
+fn leader_of(b: [u8; 18]) -> Leader
     ensures { λ r. ⌜ r ≡ leaderOf b ⌝ }
 {
     Leader {

@@ -9,7 +9,7 @@ use mathlib.Core.List.{List}
 use lib.Dec.{eqb, leb}
 use borrow.Author.Tests.{le-leb, lt-leb, eq-eqb, ne-eqb, not-true, not-false}
 use Rattle.layout.specs.Sizes.{tagPermitted}
-use Rattle.record.specs.Directory.{tagAt, posAt, lenAt, directoryRight}
+use Rattle.record.specs.Directory.{tagAt, posAt, lenAt, entryRight, entriesRight, directoryRight}
 
 -- of n entries, those from i on
 pub rest-step : (n i : ℕ) → i < n → n - i ≡ suc (n - (i + 1))
@@ -18,12 +18,12 @@ rest-step n i h = omega arith
 pub directory-step : (rec : List ℕ) (room n i pos : ℕ) → i < n
     → directoryRight rec room (n - i) i pos
     ≡ (tagPermitted (tagAt rec i) && eqb (posAt rec i) pos && leb (pos + lenAt rec i) room && directoryRight rec room (n - (i + 1)) (i + 1) (pos + lenAt rec i))
-unfolding directoryRight
+unfolding directoryRight entriesRight entryRight
 directory-step rec room n i pos h = rw (rest-step n i h)
 
 module _ (rec : List ℕ) (room n i pos : ℕ) (d : Bool) (inv : d ≡ directoryRight rec room (n - i) i pos) where
   pub directory-done : n ≤ i → true ≡ d
-  unfolding directoryRight
+  unfolding directoryRight entriesRight entryRight
   directory-done h = let z : n - i ≡ 0 = omega arith in rw (inv, z)
 
   module _ (h : i < n) where

@@ -13,8 +13,9 @@ use lib.ListN.{length, getD, take, drop, length-drop, drop-of-length-le}
 use lib.Seq.{length-take-le, take-length, drop-cons}
 use borrow.Author.Tests.{le-leb, lt-leb, eq-eqb, ne-eqb, not-true, not-false}
 use Rattle.word.proofs.Overwrite.{lt-or-ge}
-use Rattle.layout.specs.Sizes.{tagPermitted}
-use Rattle.record.specs.Draft.{sum, upTo, tagsPermitted, needOf, draftRight, draftFields}
+use Rattle.layout.specs.Sizes.{recordMost, fieldsMost, tagPermitted}
+use Rattle.record.specs.Draft.{sum, tagsPermitted, needOf, draftRight, draftFields}
+use Rattle.record.specs.Inner.{upTo}
 use Rattle.record.specs.Bytes.{entryBytes, directoryBytes}
 
 -- ---- sums
@@ -39,14 +40,14 @@ module _ (ns : List ℕ) (s i : ℕ) (inv : s ≡ sum (take i ns)) where
   pub total-more : i < length ns → s + getD ns i 0 ≡ sum (take (i + 1) ns)
   total-more h = omega (arith, sum-more i ns h)
 
-  pub total-above : i < length ns → 32766 < s + getD ns i 0 → 32767 ≡ upTo 32766 (sum ns)
-  total-above h b = rw (lt-leb (sum ns) 32766 (omega (arith, sum-more i ns h, sum-take-le (i + 1) ns)))
+  pub total-above : i < length ns → recordMost < s + getD ns i 0 → recordMost + 1 ≡ upTo recordMost (sum ns)
+  total-above h b = rw (lt-leb (sum ns) recordMost (omega (arith, sum-more i ns h, sum-take-le (i + 1) ns)))
 
-  pub total-done : i ≤ length ns → length ns ≤ i → s ≤ 32766 → s ≡ upTo 32766 (sum ns)
+  pub total-done : i ≤ length ns → length ns ≤ i → s ≤ recordMost → s ≡ upTo recordMost (sum ns)
   total-done h k b =
       let n : i ≡ length ns = omega arith in
       let e : s ≡ sum ns = inv ∙ ap (λ (j : ℕ). sum (take j ns)) n ∙ ap sum (take-length ns) in
-      rw (← e, le-leb s 32766 b)
+      rw (← e, le-leb s recordMost b)
 
 pub ruleset total-answers = (total-above, total-done)
 
@@ -100,16 +101,16 @@ module _ (tags lens bytes : List ℕ) where
   unfolding draftRight
   answer-unequal h = rw (ne-eqb (length tags) (length lens) h)
 
-  pub answer-need : (need : ℕ) → need ≡ needOf (length tags) (length bytes) → 32766 < need → false ≡ draftRight tags lens bytes
+  pub answer-need : (need : ℕ) → need ≡ needOf (length tags) (length bytes) → recordMost < need → false ≡ draftRight tags lens bytes
   unfolding draftRight
-  answer-need need e h = rw (← e, lt-leb need 32766 h, and-false)
+  answer-need need e h = rw (← e, lt-leb need recordMost h, and-false)
 
-  pub answer-many : 5458 < length tags → false ≡ draftRight tags lens bytes
+  pub answer-many : fieldsMost < length tags → false ≡ draftRight tags lens bytes
   answer-many h =
       let n = need-facts (length tags) (length bytes) in
       answer-need (needOf (length tags) (length bytes)) refl (omega arith)
 
-  pub answer-long : 32766 < length bytes → false ≡ draftRight tags lens bytes
+  pub answer-long : recordMost < length bytes → false ≡ draftRight tags lens bytes
   answer-long h =
       let n = need-facts (length tags) (length bytes) in
       answer-need (needOf (length tags) (length bytes)) refl (omega arith)
@@ -120,10 +121,10 @@ module _ (tags lens bytes : List ℕ) where
     answer-tags h = rw (← p, not-true permitted h, and-false)
 
     pub answer-total : (need total : ℕ) → length tags ≡ length lens → not permitted ≡ false → need ≡ needOf (length tags) (length bytes)
-        → need ≤ 32766 → length bytes ≤ 32766 → total ≡ upTo 32766 (sum lens) → eqb total (length bytes) ≡ draftRight tags lens bytes
+        → need ≤ recordMost → length bytes ≤ recordMost → total ≡ upTo recordMost (sum lens) → eqb total (length bytes) ≡ draftRight tags lens bytes
     unfolding draftRight
     answer-total need total e h n k l t =
-        rw (eq-eqb (length tags) (length lens) e, ← p, not-false permitted h, ← n, le-leb need 32766 k, t, and-true) (capped 32766 (sum lens) (length bytes) l)
+        rw (eq-eqb (length tags) (length lens) e, ← p, not-false permitted h, ← n, le-leb need recordMost k, t, and-true) (capped recordMost (sum lens) (length bytes) l)
 
 pub ruleset draft-answers = (answer-unequal, answer-need, answer-many, answer-long, answer-tags, answer-total)
 

@@ -8,7 +8,7 @@ use mathlib.Core.Bool.{Bool, true}
 use mathlib.Core.List.{List, [], _∷_}
 use lib.ListN.{length, take, drop}
 use lib.Seq.{take-all, take-add}
-use Rattle.layout.specs.Sizes.{recordLength}
+use Rattle.layout.specs.Sizes.{recordMost, recordLength}
 use Rattle.layout.specs.Leader.{leaderOf}
 use Rattle.layout.specs.declared.leader.Leader.{Leader}
 use Rattle.layout.proofs.Tests.{tests}
@@ -30,7 +30,7 @@ tagsOf (f ∷ fs) = f .tag ∷ tagsOf fs
 -- fields that a right draft can have
 pub record Draftable (fs : List Field) : Type 0 where
   pub tags : tagsPermitted (tagsOf fs) ≡ true
-  pub need : needFor fs ≤ 32766
+  pub need : needFor fs ≤ recordMost
 
 -- ---- the need
 

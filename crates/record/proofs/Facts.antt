@@ -2,17 +2,19 @@
 -- read the records and never the tests.
 use Prim.Native.Nat.{ℕ, suc, _+_, _*_, _-_, _%_, _≤_}
 use native.Mathlib.Omega.{arith}
-use mathlib.Core.Path.{_≡_, refl}
-use mathlib.Core.Bool.{Bool, true, false, cond}
+use mathlib.Core.Path.{_≡_, refl, ap}
+use mathlib.Core.Bool.{Bool, true, false, _&&_, cond, and-true, and-false}
 use mathlib.Core.List.{List}
 use lib.ListN.{length}
-use Rattle.layout.specs.Sizes.{recordLength, tagPermitted}
+use Rattle.layout.specs.Sizes.{recordMost, recordLength, tagPermitted}
 use Rattle.layout.specs.Leader.{leaderOf}
+use Rattle.layout.specs.declared.entry.Place.{Place}
 use Rattle.layout.specs.declared.leader.Leader.{Leader}
 use Rattle.layout.proofs.Tests.{tests}
 use Rattle.layout.proofs.Facts.{record-length-facts}
-use Rattle.record.specs.Directory.{tagAt, posAt, lenAt, directoryRight}
-use Rattle.record.specs.Record.{statusFor, leaderRight, recordRight, testOf, noBack, Readable}
+use Rattle.record.specs.Directory.{tagAt, posAt, lenAt, entryRight, entriesRight, directoryRight}
+use Rattle.record.specs.Record.{leaderRight, extentRight, baseRight, fieldsRight, statusFor, statusRight, backFine, wellFormed, recordRight, noBack, Readable}
+use Rattle.record.specs.Inner.{testOf}
 use Rattle.record.specs.Draft.{sum, tagsPermitted, needOf, draftRight}
 use Rattle.record.specs.declared.test.Tested.the-variants.{WellFormed, Broken}
 
@@ -27,11 +29,11 @@ pub record EntryFacts (rec : List ℕ) (room k i pos : ℕ) : Type 0 where
 
 module _ (rec : List ℕ) (room k i pos : ℕ) where
   pub entry-facts : directoryRight rec room (suc k) i pos ≡ true → EntryFacts rec room k i pos
-  unfolding directoryRight
+  unfolding directoryRight entriesRight entryRight
   entry-facts e = let q = simp tests at e in record { tag = q .0 .0 .0; pos-is = q .0 .0 .1; len = q .0 .1; rest = q .1 }
 
   pub entry-from : EntryFacts rec room k i pos → directoryRight rec room (suc k) i pos ≡ true
-  unfolding directoryRight
+  unfolding directoryRight entriesRight entryRight
   entry-from f = simp tests (((f .tag, f .pos-is), f .len), f .rest)
 
 -- ---- the leader
@@ -42,7 +44,7 @@ pub record LeaderFacts (m : ℕ) (deleted : Bool) (left : ℕ) (l : Leader) : Ty
   pub mfrl : recordLength (l .mfrl) ≡ true
   pub even : l .mfrl % 2 ≡ 0
   pub low : 18 ≤ l .mfrl
-  pub high : l .mfrl ≤ 32766
+  pub high : l .mfrl ≤ recordMost
   pub record-in : l .mfrl ≤ left
   pub base-is : l .base ≡ 18 + 6 * l .nvf
   pub base-in : l .base ≤ l .mfrl
@@ -50,26 +52,26 @@ pub record LeaderFacts (m : ℕ) (deleted : Bool) (left : ℕ) (l : Leader) : Ty
 
 module _ (m : ℕ) (deleted : Bool) (left : ℕ) (l : Leader) where
   pub leader-facts : leaderRight m deleted left l ≡ true → LeaderFacts m deleted left l
-  unfolding leaderRight
+  unfolding leaderRight extentRight baseRight statusRight
   leader-facts e =
       let q = simp tests at e in
-      let r = record-length-facts (l .mfrl) (q .0 .0 .0 .0 .1) in
+      let r = record-length-facts (l .mfrl) (q .0 .0 .0 .1) in
       record {
-        mfn = q .0 .0 .0 .0 .0;
-        mfrl = q .0 .0 .0 .0 .1;
+        mfn = q .0 .0 .0 .0;
+        mfrl = q .0 .0 .0 .1;
         even = r .even;
         low = r .low;
         high = r .high;
-        record-in = q .0 .0 .0 .1;
-        base-is = q .0 .0 .1;
-        base-in = q .0 .1;
+        record-in = q .0 .0 .1;
+        base-is = q .0 .1 .0;
+        base-in = q .0 .1 .1;
         status = q .1;
       }
 
   pub leader-from : l .mfn .0 ≡ m → recordLength (l .mfrl) ≡ true → l .mfrl ≤ left → l .base ≡ 18 + 6 * l .nvf → l .base ≤ l .mfrl
       → l .status ≡ statusFor deleted → leaderRight m deleted left l ≡ true
-  unfolding leaderRight
-  leader-from a b c d e f = simp tests (((((a, b), c), d), e), f)
+  unfolding leaderRight extentRight baseRight statusRight
+  leader-from a b c d e f = simp tests ((((a, b), c), (d, e)), f)
 
 -- ---- the record
 
@@ -77,6 +79,20 @@ module _ (m : ℕ) (deleted : Bool) (left : ℕ) (l : Leader) where
 pub record RightFacts (rec : List ℕ) (m : ℕ) (deleted : Bool) : Type 0 where
   pub leader : LeaderFacts m deleted (length rec) (leaderOf rec)
   pub directory : directoryRight rec (leaderOf rec .mfrl - leaderOf rec .base) (leaderOf rec .nvf) 0 0 ≡ true
+
+-- the third of four tests may be the last
+and-last : (a b c d : Bool) → (a && b && c && d) ≡ (a && b && d && c)
+and-last false b c d = refl
+and-last true false c d = refl
+and-last true true false d = rw (and-false d)
+and-last true true true d = rw (and-true d)
+
+-- a record is well formed if it is right and its back pointer is
+pub well-formed-both : (rec : List ℕ) (end m : ℕ) (p : Place) → wellFormed rec end m p ≡ (recordRight rec m (p .deleted) && backFine end p (leaderOf rec))
+unfolding wellFormed recordRight leaderRight
+well-formed-both rec end m p =
+    ap (λ (x : Bool). x && backFine end p (leaderOf rec))
+    (and-last (extentRight m (length rec) (leaderOf rec)) (baseRight (leaderOf rec)) (fieldsRight rec (leaderOf rec)) (statusRight (p .deleted) (leaderOf rec)))
 
 module _ (rec : List ℕ) (m : ℕ) (deleted : Bool) where
   pub right-facts : recordRight rec m deleted ≡ true → RightFacts rec m deleted
@@ -134,7 +150,7 @@ pub record DraftFacts (tags lens bytes : List ℕ) : Type 0 where
   pub equal : length tags ≡ length lens
   pub tags-right : tagsPermitted tags ≡ true
   pub total : sum lens ≡ length bytes
-  pub need : needOf (length tags) (length bytes) ≤ 32766
+  pub need : needOf (length tags) (length bytes) ≤ recordMost
 
 pub draft-facts : (tags lens bytes : List ℕ) → draftRight tags lens bytes ≡ true → DraftFacts tags lens bytes
 unfolding draftRight

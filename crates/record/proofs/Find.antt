@@ -11,14 +11,14 @@ use Rattle.word.specs.Overwrite.{part}
 use Rattle.word.proofs.Overwrite.{part-part}
 use Rattle.layout.specs.declared.leader.Leader.{Leader}
 use Rattle.record.specs.Fields.{Field, fieldNamed, findOf}
-use Rattle.record.specs.declared.fields.Found.the-variants.{At, Missing}
+use Rattle.record.specs.declared.fields.Found.the-variants.{Span, Missing}
 use Rattle.record.proofs.Facts.{LeaderFacts, right-readable}
 use Rattle.record.proofs.Search.{find-field-is, found-in}
 use Rattle.record.proofs.Local.{ReadsAs, reads-leader}
 
 -- the record lies in a buffer, and so does the field
 pub reads-found : (d : List ℕ) (at n : ℕ) {m : ℕ} {deleted : Bool} {l : Leader} {fs : List Field} → ReadsAs (part d at n) m deleted l fs → (tag occ start len : ℕ)
-    → findOf (part d at n) tag occ ≡ At start len → fieldNamed fs tag occ ≡ some (part d (at + start) len)
+    → findOf (part d at n) tag occ ≡ Span start len → fieldNamed fs tag occ ≡ some (part d (at + start) len)
 reads-found d at n {m} {deleted} {l} r tag occ start len e =
     let rec : List ℕ = part d at n in
     let f : LeaderFacts m deleted (length rec) l = reads-leader r in

@@ -18,9 +18,9 @@ use Rattle.word.proofs.Window.{window, window-u16, window-part}
 use Rattle.layout.specs.Leader.{leaderOf}
 use Rattle.layout.specs.declared.leader.Leader.{Leader}
 use Rattle.layout.proofs.LeaderBytes.{leader-is, leader-front}
-use Rattle.record.specs.Directory.{tagAt, posAt, lenAt, directoryRight}
+use Rattle.record.specs.Directory.{tagAt, posAt, lenAt, entryRight, entriesRight, directoryRight}
 use Rattle.record.specs.Fields.{Field, fieldsFrom, fieldsOf}
-use Rattle.record.specs.Record.{statusFor, leaderRight, recordRight}
+use Rattle.record.specs.Record.{leaderRight, statusFor, recordRight}
 use Rattle.record.proofs.Facts.{EntryFacts, entry-facts, LeaderFacts, leader-from, right-facts, right-from}
 
 -- what is read of a record that is right for MFN m and deleted or not: its leader and its fields
@@ -56,7 +56,7 @@ module _ (rec rec′ : List ℕ) (n : ℕ) (e : part rec′ 18 n ≡ part rec 18
     same-len = same-u16 (22 + 6 * i) (omega arith) (omega arith)
 
   same-directory : (room k i pos : ℕ) → 6 * (i + k) ≤ n → directoryRight rec′ room k i pos ≡ directoryRight rec room k i pos
-  unfolding directoryRight
+  unfolding directoryRight entriesRight entryRight
   same-directory room zero i pos h = refl
   same-directory room (suc k) i pos h =
       let g : 6 * i + 6 ≤ n = omega arith in

@@ -15,7 +15,8 @@ use Rattle.layout.specs.declared.entry.Mark.{Mark}
 use Rattle.layout.specs.declared.entry.Mark.the-variants.{Settled, Changed, New}
 use Rattle.layout.specs.declared.leader.Leader.{Leader}
 use Rattle.record.specs.Directory.{directoryRight}
-use Rattle.record.specs.Record.{statusFor, leaderRight, recordRight, testOf, noBack, backRight, Readable}
+use Rattle.record.specs.Record.{leaderRight, extentRight, baseRight, statusFor, statusRight, recordRight, noBack, backRight, Readable}
+use Rattle.record.specs.Inner.{testOf}
 use Rattle.record.specs.declared.test.Tested.the-variants.{WellFormed, Broken}
 use Rattle.record.proofs.Facts.{leader-facts, right-facts, test-right, right-readable}
 
@@ -23,29 +24,29 @@ use Rattle.record.proofs.Facts.{leader-facts, right-facts, test-right, 
 
 module _ (m : ℕ) (deleted : Bool) (left : ℕ) (l : Leader) where
   pub leader-mfn : (l .mfn .0 ≡ m → ⊥) → false ≡ leaderRight m deleted left l
-  unfolding leaderRight
+  unfolding leaderRight extentRight
   leader-mfn h = rw (ne-eqb (l .mfn .0) m h)
 
   pub leader-past-end : left < l .mfrl → false ≡ leaderRight m deleted left l
-  unfolding leaderRight
+  unfolding leaderRight extentRight
   leader-past-end h = rw (lt-leb (l .mfrl) left h, and-false)
 
   pub leader-base : (l .base ≡ 18 + 6 * l .nvf → ⊥) → false ≡ leaderRight m deleted left l
-  unfolding leaderRight
+  unfolding leaderRight baseRight
   leader-base h = rw (ne-eqb (l .base) (18 + 6 * l .nvf) h, and-false)
 
   pub leader-no-room : l .mfrl < l .base → false ≡ leaderRight m deleted left l
-  unfolding leaderRight
-  leader-no-room h = rw (lt-leb (l .base) (l .mfrl) h, and-false)
+  unfolding leaderRight baseRight
+  leader-no-room h = rw (lt-leb (l .base) (l .mfrl) h, and-false, and-false)
 
   module _ (permitted : Bool) (p : permitted ≡ recordLength (l .mfrl)) where
     pub leader-length : not permitted ≡ true → false ≡ leaderRight m deleted left l
-    unfolding leaderRight
+    unfolding leaderRight extentRight
     leader-length h = rw (← p, not-true permitted h, and-false)
 
     pub leader-status : (status : ℕ) → l .mfn .0 ≡ m → not permitted ≡ false → l .mfrl ≤ left → l .base ≡ 18 + 6 * l .nvf → l .base ≤ l .mfrl
         → status ≡ statusFor deleted → eqb (l .status) status ≡ leaderRight m deleted left l
-    unfolding leaderRight
+    unfolding leaderRight extentRight baseRight statusRight
     leader-status status a b c d e s =
         rw (
           eq-eqb (l .mfn .0) m a,

@@ -13,7 +13,7 @@ use Rattle.record.specs.Directory.{tagAt, posAt, lenAt, directoryRight}
 use Rattle.record.specs.Fields.{fieldsFrom, fieldsOf, fieldNamed, findFrom, findOf, foundBytes}
 use Rattle.record.specs.Record.{Readable}
 use Rattle.record.specs.declared.fields.Found.{Found}
-use Rattle.record.specs.declared.fields.Found.the-variants.{At, Missing}
+use Rattle.record.specs.declared.fields.Found.the-variants.{Span, Missing}
 use Rattle.record.proofs.Facts.{entry-facts}
 use Rattle.record.proofs.DirectoryTest.{rest-step}
 
@@ -35,14 +35,14 @@ find-field-is rec tag occ = find-from-is rec (leaderOf rec .base) tag (leaderOf 
 
 -- ---- it lies in the record
 
-found-cases : (a b : Bool) (x y s n : ℕ) (f g : Found) → cond a (cond b (At x y) f) g ≡ At s n
-    → ((x ≡ s) × (y ≡ n)) ⊎ ((f ≡ At s n) ⊎ (g ≡ At s n))
+found-cases : (a b : Bool) (x y s n : ℕ) (f g : Found) → cond a (cond b (Span x y) f) g ≡ Span s n
+    → ((x ≡ s) × (y ≡ n)) ⊎ ((f ≡ Span s n) ⊎ (g ≡ Span s n))
 found-cases true true x y s n f g p = inl ((cc), (cc))
 found-cases true false x y s n f g p = inr (inl p)
 found-cases false b x y s n f g p = inr (inr p)
 
 find-from-in : (rec : List ℕ) (base room tag k i pos occ s n : ℕ) → directoryRight rec room k i pos ≡ true
-    → findFrom rec base k i tag occ ≡ At s n → s + n ≤ base + room
+    → findFrom rec base k i tag occ ≡ Span s n → s + n ≤ base + room
 unfolding findFrom
 find-from-in rec base room tag zero i pos occ s n d p = let z : _≡_ {A = ℕ} 0 1 = cc in absurd (omega arith)
 find-from-in rec base room tag (suc k) i pos occ s n d p =
@@ -55,7 +55,7 @@ find-from-in rec base room tag (suc k) i pos occ s n d p =
     (λ w. find-from-in rec base room tag k (i + 1) next occ s n (f .rest) w))
     (found-cases (eqb (tagAt rec i) tag) (eqb occ 1) _ _ s n _ _ p)
 
-pub found-in : (rec : List ℕ) (tag occ s n : ℕ) → Readable rec → findOf rec tag occ ≡ At s n → s + n ≤ leaderOf rec .mfrl
+pub found-in : (rec : List ℕ) (tag occ s n : ℕ) → Readable rec → findOf rec tag occ ≡ Span s n → s + n ≤ leaderOf rec .mfrl
 unfolding findOf
 found-in rec tag occ s n r e =
     let base : ℕ = leaderOf rec .base in
@@ -82,7 +82,7 @@ find-no-occurrence rec tag occ h =
 find-step : (rec : List ℕ) (base n i tag left : ℕ) → i < n
     → findFrom rec base (n - i) i tag left
     ≡ cond (eqb (tagAt rec i) tag)
-    (cond (eqb left 1) (At (base + posAt rec i) (lenAt rec i)) (findFrom rec base (n - (i + 1)) (i + 1) tag (left - 1)))
+    (cond (eqb left 1) (Span (base + posAt rec i) (lenAt rec i)) (findFrom rec base (n - (i + 1)) (i + 1) tag (left - 1)))
     (findFrom rec base (n - (i + 1)) (i + 1) tag left)
 unfolding findFrom
 find-step rec base n i tag left h = rw (rest-step n i h)
@@ -100,7 +100,7 @@ module _ (rec : List ℕ) (base n i tag left : ℕ) (r : Found) (inv : r ≡ fin
       pub find-later : (left ≡ 1 → ⊥) → r ≡ findFrom rec base (n - (i + 1)) (i + 1) tag (left - 1)
       find-later b = rw (inv, find-step rec base n i tag left h, ← e, eq-eqb t tag same, ne-eqb left 1 b)
 
-      pub find-here : (pos len : ℕ) → left ≡ 1 → pos ≡ posAt rec i → len ≡ lenAt rec i → At (base + pos) len ≡ r
+      pub find-here : (pos len : ℕ) → left ≡ 1 → pos ≡ posAt rec i → len ≡ lenAt rec i → Span (base + pos) len ≡ r
       find-here pos len b p l = rw (inv, find-step rec base n i tag left h, ← e, ← p, ← l, eq-eqb t tag same, eq-eqb left 1 b)
 
 pub ruleset find-answers = (find-no-occurrence, find-done, find-here)

@@ -13,13 +13,13 @@ use Rattle.word.specs.Integer.{u16At, le}
 use Rattle.word.specs.Overwrite.{overwrite, part}
 use Rattle.word.proofs.Overwrite.{part-overwritten}
 use Rattle.word.proofs.Integers.{u16-drop, u16-le, u16-le-at}
-use Rattle.layout.specs.Sizes.{recordLength, tagPermitted}
+use Rattle.layout.specs.Sizes.{tagMost, recordLength, tagPermitted}
 use Rattle.layout.specs.Leader.{leaderOf, leaderBytes}
 use Rattle.layout.specs.declared.leader.Leader.{Leader}
 use Rattle.layout.proofs.Tests.{tests}
 use Rattle.layout.proofs.Facts.{tag-facts, RecordLengthFacts, record-length-facts}
 use Rattle.layout.proofs.LeaderBytes.{leader-length, Ranged, leader-of-bytes}
-use Rattle.record.specs.Directory.{tagAt, posAt, lenAt, directoryRight}
+use Rattle.record.specs.Directory.{tagAt, posAt, lenAt, entriesRight, directoryRight}
 use Rattle.record.specs.Fields.{Field, fieldsFrom}
 use Rattle.record.specs.Record.{leaderRight}
 use Rattle.record.specs.Draft.{tagsPermitted}
@@ -49,7 +49,7 @@ module _ (s : List ℕ) (i t p n : ℕ) (tail : List ℕ) (e : drop (18 + 6 * i)
 
 -- the tags of a list are permitted: the first, and the rest
 record FirstTag (f : Field) (fs : List Field) : Type 0 where
-  high : f .tag ≤ 32767
+  high : f .tag ≤ tagMost
   here : tagPermitted (f .tag) ≡ true
   rest : tagsPermitted (tagsOf fs) ≡ true
 
@@ -65,7 +65,7 @@ record EntriesRead (s : List ℕ) (base room i pos : ℕ) (fs : List Field) : Ty
 module _ (s : List ℕ) (base room : ℕ) (small : room < 65536) (behind after : List ℕ) where
   entries-read : (fs : List Field) (i pos : ℕ) → drop (18 + 6 * i) s ≡ directoryBytes pos fs ++ behind → drop (base + pos) s ≡ dataOf fs ++ after
       → pos + length (dataOf fs) ≤ room → tagsPermitted (tagsOf fs) ≡ true → EntriesRead s base room i pos fs
-  unfolding directoryBytes dataOf fieldsFrom directoryRight
+  unfolding directoryBytes dataOf fieldsFrom directoryRight entriesRight
   entries-read [] i pos d e h t = record { right = refl; same = refl }
   entries-read (f ∷ fs) i pos d e h t =
       let n : ℕ = length (f .bytes) in

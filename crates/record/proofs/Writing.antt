@@ -1,17 +1,18 @@
--- The writes of the record writer, one after the other, make one place. `overwrite-next` joins a place to the one before it; a part that is
--- kept is a place of what stands there already (`overwrite-same`); and what is lent comes back as a place (`returned-front`).
+-- The writes of the record writer, one after the other, make one. `overwrite-next` joins a write to the one before it; a part that is kept
+-- is overwritten with what stands there already (`overwrite-same`); and what is lent comes back as an overwrite (`returned-front`).
 use Prim.Native.Nat.{ℕ, _+_, _*_, _-_, _<_, _≤_}
 use native.Mathlib.Omega.{arith}
 use mathlib.Core.Path.{_≡_, refl, sym, ap, _∙_}
 use mathlib.Core.Bool.{true}
 use mathlib.Core.List.{List, _++_, append-assoc}
-use lib.ListN.{length, getD, take, replicate, length-append}
+use lib.ListN.{length, getD, take, drop, replicate, length-append, length-drop}
 use lib.Seq.{length-take-le, take-all}
 use borrow.Rule.Slice.PartMut.{midOf, putMid}
 use Rattle.word.specs.Integer.{le}
 use Rattle.word.specs.Overwrite.{overwrite, part}
-use Rattle.word.proofs.Overwrite.{part-length, overwrite-length, overwrite-part-after, overwrite-none, overwrite-same, overwrite-next, overwrite-commute, returned-front}
-use Rattle.word.proofs.Integers.{Bytes}
+use Rattle.word.proofs.Overwrite.{part-length, part-short, part-part, overwrite-length, overwrite-part-after, overwrite-back, overwrite-none, overwrite-same, drop-overwritten, overwrite-next, overwrite-over, lent-tail, returned-front}
+use Rattle.word.proofs.Integers.{Bytes, bytes-part}
+use Rattle.layout.specs.Sizes.{recordMost}
 use Rattle.layout.specs.Leader.{leaderBytes, leaderOf}
 use Rattle.layout.specs.declared.leader.Leader.{Leader}
 use Rattle.layout.proofs.LeaderBytes.{leader-length}
@@ -19,22 +20,24 @@ use Rattle.record.specs.Fields.{Field, fieldsOf}
 use Rattle.record.specs.Record.{Readable}
 use Rattle.record.specs.Draft.{sum, draftRight, draftFields}
 use Rattle.record.specs.Bytes.{dataOf, entryBytes, directoryBytes, usedBy, recordBytes}
+use Rattle.record.specs.Inner.{framed}
 use Rattle.record.proofs.Facts.{draft-facts}
 use Rattle.record.proofs.FieldData.{directory-length, body-part}
 use Rattle.record.proofs.Draftable.{draft-count, draft-data, readable-used}
 use Rattle.record.proofs.DraftFields.{need-facts, total-more, sum-take-le, entry-more}
+use Rattle.record.proofs.Trip.{record-length}
 
--- a place right behind what is placed, `next` bytes on
-placed-next : {cur : List ℕ} (d : List ℕ) (at next : ℕ) (xs ys : List ℕ) → at ≤ length d → cur ≡ overwrite d at xs → next ≡ at + length xs
+-- a write right behind another, `next` bytes on
+written-next : {cur : List ℕ} (d : List ℕ) (at next : ℕ) (xs ys : List ℕ) → at ≤ length d → cur ≡ overwrite d at xs → next ≡ at + length xs
     → overwrite cur next ys ≡ overwrite d at (xs ++ ys)
-placed-next d at next xs ys h e n = rw (e, n) (overwrite-next d at xs ys h)
+written-next d at next xs ys h e n = rw (e, n) (overwrite-next d at xs ys h)
 
 -- ---- an entry, and the directory of a draft
 
 pub entry-put : {a b c : List ℕ} (d : List ℕ) (at tag pos len : ℕ) → at + 6 ≤ length d
     → a ≡ overwrite d at (le 2 tag) → b ≡ overwrite a (at + 2) (le 2 pos) → c ≡ overwrite b (at + 4) (le 2 len) → c ≡ overwrite d at (entryBytes tag pos len)
 entry-put d at tag pos len h e f g =
-    g ∙ placed-next d at (at + 4) (le 2 tag ++ le 2 pos) (le 2 len) (omega arith) (f ∙ placed-next d at (at + 2) (le 2 tag) (le 2 pos) (omega arith) e refl) refl
+    g ∙ written-next d at (at + 4) (le 2 tag ++ le 2 pos) (le 2 len) (omega arith) (f ∙ written-next d at (at + 2) (le 2 tag) (le 2 pos) (omega arith) e refl) refl
 
 module _ (d tags lens bytes : List ℕ) (right : draftRight tags lens bytes ≡ true) (room : 18 + 6 * length tags ≤ length d) where
   -- the loop over the fields: after i turns the first i entries stand at 18, and pos is the sum of their lengths
@@ -46,7 +49,7 @@ module _ (d tags lens bytes : List ℕ) (right : draftRight tags lens bytes ≡ 
     pub entries-sum : i < length tags → pos + getD lens i 0 ≡ sum (take (i + 1) lens)
     entries-sum h = let f = draft-facts tags lens bytes right in total-more lens pos i p (omega arith)
 
-    pub entries-fit : i < length tags → pos + getD lens i 0 ≤ 32766
+    pub entries-fit : i < length tags → pos + getD lens i 0 ≤ recordMost
     entries-fit h =
         let f = draft-facts tags lens bytes right in
         let n = need-facts (length tags) (length bytes) in
@@ -60,7 +63,7 @@ module _ (d tags lens bytes : List ℕ) (right : draftRight tags lens bytes ≡ 
         let fs : List Field = draftFields tags lens bytes in
         let k : length (take i fs) ≡ i = length-take-le i fs (omega (arith, draft-count tags lens bytes right)) in
         g
-        ∙ placed-next d 18 (18 + 6 * i) (directoryBytes 0 (take i fs)) (entryBytes (getD tags i 0) pos (getD lens i 0)) (omega arith) e
+        ∙ written-next d 18 (18 + 6 * i) (directoryBytes 0 (take i fs)) (entryBytes (getD tags i 0) pos (getD lens i 0)) (omega arith) e
         (omega (arith, directory-length 0 (take i fs)))
         ∙ ap (λ (n : ℕ). overwrite d 18 (directoryBytes 0 (take i fs) ++ entryBytes (getD tags i 0) n (getD lens i 0))) p
         ∙ ap (overwrite d 18) (sym (entry-more i tags lens bytes h (omega arith) (omega arith)))
@@ -71,79 +74,90 @@ module _ (d tags lens bytes : List ℕ) (right : draftRight tags lens bytes ≡ 
       let fs : List Field = draftFields tags lens bytes in
       e ∙ ap (λ (x : List Field). overwrite d 18 (directoryBytes 0 x)) (take-all i fs (omega (arith, draft-count tags lens bytes right)))
 
+-- ---- fields whose body stands already, behind where their leader goes
+
+module _ (d : List ℕ) (l : Leader) (fs : List Field) (used : ℕ) (u : used ≡ usedBy fs) (body : part d 18 (used - 18) ≡ directoryBytes 0 fs ++ dataOf fs) where
+  -- leader, body and zeros are the record's bytes
+  record-runs : recordBytes l fs ≡ leaderBytes l ++ part d 18 (used - 18) ++ replicate (l .mfrl - used) 0
+  unfolding recordBytes
+  record-runs =
+      ap (λ (x : List ℕ). x ++ replicate (l .mfrl - usedBy fs) 0)
+      (append-assoc (leaderBytes l) (directoryBytes 0 fs) (dataOf fs) ∙ ap (λ (x : List ℕ). leaderBytes l ++ x) (sym body))
+      ∙ ap (λ (n : ℕ). leaderBytes l ++ part d 18 (used - 18) ++ replicate (l .mfrl - n) 0) (sym u)
+
+  pub record-framed : used ≤ l .mfrl → l .mfrl ≤ length d → framed d used l ≡ overwrite d 0 (recordBytes l fs)
+  unfolding framed
+  record-framed fits room =
+      let head : List ℕ = leaderBytes l in
+      let kept : List ℕ = part d 18 (used - 18) in
+      let zeros : List ℕ = replicate (l .mfrl - used) 0 in
+      let low : 18 ≤ used = omega arith in
+      let m : length head ≡ 18 = leader-length l in
+      let n : length kept ≡ used - 18 = part-length d 18 (used - 18) (omega arith) in
+      let k : length (overwrite d 0 head) ≡ length d = overwrite-length d 0 head (omega arith) in
+      let both : overwrite d 0 head ≡ overwrite d 0 (head ++ kept) =
+      sym (overwrite-same (overwrite d 0 head) 18 (used - 18) (omega arith))
+      ∙ ap (overwrite (overwrite d 0 head) 18) (overwrite-part-after d 0 head 18 (used - 18) (omega arith))
+      ∙ written-next d 0 18 head kept (omega arith) refl (omega arith) in
+      written-next d 0 used (head ++ kept) zeros (omega arith) both (simp length-append (omega arith)) ∙ ap (overwrite d 0) (sym record-runs)
+
 -- ---- the record of a draft
 
 module _ (d : List ℕ) (l : Leader) (tags lens bytes : List ℕ) (right : draftRight tags lens bytes ≡ true) where
-  -- out after each of the four writes
-  pub record-written : {D₁ D₂ D₃ D₄ : List ℕ} → D₁ ≡ overwrite d 0 (leaderBytes l) → D₂ ≡ overwrite D₁ 18 (directoryBytes 0 (draftFields tags lens bytes))
-      → D₃ ≡ overwrite D₂ (18 + 6 * length tags) bytes
-      → D₄ ≡ overwrite D₃ (18 + 6 * length tags + length bytes) (replicate (l .mfrl - (18 + 6 * length tags + length bytes)) 0)
-      → D₄ ≡ overwrite d 0 (recordBytes l (draftFields tags lens bytes))
-  unfolding recordBytes
-  record-written {D₁} {D₂} {D₃} {D₄} e₁ e₂ e₃ e₄ =
+  -- out after the directory and after the data, and with its leader and zeros
+  pub record-written : {D₁ D₂ D₃ : List ℕ} → D₁ ≡ overwrite d 18 (directoryBytes 0 (draftFields tags lens bytes)) → D₂ ≡ overwrite D₁ (18 + 6 * length tags) bytes
+      → D₃ ≡ framed D₂ (18 + 6 * length tags + length bytes) l → 18 + 6 * length tags + length bytes ≤ l .mfrl → l .mfrl ≤ length d
+      → D₃ ≡ overwrite d 0 (recordBytes l (draftFields tags lens bytes))
+  record-written {D₁} {D₂} {D₃} e₁ e₂ e₃ fits room =
       let fs : List Field = draftFields tags lens bytes in
-      let head : List ℕ = leaderBytes l in
       let dir : List ℕ = directoryBytes 0 fs in
-      let base : ℕ = 18 + 6 * length tags in
-      let used : ℕ = base + length bytes in
-      let zeros : List ℕ = replicate (l .mfrl - used) 0 in
-      let m : length head ≡ 18 = leader-length l in
+      let used : ℕ = 18 + 6 * length tags + length bytes in
       let n : length dir ≡ 6 * length tags = directory-length 0 fs ∙ ap (λ (k : ℕ). 6 * k) (draft-count tags lens bytes right) in
-      let s₂ : D₂ ≡ overwrite d 0 (head ++ dir) = e₂ ∙ placed-next d 0 18 head dir (omega arith) e₁ (omega arith) in
-      let s₃ : D₃ ≡ overwrite d 0 (head ++ dir ++ bytes) = e₃ ∙ placed-next d 0 base (head ++ dir) bytes (omega arith) s₂ (simp length-append (omega arith)) in
-      let s₄ : D₄ ≡ overwrite d 0 (head ++ dir ++ bytes ++ zeros) =
-      e₄ ∙ placed-next d 0 used (head ++ dir ++ bytes) zeros (omega arith) s₃ (simp length-append (omega arith)) in
-      rw (draft-data tags lens bytes right, draft-count tags lens bytes right) s₄
+      let m : length (dir ++ bytes) ≡ used - 18 = simp length-append (omega arith) in
+      let both : D₂ ≡ overwrite d 18 (dir ++ bytes) = e₂ ∙ written-next d 18 (18 + 6 * length tags) dir bytes (omega arith) e₁ (omega arith) in
+      let long : length D₂ ≡ length d = rw both (overwrite-length d 18 (dir ++ bytes) (omega arith)) in
+      let u : used ≡ usedBy fs = rw (draft-count tags lens bytes right, draft-data tags lens bytes right) in
+      let body : part D₂ 18 (used - 18) ≡ dir ++ dataOf fs =
+      ap (λ (x : List ℕ). part x 18 (used - 18)) both
+      ∙ ap (part (overwrite d 18 (dir ++ bytes)) 18) (sym m)
+      ∙ overwrite-back d 18 (dir ++ bytes) (omega arith)
+      ∙ rw (draft-data tags lens bytes right) in
+      e₃
+      ∙ record-framed D₂ l fs used u body fits (omega arith)
+      ∙ ap (λ (x : List ℕ). overwrite x 0 (recordBytes l fs)) both
+      ∙ overwrite-over d 0 (recordBytes l fs) 18 (dir ++ bytes) (omega arith) (omega arith) (omega (arith, record-length l fs (omega arith)))
 
 -- ---- a record's own fields again
 
-module _ (rec : List ℕ) (l : Leader) (r : Readable rec) (small : Bytes rec) (used : ℕ) (u : used ≡ usedBy (fieldsOf rec)) where
-  -- leader, body and zeros are the record's bytes
-  record-runs : recordBytes l (fieldsOf rec) ≡ leaderBytes l ++ part rec 18 (used - 18) ++ replicate (l .mfrl - used) 0
-  unfolding recordBytes
-  record-runs =
-      let fs : List Field = fieldsOf rec in
-      rw u
-      (ap (λ (x : List ℕ). x ++ replicate (l .mfrl - usedBy fs) 0)
-      (append-assoc (leaderBytes l) (directoryBytes 0 fs) (dataOf fs) ∙ ap (λ (x : List ℕ). leaderBytes l ++ x) (body-part rec r small)))
+pub record-rewritten : (rec : List ℕ) (l : Leader) → Readable rec → Bytes rec → (used : ℕ) → used ≡ usedBy (fieldsOf rec) → l .mfrl ≡ leaderOf rec .mfrl
+    → framed rec used l ≡ overwrite rec 0 (recordBytes l (fieldsOf rec))
+record-rewritten rec l r small used u e =
+    record-framed rec l (fieldsOf rec) used u (rw u (sym (body-part rec r small))) (omega (arith, readable-used rec r)) (omega (arith, r .record-in))
 
-  body-in : (18 ≤ used) × (used ≤ leaderOf rec .mfrl)
-  body-in = omega (arith, readable-used rec r)
+-- behind the record, in the buffer that has it: the body is copied, and framed in the tail that is lent
+module _ (d : List ℕ) (at to : ℕ) (small : Bytes d) (r : Readable (part d at (to - at))) (l : Leader) (used : ℕ) (u : used ≡ usedBy (fieldsOf (part d at (to - at))))
+    (fits : used ≤ l .mfrl) (room : to + l .mfrl ≤ length d) where
+  abbrev copied : List ℕ
+  copied = part d (at + 18) (used - 18)
 
-  body-length : length (part rec 18 (used - 18)) ≡ used - 18
-  body-length = part-length rec 18 (used - 18) (omega (arith, body-in, r .record-in))
+  own-body : copied ≡ directoryBytes 0 (fieldsOf (part d at (to - at))) ++ dataOf (fieldsOf (part d at (to - at)))
+  own-body =
+      sym (part-part d at (to - at) 18 (used - 18) (omega (arith, readable-used (part d at (to - at)) r, r .record-in, part-short d at (to - at))))
+      ∙ rw u (sym (body-part (part d at (to - at)) r (bytes-part d at (to - at) small)))
 
-  pub record-rewritten : {D₁ D₂ : List ℕ} → l .mfrl ≡ leaderOf rec .mfrl → D₁ ≡ overwrite rec 0 (leaderBytes l) → D₂ ≡ overwrite D₁ used (replicate (l .mfrl - used) 0)
-      → D₂ ≡ overwrite rec 0 (recordBytes l (fieldsOf rec))
-  record-rewritten {D₁} {D₂} e e₁ e₂ =
-      let head : List ℕ = leaderBytes l in
-      let body : List ℕ = part rec 18 (used - 18) in
-      let zeros : List ℕ = replicate (l .mfrl - used) 0 in
-      let b = body-in in
-      let i : leaderOf rec .mfrl ≤ length rec = r .record-in in
-      let m : length head ≡ 18 = leader-length l in
-      let n : length body ≡ used - 18 = body-length in
-      let k : length (overwrite rec 0 head) ≡ length rec = overwrite-length rec 0 head (omega arith) in
-      let kept : overwrite rec 0 head ≡ overwrite rec 0 (head ++ body) =
-      sym (overwrite-same (overwrite rec 0 head) 18 (used - 18) (omega arith))
-      ∙ ap (overwrite (overwrite rec 0 head) 18) (overwrite-part-after rec 0 head 18 (used - 18) (omega arith))
-      ∙ placed-next rec 0 18 head body (omega arith) refl (omega arith) in
-      e₂ ∙ placed-next rec 0 used (head ++ body) zeros (omega arith) (e₁ ∙ kept) (simp length-append (omega arith)) ∙ ap (overwrite rec 0) (sym record-runs)
-
-  pub record-copied : {D₁ W D₃ : List ℕ} (to : ℕ) → leaderOf rec .mfrl ≤ to → to + l .mfrl ≤ length rec → used ≤ l .mfrl
-      → D₁ ≡ overwrite rec (to + 18) (part rec 18 (used - 18)) → W ≡ overwrite (midOf to (length D₁ - to) D₁) 0 (leaderBytes l)
-      → D₃ ≡ overwrite (putMid to (length D₁ - to) D₁ W) (to + used) (replicate (l .mfrl - used) 0)
-      → D₃ ≡ overwrite rec to (recordBytes l (fieldsOf rec))
-  record-copied {D₁} {W} {D₃} to h₁ h₂ h₃ e₁ e₂ e₃ =
-      let head : List ℕ = leaderBytes l in
-      let body : List ℕ = part rec 18 (used - 18) in
-      let zeros : List ℕ = replicate (l .mfrl - used) 0 in
-      let b = body-in in
-      let m : length head ≡ 18 = leader-length l in
-      let n : length body ≡ used - 18 = body-length in
-      let both : putMid to (length D₁ - to) D₁ W ≡ overwrite rec to (head ++ body) =
-      returned-front D₁ to head e₂
-      ∙ ap (λ (x : List ℕ). overwrite x to head) e₁
-      ∙ sym (overwrite-commute rec to head (to + 18) body (omega arith) (omega arith))
-      ∙ placed-next rec to (to + 18) head body (omega arith) refl (omega arith) in
-      e₃ ∙ placed-next rec to (to + used) (head ++ body) zeros (omega arith) both (simp length-append (omega arith)) ∙ ap (overwrite rec to) (sym record-runs)
+  pub record-copied : {D W : List ℕ} → D ≡ overwrite d (to + 18) copied → W ≡ framed (midOf to (length D - to) D) used l
+      → putMid to (length D - to) D W ≡ overwrite d to (recordBytes l (fieldsOf (part d at (to - at))))
+  record-copied {D} {W} e f =
+      let fs : List Field = fieldsOf (part d at (to - at)) in
+      let k : length copied ≡ used - 18 = part-length d (at + 18) (used - 18) (omega (arith, readable-used (part d at (to - at)) r, r .record-in, part-short d at (to - at))) in
+      let long : length D ≡ length d = rw e (overwrite-length d (to + 18) copied (omega arith)) in
+      let lent : midOf to (length D - to) D ≡ overwrite (drop to d) 18 copied = lent-tail D to ∙ rw e (drop-overwritten d to 18 copied (omega arith)) in
+      let stands : part (midOf to (length D - to) D) 18 (used - 18) ≡ directoryBytes 0 fs ++ dataOf fs =
+      ap (λ (x : List ℕ). part x 18 (used - 18)) lent
+      ∙ ap (part (overwrite (drop to d) 18 copied) 18) (sym k)
+      ∙ overwrite-back (drop to d) 18 copied (simp length-drop (omega arith))
+      ∙ own-body in
+      let tail : length (midOf to (length D - to) D) ≡ length d - to = rw (lent-tail D to, length-drop, long) in
+      returned-front D to (recordBytes l fs) (f ∙ record-framed (midOf to (length D - to) D) l fs used u stands fits (omega arith))
+      ∙ ap (λ (x : List ℕ). overwrite x to (recordBytes l fs)) e
+      ∙ overwrite-over d to (recordBytes l fs) (to + 18) copied (omega arith) (omega arith) (omega (arith, record-length l fs (omega arith)))

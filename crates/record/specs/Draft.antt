@@ -1,19 +1,15 @@
 -- The draft of a record: a list of tags, a list of lengths and the data. Document 01, "What the calls do".
 use Prim.Native.Nat.{ℕ, _+_, _*_, _/_}
-use mathlib.Core.Bool.{Bool, true, _&&_, cond}
+use mathlib.Core.Bool.{Bool, true, _&&_}
 use mathlib.Core.List.{List, [], _∷_}
 use lib.Dec.{eqb, leb}
 use lib.ListN.{length, take, drop}
-use Rattle.layout.specs.Sizes.{tagPermitted}
+use Rattle.layout.specs.Sizes.{recordMost, tagPermitted}
 use Rattle.record.specs.Fields.{Field}
 
 unfoldable pub sum : List ℕ → ℕ
 sum [] = 0
 sum (n ∷ ns) = n + sum ns
-
--- n, or one more than the bound where n is above it
-abbrev pub upTo : ℕ → ℕ → ℕ
-upTo bound n = cond (leb n bound) n (bound + 1)
 
 -- every tag is in range
 unfoldable pub tagsPermitted : List ℕ → Bool
@@ -30,7 +26,7 @@ draftRight tags lens bytes =
     eqb (length tags) (length lens)
     && tagsPermitted tags
     && eqb (sum lens) (length bytes)
-    && leb (needOf (length tags) (length bytes)) 32766
+    && leb (needOf (length tags) (length bytes)) recordMost
 
 -- the fields of a draft
 unfoldable pub draftFields : List ℕ → List ℕ → List ℕ → List Field

@@ -8,7 +8,7 @@ use Rattle.word.specs.Overwrite.{part}
 use Rattle.layout.specs.Leader.{leaderOf}
 use Rattle.record.specs.Directory.{tagAt, posAt, lenAt}
 use Rattle.record.specs.declared.fields.Found.{Found}
-use Rattle.record.specs.declared.fields.Found.the-variants.{At, Missing}
+use Rattle.record.specs.declared.fields.Found.the-variants.{Span, Missing}
 
 -- a field: its tag and its bytes
 pub record Field : Type 0 where
@@ -39,7 +39,7 @@ unfoldable pub findFrom : List ℕ → ℕ → ℕ → ℕ → ℕ → ℕ → F
 findFrom rec base zero i tag occ = Missing
 findFrom rec base (suc k) i tag occ =
     cond (eqb (tagAt rec i) tag)
-    (cond (eqb occ 1) (At (base + posAt rec i) (lenAt rec i)) (findFrom rec base k (i + 1) tag (occ - 1)))
+    (cond (eqb occ 1) (Span (base + posAt rec i) (lenAt rec i)) (findFrom rec base k (i + 1) tag (occ - 1)))
     (findFrom rec base k (i + 1) tag occ)
 
 unfoldable pub findOf : List ℕ → ℕ → ℕ → Found
@@ -47,5 +47,5 @@ findOf rec tag occ = findFrom rec (leaderOf rec .base) (leaderOf rec .nvf) 0 tag
 
 -- the bytes that lie there
 abbrev pub foundBytes : List ℕ → Found → Option (List ℕ)
-foundBytes rec (At start len) = some (part rec start len)
+foundBytes rec (Span start len) = some (part rec start len)
 foundBytes rec Missing = none

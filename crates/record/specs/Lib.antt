@@ -3,4 +3,5 @@ pub mod Fields
 pub mod Record
 pub mod Draft
 pub mod Bytes
+pub mod Inner
 pub mod Walker

@@ -6,8 +6,15 @@ ghost use Prim.Native.Nat.{_+_, _*_, _≤_, _<_};
 ghost use lib.ListN.{length};
 ghost use Rattle.record.specs.Directory.{tagAt, posAt, lenAt, directoryRight};
 
+// A directory entry.
+pub struct DirectoryEntry {
+    pub tag: Tag,
+    pub pos: u16,
+    pub len: u16,
+}
+
 // TAG of entry `i`, counted from 0.
-pub fn tag_at(rec: &[u8], i: usize) -> Tag
+pub(crate) fn tag_at(rec: &[u8], i: usize) -> Tag
     requires { ⌜ 24 + 6 * i ≤ length (now rec) ⌝ }
     ensures { λ r. ⌜ r .0 ≡ tagAt (now (rec .entry)) i ⌝ }
 {
@@ -15,7 +22,7 @@ pub fn tag_at(rec: &[u8], i: usize) -> Tag
 }
 
 // POS of entry `i`.
-pub fn pos_at(rec: &[u8], i: usize) -> usize
+pub(crate) fn pos_at(rec: &[u8], i: usize) -> usize
     requires { ⌜ 24 + 6 * i ≤ length (now rec) ⌝ }
     ensures { λ r. ⌜ (r ≡ posAt (now (rec .entry)) i) × (r < 65536) ⌝ }
 {
@@ -23,7 +30,7 @@ pub fn pos_at(rec: &[u8], i: usize) -> usize
 }
 
 // LEN of entry `i`.
-pub fn len_at(rec: &[u8], i: usize) -> usize
+pub(crate) fn len_at(rec: &[u8], i: usize) -> usize
     requires { ⌜ 24 + 6 * i ≤ length (now rec) ⌝ }
     ensures { λ r. ⌜ (r ≡ lenAt (now (rec .entry)) i) × (r < 65536) ⌝ }
 {
@@ -31,7 +38,7 @@ pub fn len_at(rec: &[u8], i: usize) -> usize
 }
 
 // Whether the `nvf` entries keep the rules, with `room` bytes for the data. One walk, to the first entry that breaks one.
-pub fn directory_right(rec: &[u8], nvf: usize, room: usize) -> bool
+pub(crate) fn directory_right(rec: &[u8], nvf: usize, room: usize) -> bool
     requires { ⌜ (18 + 6 * nvf ≤ length (now rec)) × (nvf ≤ 65535) × (room ≤ 65535) ⌝ }
     ensures { λ r. ⌜ r ≡ directoryRight (now (rec .entry)) room nvf 0 0 ⌝ }
 {

@@ -1,21 +1,25 @@
 // The draft of a record: three lent slices, tags, lengths and data.
+use layout::sizes::FIELDS_MOST;
+use layout::sizes::RECORD_MOST;
 use layout::sizes::Tag;
 ghost use mathlib.Core.Path.{_≡_};
 ghost use mathlib.Core.Bool.{true};
 ghost use Prim.Native.Nat.{_+_, _*_, _≤_};
 ghost use lib.ListN.{length};
-ghost use Rattle.record.specs.Draft.{sum, upTo, tagsPermitted, needOf, draftRight};
+ghost use Rattle.layout.specs.Sizes.{recordMost};
+ghost use Rattle.record.specs.Inner.{upTo};
+ghost use Rattle.record.specs.Draft.{sum, tagsPermitted, needOf, draftRight};
 
-// The sum of the lengths, or 32,767 where it is more than 32,766.
+// The sum of the lengths, or one more than a record has bytes where it is more.
 fn total(lens: &[u16]) -> usize
-    ensures { λ r. ⌜ r ≡ upTo 32766 (sum (now (lens .entry))) ⌝ }
+    ensures { λ r. ⌜ r ≡ upTo recordMost (sum (now (lens .entry))) ⌝ }
 {
     let mut s: usize = 0;
     let mut i = 0;
     while i < lens.len() {
         s += lens[i] as usize;
-        if 32766 < s {
-            return 32767;
+        if RECORD_MOST < s {
+            return RECORD_MOST + 1;
         }
         i += 1;
     }
@@ -53,13 +57,13 @@ pub fn draft_right(tags: &[u16], lens: &[u16], data: &[u8]) -> bool
     if n != lens.len() {
         return false;
     }
-    if 5458 < n {
+    if FIELDS_MOST < n {
         return false;
     }
-    if 32766 < size {
+    if RECORD_MOST < size {
         return false;
     }
-    if 32766 < need(n, size) {
+    if RECORD_MOST < need(n, size) {
         return false;
     }
     if !tags_permitted(tags) {

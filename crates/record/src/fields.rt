@@ -6,7 +6,7 @@ use layout::sizes::Tag;
 use word::integer::u16_at;
 ghost use mathlib.Core.Path.{_≡_};
 ghost use Prim.Native.Nat.{_+_, _*_, _-_, _≤_, _<_};
-ghost use lib.ListN.{length};
+ghost use lib.ListN.{length, getD};
 ghost use Rattle.word.specs.Overwrite.{part};
 ghost use Rattle.record.specs.Fields.{fieldsOf, findOf};
 ghost use Rattle.record.specs.Bytes.{dataOf};
@@ -14,7 +14,7 @@ ghost use Rattle.record.specs.Record.{Readable};
 
 // Where in its record a field lies.
 pub enum Found {
-    At { start: usize, len: usize },
+    Span { start: usize, len: usize },
     Missing,
 }
 
@@ -34,7 +34,7 @@ pub fn find_field(rec: &[u8], tag: Tag, occurrence: u32) -> Found
         let t = tag_at(rec, i);
         if t.0 == tag.0 {
             if left == 1 {
-                return Found::At {
+                return Found::Span {
                     start: base + pos_at(rec, i),
                     len: len_at(rec, i),
                 };
@@ -47,12 +47,20 @@ pub fn find_field(rec: &[u8], tag: Tag, occurrence: u32) -> Found
 }
 
 // The bytes of a field that was found.
-pub fn field_part(rec: &[u8], start: usize, len: usize) -> &[u8]
+pub(crate) fn field_part(rec: &[u8], start: usize, len: usize) -> &[u8]
     requires { ⌜ start + len ≤ length (now rec) ⌝ }
     ensures { λ r. ⌜ now r ≡ part (now (rec .entry)) start len ⌝ }
 {
     let end = start + len;
     &rec[start..end]
+}
+
+// One byte of a record.
+pub fn byte_at(rec: &[u8], i: usize) -> u8
+    requires { ⌜ i < length (now rec) ⌝ }
+    ensures { λ r. ⌜ r ≡ getD (now (rec .entry)) i 0 ⌝ }
+{
+    rec[i]
 }
 
 // How many bytes of data the fields have: the last entry's POS plus its LEN.

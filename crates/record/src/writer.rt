@@ -1,21 +1,26 @@
 // The record writer: leader, directory, data and zeros, into the front of a lent slice.
+use crate::directory::DirectoryEntry;
 use layout::leader::Leader;
 use layout::sizes::Block;
 use layout::sizes::Mfn;
+use layout::sizes::Tag;
 ghost use mathlib.Core.Path.{_≡_};
 ghost use mathlib.Core.Bool.{true};
+ghost use mathlib.Core.List.{[], _∷_};
 ghost use Prim.Native.Nat.{_+_, _*_, _≤_, _<_};
 ghost use lib.ListN.{length, replicate};
 ghost use Rattle.word.specs.Overwrite.{overwrite};
+ghost use Rattle.layout.specs.Sizes.{fieldsMost};
 ghost use Rattle.layout.specs.Leader.{leaderOf};
 ghost use Rattle.record.specs.Fields.{fieldsOf};
 ghost use Rattle.record.specs.Record.{Readable};
 ghost use Rattle.record.specs.Draft.{sum, needOf, draftRight, draftFields};
-ghost use Rattle.record.specs.Bytes.{entryBytes, directoryBytes, usedBy, needFor, recordBytes, leaderFor};
+ghost use Rattle.record.specs.Bytes.{entryBytes, directoryBytes, usedBy, recordBytes, leaderFor};
+ghost use Rattle.record.specs.Inner.{framed};
 
 // The leader of a record of `nvf` fields.
 pub fn leader_for(mfn: Mfn, mfrl: u16, back: Block, offset: u16, deleted: bool, nvf: u16) -> Leader
-    requires { ⌜ nvf ≤ 5458 ⌝ }
+    requires { ⌜ nvf ≤ fieldsMost ⌝ }
     ensures { λ r. ⌜ r ≡ leaderFor (mfn .0) mfrl (back .0) offset deleted nvf ⌝ }
 {
     Leader {
@@ -30,13 +35,13 @@ pub fn leader_for(mfn: Mfn, mfrl: u16, back: Block, offset: u16, deleted: bool, 
 }
 
 // Writes one directory entry at `at`.
-fn put_directory_entry(out: &mut [u8], at: usize, tag: u16, pos: u16, len: u16)
+fn put_directory_entry(out: &mut [u8], at: usize, e: DirectoryEntry)
     requires { ⌜ at + 6 ≤ length (now out) ⌝ }
-    ensures { λ _. ⌜ now (out .exit) ≡ overwrite (now (out .entry)) at (entryBytes tag pos len) ⌝ }
+    ensures { λ _. ⌜ now (out .exit) ≡ overwrite (now (out .entry)) at (entryBytes (e .tag .0) (e .pos) (e .len)) ⌝ }
 {
-    word::integer::put_u16(out, at, tag);
-    word::integer::put_u16(out, at + 2, pos);
-    word::integer::put_u16(out, at + 4, len);
+    word::integer::put_u16(out, at, e.tag.0);
+    word::integer::put_u16(out, at + 2, e.pos);
+    word::integer::put_u16(out, at + 4, e.len);
 }
 
 // Writes the directory of a draft from byte 18 on. Each POS is the sum of the lengths before it.
@@ -49,10 +54,21 @@ fn put_directory(out: &mut [u8], tags: &[u16], lens: &[u16], data: &[u8])
     let mut pos: u16 = 0;
     while i < tags.len() {
         let len = lens[i];
-        put_directory_entry(out, 18 + 6 * i, tags[i], pos, len);
+        let tag = Tag(tags[i]);
+        put_directory_entry(out, 18 + 6 * i, DirectoryEntry { tag, pos, len });
         pos += len;
         i += 1;
     }
+}
+
+// Writes the leader `l` before a body that stands already, up to `used`, and zeros behind it up to MFRL.
+pub fn frame_record(out: &mut [u8], used: usize, l: Leader)
+    requires { ⌜ (18 ≤ used) × (used ≤ l .mfrl) × (l .mfrl ≤ length (now out)) ⌝ }
+    ensures { λ _. ⌜ now (out .exit) ≡ framed (now (out .entry)) used l ⌝ }
+{
+    let mfrl = l.mfrl as usize;
+    layout::leader::put_leader(out, l);
+    word::bytes::fill(out, used, mfrl - used, 0);
 }
 
 // Writes a draft's record under the leader `l`, MFRL bytes.
@@ -61,21 +77,26 @@ pub fn write_record(out: &mut [u8], l: Leader, tags: &[u16], lens: &[u16], data:
     requires { ⌜ (needOf (length (now tags)) (length (now «data»)) ≤ l .mfrl) × (l .mfrl ≤ length (now out)) ⌝ }
     ensures { λ _. ⌜ now (out .exit) ≡ overwrite (now (out .entry)) 0 (recordBytes l (draftFields (now (tags .entry)) (now (lens .entry)) (now («data» .entry)))) ⌝ }
 {
-    let mfrl = l.mfrl as usize;
     let base = 18 + 6 * tags.len();
-    let used = base + data.len();
-    layout::leader::put_leader(out, l);
     put_directory(out, tags, lens, data);
     word::bytes::copy_to(out, base, data);
-    word::bytes::fill(out, used, mfrl - used, 0);
+    frame_record(out, base + data.len(), l);
 }
 
 // The bytes of the record at the front of `rec` up to the end of its data.
-fn used_by(rec: &[u8]) -> usize
+pub fn used_by(rec: &[u8]) -> usize
     requires { ⌜ Readable (now rec) ⌝ }
     ensures { λ r. ⌜ (r ≡ usedBy (fieldsOf (now (rec .entry)))) × (18 ≤ r) × (r ≤ leaderOf (now (rec .entry)) .mfrl) ⌝ }
 {
     word::integer::u16_at(rec, 12) as usize + crate::fields::data_length(rec)
+}
+
+// Writes one byte of a record.
+pub fn put_byte(out: &mut [u8], at: usize, b: u8)
+    requires { ⌜ at < length (now out) ⌝ }
+    ensures { λ _. ⌜ now (out .exit) ≡ overwrite (now (out .entry)) at (b ∷ []) ⌝ }
+{
+    out[at] = b;
 }
 
 // Rewrites the record at the front of `rec` in place, with its own fields, under the leader `l`.
@@ -84,23 +105,8 @@ pub fn rewrite_record(rec: &mut [u8], l: Leader)
     requires { ⌜ l .mfrl ≡ leaderOf (now rec) .mfrl ⌝ }
     ensures { λ _. ⌜ now (rec .exit) ≡ overwrite (now (rec .entry)) 0 (recordBytes l (fieldsOf (now (rec .entry)))) ⌝ }
 {
-    let mfrl = l.mfrl as usize;
     let used = used_by(rec);
-    layout::leader::put_leader(rec, l);
-    word::bytes::fill(rec, used, mfrl - used, 0);
-}
-
-// Writes the fields of the record at the front of `rec` again, under the leader `l`, `to` bytes on.
-pub fn copy_record(rec: &mut [u8], to: usize, l: Leader)
-    requires { ⌜ Readable (now rec) ⌝ }
-    requires { ⌜ (leaderOf (now rec) .mfrl ≤ to) × (to + l .mfrl ≤ length (now rec)) × (needFor (fieldsOf (now rec)) ≤ l .mfrl) ⌝ }
-    ensures { λ _. ⌜ now (rec .exit) ≡ overwrite (now (rec .entry)) to (recordBytes l (fieldsOf (now (rec .entry)))) ⌝ }
-{
-    let mfrl = l.mfrl as usize;
-    let used = used_by(rec);
-    word::bytes::copy_within(rec, 18, to + 18, used - 18);
-    layout::leader::put_leader(&mut rec[to..], l);
-    word::bytes::fill(rec, to + used, mfrl - used, 0);
+    frame_record(rec, used, l);
 }
 
 // Sets the back pointer of the record at the front of `rec` to 0/0.

@@ -8,7 +8,7 @@ use Rattle.layout.specs.Entry.{placeAddress}
 use Rattle.layout.specs.declared.entry.Place.{Place}
 use Rattle.record.specs.Fields.{findOf}
 use Rattle.record.specs.declared.fields.Found.{Found}
-use Rattle.record.specs.declared.fields.Found.the-variants.{At, Missing}
+use Rattle.record.specs.declared.fields.Found.the-variants.{Span, Missing}
 use Rattle.store.specs.Store.{Store}
 use Rattle.store.specs.Answer.{Refusal, refuse, lowest, after}
 use Rattle.store.specs.Reading.{placeFor, isSettled, isChanged, isNew, recordAt, leaderAt, backAddress, shownSettled}
@@ -33,7 +33,7 @@ onSettled s m rest =
     ∷ rest))
 
 abbrev pub isMissing : Found → Bool
-isMissing (At start len) = false
+isMissing (Span start len) = false
 isMissing Missing = true
 
 -- the current view
@@ -54,11 +54,11 @@ settledViewAnswer s m tag occ = lowest (settledViewRefusals s m tag occ)
 -- ---- what is shown
 
 abbrev pub foundStart : Found → ℕ
-foundStart (At start len) = start
+foundStart (Span start len) = start
 foundStart Missing = 0
 
 abbrev pub foundLength : Found → ℕ
-foundLength (At start len) = len
+foundLength (Span start len) = len
 foundLength Missing = 0
 
 -- the field found in a record at an address

@@ -119,7 +119,7 @@ fn show_field(mst: &[u8], v: Version, tag: Tag, occurrence: u32) -> Shown
         return refused_view(version_answer(v));
     };
     let f = record::fields::find_field(&mst[at..end], tag, occurrence);
-    let Found::At { start, len } = f else {
+    let Found::Span { start, len } = f else {
         return refused_view(Answer::NoField);
     };
     Shown {

@@ -137,6 +137,10 @@ module _ (d : List ℕ) (at : ℕ) (xs : List ℕ) where
   pub overwrite-part-after : (a n : ℕ) → at + length xs ≤ a → part (overwrite d at xs) a n ≡ part d a n
   overwrite-part-after a n h = ap (take n) (overwrite-drop-after a h)
 
+  -- what was written is found there
+  pub overwrite-back : at ≤ length d → part (overwrite d at xs) at (length xs) ≡ xs
+  overwrite-back h = ap (take (length xs)) (overwrite-drop-at h) ∙ take-at xs (drop (at + length xs) d) (length xs) refl
+
   -- where it was written: that, then what stood behind it
   pub part-overwritten : (n : ℕ) → at ≤ length d → length xs ≤ n → part (overwrite d at xs) at n ≡ xs ++ part d (at + length xs) (n - length xs)
   part-overwritten n h k =
@@ -208,6 +212,17 @@ overwrite-commute d a xs b ys l h =
       overwrite-drop-after d a xs (b + length ys) (omega arith),
     )
     (simp append-assoc)
+
+-- one over all of an earlier one
+pub overwrite-over : (d : List ℕ) (a : ℕ) (xs : List ℕ) (b : ℕ) (ys : List ℕ) → a ≤ b → b ≤ length d → b + length ys ≤ a + length xs
+    → overwrite (overwrite d b ys) a xs ≡ overwrite d a xs
+overwrite-over d a xs b ys l h k =
+    rw (
+      overwrite-is (overwrite d b ys) a xs,
+      overwrite-is d a xs,
+      overwrite-take d b ys a h l,
+      overwrite-drop-after d b ys (a + length xs) k,
+    )
 
 -- ---- stores
 

@@ -12,7 +12,7 @@ use denote.Enum.Declared.{tagOf}
 use types.Run.{OneOf, miss}
 use Rattle.layout.specs.Sizes.{capacityOf}
 use Rattle.layout.specs.Control.{nextOf, endOf}
-use Rattle.layout.specs.CrossReference.{headRight, slotFree}
+use Rattle.layout.specs.CrossReference.{xrfBlock, headRight, slotFree}
 use Rattle.layout.specs.declared.sizes.Mfn.{Mfn}
 use Rattle.layout.specs.declared.entry.Mark.{Mark}
 use Rattle.layout.specs.declared.entry.Mark.the-variants.{Settled, Changed, New}
@@ -30,7 +30,7 @@ use Rattle.store.specs.Gate.{gateOf, gateAnswer, knownOf, knownAnswer, reachedI
 use Rattle.writing.specs.Plans.{settlePlan, revertPlan, slotAnswer, SlotAsked, createPlan, planIf, updatePlan, deletePlan, roomPlan}
 use Rattle.writing.specs.Asked.{RecordRead}
 use Rattle.store.specs.declared.answer.Answer.{Answer}
-use Rattle.store.specs.declared.answer.Answer.the-variants.{Done, BadLength, BadControl, BadDraft, NoMfn, NoSlot, BadEntry, Gone as GoneAnswer, BadRecord, Deleted, NotPending, NeverSettled, NoField, NoRoom, NotSound, ListTooShort}
+use Rattle.store.specs.declared.answer.Answer.the-variants.{Done, BadLength, BadControl, BadDraft, NoMfn, NoSlot, BadEntry, Gone as GoneAnswer, BadRecord, Deleted, NotPending, NeverSettled, NoField, NoRoom, NotSound, NoRoomInList}
 use Rattle.writing.specs.declared.create.Creating.the-variants.{Write, Unwritten}
 use Rattle.store.specs.declared.gate.Gate.{Gate}
 use Rattle.store.specs.declared.gate.Gate.the-variants.{Open, Shut}
@@ -65,7 +65,7 @@ not-done NeverSettled v = λ z. omega arith
 not-done NoField v = λ z. omega arith
 not-done NoRoom v = λ z. omega arith
 not-done NotSound v = λ z. omega arith
-not-done ListTooShort v = λ z. omega arith
+not-done NoRoomInList v = λ z. omega arith
 
 pub not-settled : (k : Mark) → OneOf (1 ∷ 2 ∷ []) (tagOf mark.the-type k) → isSettled k ≡ false
 not-settled Settled v = absurd (miss (1 ∷ 2 ∷ []) 0 tt v)
@@ -103,24 +103,24 @@ module _ (mst xrf : List ℕ) (next end need : ℕ) (s : SlotAsked mst xrf next 
   unfolding slotAnswer
   slot-full h = rw (← s .next-is, ← c, eq-eqb _ _ h)
 
-  module _ (h : next ≡ cap + 1 → ⊥) (b : Bool) (e : b ≡ headRight xrf ((next - 1) / 127 + 1)) where
+  module _ (h : next ≡ cap + 1 → ⊥) (k : ℕ) (w : k ≡ xrfBlock next) (b : Bool) (e : b ≡ headRight xrf k) where
     pub slot-head : not b ≡ true → BadEntry ≡ slotAnswer (store mst xrf) need
     unfolding slotAnswer
-    slot-head i = rw (← s .next-is, ← c, ne-eqb _ _ h, ← e, not-true b i)
+    slot-head i = rw (← s .next-is, ← c, ne-eqb _ _ h, ← w, ← e, not-true b i)
 
     module _ (i : not b ≡ false) (f : Bool) (g : f ≡ slotFree xrf next) where
       pub slot-taken : not f ≡ true → BadEntry ≡ slotAnswer (store mst xrf) need
       unfolding slotAnswer
-      slot-taken j = rw (← s .next-is, ← c, ne-eqb _ _ h, ← e, not-false b i, ← g, not-true f j)
+      slot-taken j = rw (← s .next-is, ← c, ne-eqb _ _ h, ← w, ← e, not-false b i, ← g, not-true f j)
 
       module _ (j : not f ≡ false) where
         pub slot-no-room : length mst < end + need → NoRoom ≡ slotAnswer (store mst xrf) need
         unfolding slotAnswer exceeds
-        slot-no-room k = rw (← s .next-is, ← c, ne-eqb _ _ h, ← e, not-false b i, ← g, not-false f j, ← s .end-is, lt-ltb _ _ k)
+        slot-no-room l = rw (← s .next-is, ← c, ne-eqb _ _ h, ← w, ← e, not-false b i, ← g, not-false f j, ← s .end-is, lt-ltb _ _ l)
 
         pub slot-done : end + need ≤ length mst → Done ≡ slotAnswer (store mst xrf) need
         unfolding slotAnswer exceeds
-        slot-done k = rw (← s .next-is, ← c, ne-eqb _ _ h, ← e, not-false b i, ← g, not-false f j, ← s .end-is, le-ltb _ _ k)
+        slot-done l = rw (← s .next-is, ← c, ne-eqb _ _ h, ← w, ← e, not-false b i, ← g, not-false f j, ← s .end-is, le-ltb _ _ l)
 
 pub ruleset slot-answers = (slot-full, slot-head, slot-taken, slot-no-room, slot-done)
 

@@ -101,6 +101,24 @@ module _ (mst : List ℕ) (end : ℕ) (p : Place) (l : Leader) (r : RecordRead m
     pub own-lent-readable : Readable (midOf at (end - at) mst)
     own-lent-readable = rw own-lent own-readable
 
+    -- what the copy to the end asks, and what it leaves
+    pub copy-before : at ≤ end
+    copy-before = omega arith
+
+    pub copy-room : (n : ℕ) → AtEnd mst end n → end + n ≤ length mst
+    copy-room n a = a .room
+
+    pub copy-need : (n : ℕ) → needFor (currentFields mst p) ≤ n → needFor (fieldsOf (midOf at (end - at) mst)) ≤ n
+    copy-need n h = rw own-lent h
+
+    pub copy-kept : (size : ℕ) (out : List ℕ) → AtEnd mst end size → length out ≡ length mst → 64 ≤ length out
+    copy-kept size out a h = omega arith
+
+    pub copy-appended : (k : Leader) (out last : List ℕ) (moved : ℕ) → out ≡ overwrite mst end (recordBytes k (fieldsOf (midOf at (end - at) mst)))
+        → moved ≡ endMoved (end + k .mfrl) → last ≡ withEnd out moved → last ≡ appended mst k (currentFields mst p)
+    unfolding appended
+    copy-appended k out last moved t n w = w ∙ rw (n, t, own-lent, r .end-is)
+
     module _ (size : ℕ) (s : size ≡ length (dataOf (fieldsOf (midOf at (end - at) mst)))) where
       own-size : size ≡ length (dataOf (currentFields mst p))
       own-size = s ∙ ap (λ (x : List ℕ). length (dataOf (fieldsOf x))) own-lent
@@ -130,31 +148,9 @@ module _ (mst : List ℕ) (end : ℕ) (p : Place) (l : Leader) (r : RecordRead m
     tail-fields : fieldsOf (midOf at (length mst - at) mst) ≡ currentFields mst p
     tail-fields = lent-reads .fields
 
-    -- what the copy to the end asks
-    pub copy-before : leaderOf (midOf at (length mst - at) mst) .mfrl ≤ end - at
-    copy-before = rw tail-leader (omega arith)
-
-    pub copy-room : (n : ℕ) → end + n ≤ length mst → end - at + n ≤ length (midOf at (length mst - at) mst)
-    copy-room n h = omega (arith, tail-length mst at)
-
-    pub copy-need : (n : ℕ) → needFor (currentFields mst p) ≤ n → needFor (fieldsOf (midOf at (length mst - at) mst)) ≤ n
-    copy-need n h = rw tail-fields h
-
-    pub copy-kept : (size : ℕ) (ys : List ℕ) → AtEnd mst end size → length ys ≡ length (midOf at (length mst - at) mst)
-        → 64 ≤ length (putMid at (length mst - at) mst ys)
-    copy-kept size ys a h = omega (arith, tail-kept mst at ys (omega arith) h)
-
     -- what the writing in place asks
     pub same-mfrl : (k : Leader) → k .mfrl ≡ l .mfrl → k .mfrl ≡ leaderOf (midOf at (length mst - at) mst) .mfrl
     same-mfrl k h = rw tail-leader h
-
-    pub copy-appended : (k : Leader) (tail last : List ℕ) (moved : ℕ)
-        → tail ≡ overwrite (midOf at (length mst - at) mst) (end - at) (recordBytes k (fieldsOf (midOf at (length mst - at) mst)))
-        → moved ≡ endMoved (end + k .mfrl) → last ≡ withEnd (putMid at (length mst - at) mst tail) moved → last ≡ appended mst k (currentFields mst p)
-    unfolding appended
-    copy-appended k tail last moved t n w =
-        let s : at + (end - at) ≡ end = omega arith in
-        w ∙ rw (n, returned-tail mst at (end - at) (recordBytes k (fieldsOf (midOf at (length mst - at) mst))) t, s, tail-fields, r .end-is)
 
     pub rewritten : (m : ℕ) (k : Leader) (tail : List ℕ) → k ≡ versionLeader m p l (l .mfrl) true (l .nvf)
         → tail ≡ overwrite (midOf at (length mst - at) mst) 0 (recordBytes k (fieldsOf (midOf at (length mst - at) mst)))
@@ -168,7 +164,7 @@ module _ (mst : List ℕ) (end : ℕ) (p : Place) (l : Leader) (r : RecordRead m
     unfolding settledMst
     back-cleared tail t = returned-tail mst at 6 (replicate 6 0) t ∙ rw e
 
-pub ruleset copy-writes = (end-small, copy-kept, tail-readable, copy-before, copy-room, copy-need, copy-appended)
+pub ruleset copy-writes = (end-small, own-lent-readable, copy-before, copy-room, copy-need, copy-kept, copy-appended)
 
 -- ---- a new version
 

@@ -40,7 +40,7 @@ fn create_slot(mst: &[u8], xrf: &[u8], next: Mfn, end: usize, need: usize) -> An
     if k == layout::sizes::capacity(xrf.len()) + 1 {
         return Answer::NoSlot;
     }
-    if !layout::cross_reference::head_right(xrf, (k - 1) / 127 + 1) {
+    if !layout::cross_reference::head_right(xrf, layout::cross_reference::xrf_block(next)) {
         return Answer::BadEntry;
     }
     if !layout::cross_reference::slot_free(xrf, next) {

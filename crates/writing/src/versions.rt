@@ -257,7 +257,7 @@ fn append_copy(mst: &mut [u8], end: usize, place: Place, l: Leader)
 {
     let stop = end + l.mfrl as usize;
     let at = layout::entry::place_address(place);
-    record::writer::copy_record(&mut mst[at..], end - at, l);
+    crate::copying::copy_record(mst, at, end, l);
     layout::control::put_end(mst, layout::sizes::end_moved(stop));
 }
 

@@ -20,14 +20,14 @@ pub fn run() {
         .map(|_| time(|| read(&card)))
         .min()
         .unwrap_or_default();
-    let what = format!("reading {RECORDS} records of {FIELDS} fields");
+    let what = format!("Reading {RECORDS} records of {FIELDS} fields");
     match theirs {
         None => println!(
-            "{what}: {}; Biblio::Isis is not installed",
+            "{what}: {}; Biblio::Isis is not installed.",
             words(ours.as_secs_f64())
         ),
         Some(theirs) => println!(
-            "{what}: library {}, Biblio::Isis {}, ratio {:.4}",
+            "{what}: library {}, Biblio::Isis {}, ratio {:.4}.",
             words(ours.as_secs_f64()),
             words(theirs.as_secs_f64()),
             ours.as_secs_f64() / theirs.as_secs_f64()

@@ -6,7 +6,7 @@ use model::layout::{BLOCK, PER_BLOCK};
 use model::store;
 
 /// A pair of buffers.
-#[derive(Clone)]
+#[derive(Clone, PartialEq)]
 pub struct Buffers {
     /// The master file.
     pub mst: Vec<u8>,

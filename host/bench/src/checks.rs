@@ -2,22 +2,35 @@
 //! cards of small records, most of them versions that were settled long ago.
 
 use crate::cards::{Buffers, draft};
-use crate::clock::{both, row, time};
-use crate::plain;
-use isis::Card;
+use crate::rows::Task;
 use model::store;
-use std::hint::black_box;
 
-/// From 1 MB to `most` MB.
-pub fn run(most: usize) {
-    let sizes = || (0..).map(|power| 1 << power).take_while(|mb| *mb <= most);
-    for megabytes in sizes() {
-        one(&format!("check, {megabytes} MB"), megabytes, filled);
+/// From 1 MB to `most` MB. Gives a sentence on what a megabyte takes, where it was timed.
+pub fn run(task: &Task, most: usize) -> String {
+    let filled = doubling(task, most, "", filled);
+    let grown = doubling(task, most, " of small records", grown);
+    match (filled, grown) {
+        (Some(filled), Some(grown)) => format!(
+            "A megabyte takes `check` {filled} on records of a kilobyte, and {grown} on small ones."
+        ),
+        _ => String::new(),
     }
-    for megabytes in sizes() {
-        let name = format!("check, {megabytes} MB of small records");
-        one(&name, megabytes, grown);
+}
+
+/// One kind of card at each size; gives the least and the most that a megabyte took.
+fn doubling(task: &Task, most: usize, kind: &str, make: fn(usize) -> Buffers) -> Option<String> {
+    let mut each = Vec::new();
+    for megabytes in (0..).map(|power| 1 << power).take_while(|mb| *mb <= most) {
+        let rounds = if megabytes <= 64 { 11 } else { 5 };
+        let name = format!("check, {megabytes} MB{kind}");
+        let time = task.check(&name, rounds, &mut make(megabytes))?;
+        each.push(time.as_secs_f64() * 1e6 / megabytes as f64);
     }
+    let (least, most) = (
+        each.iter().copied().reduce(f64::min)?,
+        each.into_iter().reduce(f64::max)?,
+    );
+    Some(format!("{least:.0} to {most:.0} us"))
 }
 
 /// An empty card of so many megabytes with so many MFNs.
@@ -62,16 +75,4 @@ fn grown(megabytes: usize) -> Buffers {
         store::settle(&mut card.mst, &mut card.xrf, mfn).expect("a changed record");
     }
     card
-}
-
-fn one(name: &str, megabytes: usize, make: fn(usize) -> Buffers) {
-    let mut card = make(megabytes);
-    let rounds = if megabytes <= 64 { 11 } else { 5 };
-    let checked = Card::over(&mut card.mst, &mut card.xrf);
-    let times = both(
-        rounds,
-        || time(|| assert_eq!(checked.check(), Ok(()))),
-        || time(|| assert_eq!(plain::check(black_box(checked.mst()), checked.xrf()), 0)),
-    );
-    row(name, times, 1);
 }

@@ -1,16 +1,8 @@
-//! Two ways to do the same work, timed turn by turn. The fastest of several rounds
-//! stands for each, since whatever else the machine does only makes a round slower.
+//! Several ways to do the same work, timed turn by turn, and the tables that the times
+//! are printed in. The fastest of several rounds stands for each way, since whatever else
+//! the machine does only makes a round slower.
 
 use std::time::{Duration, Instant};
-
-/// The fastest round of two ways.
-#[derive(Clone, Copy, Debug)]
-pub struct Times {
-    /// Of the library.
-    pub library: Duration,
-    /// Of plain safe Rust.
-    pub plain: Duration,
-}
 
 /// Times one piece of work.
 pub fn time(work: impl FnOnce()) -> Duration {
@@ -19,25 +11,22 @@ pub fn time(work: impl FnOnce()) -> Duration {
     start.elapsed()
 }
 
-/// Both ways are run in turn for at least this long.
+/// The ways are run in turn for at least this long.
 const LONG_ENOUGH: Duration = Duration::from_millis(400);
 
-/// Runs both ways in turn, at least `rounds` times; each does its own untimed
-/// preparation and gives the time of its work.
-pub fn both(
+/// The fastest round of each way, run in turn at least `rounds` times; each does its own
+/// untimed preparation and gives the time of its work.
+pub fn fastest<const WAYS: usize>(
     rounds: usize,
-    mut library: impl FnMut() -> Duration,
-    mut plain: impl FnMut() -> Duration,
-) -> Times {
-    let mut best = Times {
-        library: Duration::MAX,
-        plain: Duration::MAX,
-    };
+    mut ways: [&mut dyn FnMut() -> Duration; WAYS],
+) -> [Duration; WAYS] {
+    let mut best = [Duration::MAX; WAYS];
     let start = Instant::now();
     let mut done = 0;
     while done < rounds || start.elapsed() < LONG_ENOUGH {
-        best.library = best.library.min(library());
-        best.plain = best.plain.min(plain());
+        for (best, way) in best.iter_mut().zip(&mut ways) {
+            *best = way().min(*best);
+        }
         done += 1;
     }
     best
@@ -52,13 +41,33 @@ pub fn words(seconds: f64) -> String {
     }
 }
 
-/// Prints a row: the time of one of so many calls both ways, and the ratio.
-pub fn row(name: &str, times: Times, calls: usize) {
-    let each = |time: Duration| words(time.as_secs_f64() / calls as f64);
-    let ratio = times.library.as_secs_f64() / times.plain.as_secs_f64();
-    println!(
-        "{name:<44} {:>12} {:>12} {ratio:>7.2}",
-        each(times.library),
-        each(times.plain)
-    );
+/// Prints the head of a table, as the page docs/BENCHMARKS.md has it.
+pub fn head(what: &str, columns: &[&str]) {
+    println!("\n| {what:<44} | {} |", columns.join(" | "));
+    println!("|---|{}", "---:|".repeat(columns.len()));
+}
+
+/// Prints a row of a table.
+pub fn row(name: &str, cells: &[String]) {
+    println!("| {name:<44} | {} |", cells.join(" | "));
+}
+
+/// The cells of a row: what one call takes in the library, and for each other way what it
+/// takes and the library's ratio to it.
+pub fn against(ours: f64, others: &[f64], words: impl Fn(f64) -> String) -> Vec<String> {
+    let mut cells = vec![words(ours)];
+    for other in others {
+        cells.push(words(*other));
+        cells.push(format!("{:.2}", ours / other));
+    }
+    cells
+}
+
+/// The cells for the times of so many calls each way, the library's first.
+pub fn cells(times: &[Duration], calls: usize) -> Vec<String> {
+    let each: Vec<f64> = times
+        .iter()
+        .map(|time| time.as_secs_f64() / calls as f64)
+        .collect();
+    against(each[0], &each[1..], words)
 }

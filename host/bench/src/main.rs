@@ -1,45 +1,79 @@
 //! One command that measures the library: every call, the record test and the field
-//! search against the same work in plain safe Rust, on the same inputs in the same
-//! run; the whole check at doubling sizes; copies against memcpy; reading all records
-//! against Biblio::Isis; the stack that each call uses and the archive's code size.
-//! Times are printed and never asserted.
+//! search against the same work in plain safe Rust, called and inlined, on the same inputs
+//! in the same run; the whole check at doubling sizes; copies against memcpy; reading all
+//! records against Biblio::Isis; the stack that each call uses and the archive's code size.
+//! What it prints is the second part of docs/BENCHMARKS.md. Times are printed and never
+//! asserted.
 //!
-//!   cargo --offline run --release -p bench             all of it, some minutes
-//!   cargo --offline run --release -p bench -- quick    checks up to 16 MB only
+//!   cargo measure                  all of it, some minutes
+//!   cargo measure quick            checks up to 16 MB only
+//!   cargo measure instructions     the instructions of each call, counted by callgrind
 
 mod biblio;
 mod calls;
 mod cards;
 mod checks;
 mod clock;
+mod count;
+mod machine;
 mod plain;
+mod rows;
 mod size;
 mod stack;
 
+use rows::{Side, Task};
+
 fn main() {
-    let quick = match std::env::args().nth(1).as_deref() {
-        None => false,
-        Some("quick") => true,
-        Some(word) => {
-            eprintln!("bench: '{word}' is not understood; 'quick' is the only word");
+    if cfg!(debug_assertions) {
+        eprintln!("bench: this is a build without optimisation; run `cargo measure`");
+    }
+    let words: Vec<String> = std::env::args().skip(1).collect();
+    let words: Vec<&str> = words.iter().map(String::as_str).collect();
+    match words[..] {
+        [] => times(512),
+        ["quick"] => times(16),
+        ["instructions"] => instructions(&Task::Count),
+        ["only", row, "library"] => only(row, Side::Library),
+        ["only", row, "plain"] => only(row, Side::Plain),
+        _ => {
+            eprintln!("bench: the words are 'quick' or 'instructions', or none");
             std::process::exit(64);
         }
-    };
-    if cfg!(debug_assertions) {
-        eprintln!("bench: this is a build without optimisation; run with --release");
     }
-    println!(
-        "{:<44} {:>12} {:>12} {:>7}",
-        "a call", "library", "safe Rust", "ratio"
-    );
-    calls::run();
-    checks::run(if quick { 16 } else { 512 });
-    println!();
+}
+
+/// All that is timed or measured, with checks up to so many megabytes.
+fn times(most: usize) {
+    machine::run();
+    let columns = [
+        "library",
+        "safe Rust",
+        "ratio",
+        "safe Rust, inlined",
+        "ratio",
+    ];
+    clock::head("a call", &columns);
+    calls::run(&Task::Time);
+    let checks = checks::run(&Task::Time, most);
     calls::copies();
-    println!();
+    println!("\n{checks}\n");
     biblio::run();
-    println!();
     stack::run();
     println!();
     size::run();
+}
+
+/// The instructions of each call on both sides.
+fn instructions(task: &Task) {
+    machine::run();
+    clock::head("a call", &["library", "safe Rust", "ratio"]);
+    calls::run(task);
+    checks::run(task, 1);
+}
+
+/// One row for one side, for callgrind to count.
+fn only(row: &str, side: Side) {
+    let task = Task::Only(row.to_string(), side);
+    calls::run(&task);
+    checks::run(&task, 1);
 }

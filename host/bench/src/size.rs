@@ -13,7 +13,7 @@ pub fn run() {
     let totals = printed.lines().find(|line| line.contains("(TOTALS)"));
     match totals.map(|line| line.split_whitespace().collect::<Vec<_>>()) {
         Some(words) if words.len() > 3 => println!(
-            "archive: {} bytes of code and constants, {} of data, {} of zeroed data",
+            "The archive has {} bytes of code and constants, {} of data, {} of zeroed data (x86-64).",
             words[0], words[1], words[2]
         ),
         _ => println!("archive size: not measured, 'size' did not read the archive"),

@@ -6,6 +6,7 @@ use model::OwnedDraft;
 use std::hint::black_box;
 
 use crate::cards::{Kind, card, draft};
+use crate::clock::{head, row};
 
 /// So much of the stack is painted.
 const PAINTED: usize = 128 * 1024;
@@ -38,7 +39,7 @@ fn report(name: &str, calls: &mut [&mut dyn FnMut()]) {
         black_box(0);
     });
     let most = calls.iter_mut().map(|call| used(call)).max().unwrap_or(0);
-    println!("{name:<44} {:>9} bytes", most.saturating_sub(empty));
+    row(name, &[most.saturating_sub(empty).to_string()]);
 }
 
 /// Measures in a thread with a stack of known size.
@@ -47,7 +48,7 @@ pub fn run() {
         println!("stack: not measured in a build without optimisation");
         return;
     }
-    println!("{:<44} {:>15}", "a call", "stack");
+    head("a call", &["bytes of stack, x86-64"]);
     std::thread::Builder::new()
         .stack_size(4 << 20)
         .spawn(|| {

@@ -1,8 +1,8 @@
 //! `card` itself is stopped at every system call of its run. A writer is killed there, as
 //! by `kill -9`, and the next command finds the card as it was or as the call leaves it. A
 //! reader goes on after another has written, and shows no mixed card. Where the machine
-//! permits no tracing these tests say so and try nothing; `cut.rs` has the same cuts, made
-//! between the steps of the protocol.
+//! permits no tracing these tests say so and try nothing, or fail if ISIS_TRACING is set, as the
+//! gate does; `cut.rs` has the same cuts, made between the steps of the protocol.
 
 mod folder;
 
@@ -35,6 +35,8 @@ fn tracing_is_permitted() -> bool {
             true
         }
         Err(why) => {
+            let needed = std::env::var_os("ISIS_TRACING").is_some();
+            assert!(!needed, "no process can be traced here: {why}");
             println!("not tried, since no process can be traced here: {why}");
             false
         }

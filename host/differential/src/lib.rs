@@ -9,6 +9,7 @@
 //! is printed, and `ISIS_SEED=n` runs others.
 
 pub mod archive;
+pub mod biblio;
 pub mod damage;
 pub mod families;
 pub mod guarded;

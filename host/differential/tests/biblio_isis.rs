@@ -1,15 +1,10 @@
-//! A card written by the library and read by Biblio::Isis (Debian's
-//! libbiblio-isis-perl), field for field: a reader that was not written here. It
-//! leaves out deleted records and empty fields, so these are left out on both sides.
+//! A card written by the library and read by Biblio::Isis, field for field. It reads the
+//! live records; deleted ones it leaves out, and asked for them it looks in a wrong place.
 
+use differential::biblio::{Asked, Fields, lines, read};
 use isis::Card;
 use model::random::Random;
 use std::collections::BTreeMap;
-use std::fs;
-use std::process::Command;
-
-/// The fields of a record, in draft order.
-type Fields = Vec<(u16, Vec<u8>)>;
 
 const RECORDS: u32 = 600;
 
@@ -63,50 +58,43 @@ fn write(card: &mut Card) -> BTreeMap<u32, Fields> {
     wanted
 }
 
-/// The lines that the Perl program must print.
-fn lines(wanted: &BTreeMap<u32, Fields>) -> String {
-    let mut text = String::new();
-    for (mfn, fields) in wanted {
-        let mut sorted: Vec<_> = fields
-            .iter()
-            .filter(|(_, bytes)| !bytes.is_empty())
-            .collect();
-        sorted.sort_by_key(|(tag, _)| *tag);
-        for (tag, bytes) in sorted {
-            let hex: String = bytes.iter().map(|byte| format!("{byte:02x}")).collect();
-            text += &format!("{mfn} {tag} {hex}\n");
-        }
-    }
-    text
+/// A card with changes of every kind, and what its live records hold.
+fn card() -> (Vec<u8>, Vec<u8>, BTreeMap<u32, Fields>) {
+    let (mut mst, mut xrf) = (vec![0; 30_000 * 512], vec![0; 5 * 512]);
+    let wanted = write(&mut Card::over(&mut mst, &mut xrf));
+    (mst, xrf, wanted)
 }
 
 #[test]
 fn another_reader_finds_every_field() {
-    let there = Command::new("perl")
-        .args(["-MBiblio::Isis", "-e", "1"])
-        .output()
-        .is_ok_and(|output| output.status.success());
-    assert!(
-        there,
-        "Biblio::Isis is missing, so this test cannot be run: apt-get install libbiblio-isis-perl"
-    );
-    let (mut mst, mut xrf) = (vec![0; 30_000 * 512], vec![0; 5 * 512]);
-    let wanted = write(&mut Card::over(&mut mst, &mut xrf));
-    let folder = std::env::temp_dir().join(format!("isis-biblio-{}", std::process::id()));
-    fs::create_dir_all(&folder).unwrap();
-    fs::write(folder.join("card.MST"), &mst).unwrap();
-    fs::write(folder.join("card.XRF"), &xrf).unwrap();
-    let output = Command::new("perl")
-        .arg(concat!(env!("CARGO_MANIFEST_DIR"), "/tests/read_all.pl"))
-        .arg(folder.join("card"))
-        .output()
-        .unwrap();
-    fs::remove_dir_all(&folder).unwrap();
-    assert!(output.status.success(), "{output:?}");
-    let (read, wanted) = (String::from_utf8(output.stdout).unwrap(), lines(&wanted));
+    let (mst, xrf, wanted) = card();
+    let read = read(&mst, &xrf, Asked::Live);
+    let wanted: String = wanted
+        .iter()
+        .map(|(mfn, fields)| lines(*mfn, fields))
+        .collect();
     let fields = wanted.lines().count();
     let first = read.lines().zip(wanted.lines()).position(|(a, b)| a != b);
     assert!(first.is_none(), "line {first:?} is different");
     assert_eq!(read.lines().count(), fields);
     println!("{fields} fields of {RECORDS} records read by Biblio::Isis, all equal");
+}
+
+/// It negates the whole entry of a deleted record, where only the block is negated.
+#[test]
+fn the_other_reader_does_not_find_deleted_records() {
+    let (mst, xrf, wanted) = card();
+    let read = read(&mst, &xrf, Asked::Deleted);
+    let mfn_of = |line: &str| {
+        line.split(' ')
+            .next()
+            .and_then(|mfn| mfn.parse::<u32>().ok())
+    };
+    let deleted = |mfn: &u32| !wanted.contains_key(mfn);
+    assert!(
+        (1..=RECORDS).filter(deleted).count() > 50,
+        "too few are deleted"
+    );
+    let found: Vec<u32> = read.lines().filter_map(mfn_of).filter(deleted).collect();
+    assert!(found.is_empty(), "read: {found:?}");
 }

@@ -1,9 +1,12 @@
-//! What the pages of docs/ name is there: definitions, laws, functions, tests, must-fail
-//! edits and files. A trace that points nowhere would be worse than none.
+//! What the pages name between backticks is there: definitions, laws, functions, tests,
+//! must-fail edits and files where they say, and a bare name somewhere in the code. A trace
+//! that points nowhere would be worse than none. What holds a space is a command or a
+//! phrase, and what holds NAME is a pattern; these are left alone.
 
 use std::collections::BTreeSet;
 use std::fs;
 use std::path::{Path, PathBuf};
+use std::sync::OnceLock;
 
 /// The repository's folder.
 fn root() -> PathBuf {
@@ -17,11 +20,54 @@ fn text(path: &Path) -> Option<String> {
 /// The words between backticks of a page.
 fn words(page: &str) -> BTreeSet<String> {
     let text = text(Path::new(page)).unwrap_or_else(|| panic!("{page} is not there"));
-    let mut words = BTreeSet::new();
+    let (mut words, mut code) = (BTreeSet::new(), false);
     for line in text.lines() {
-        words.extend(line.split('`').skip(1).step_by(2).map(str::to_owned));
+        if line.starts_with("```") {
+            code = !code;
+        } else if !code {
+            words.extend(line.split('`').skip(1).step_by(2).map(str::to_owned));
+        }
     }
     words
+}
+
+/// Every file below a folder that is not a page and was not made by a command.
+fn files(folder: &Path, all: &mut Vec<PathBuf>) {
+    for entry in fs::read_dir(folder).unwrap().map(Result::unwrap) {
+        let (path, name) = (entry.path(), entry.file_name());
+        if entry.file_type().unwrap().is_dir() {
+            if name != "target" && name != ".git" {
+                files(&path, all);
+            }
+        } else if path.extension().is_none_or(|kind| kind != "md") {
+            all.push(path);
+        }
+    }
+}
+
+/// The names that the code has: the words of every file, with and without hyphens, and the
+/// files' own names.
+fn names() -> &'static BTreeSet<String> {
+    static NAMES: OnceLock<BTreeSet<String>> = OnceLock::new();
+    NAMES.get_or_init(|| {
+        let mut all = Vec::new();
+        files(&root(), &mut all);
+        let mut names = BTreeSet::new();
+        for path in all {
+            names.insert(path.file_name().unwrap().to_string_lossy().into_owned());
+            let text = fs::read_to_string(&path).unwrap_or_default();
+            let part = |c: char| c.is_alphanumeric() || c == '_';
+            names.extend(text.split(|c| !part(c)).map(str::to_owned));
+            names.extend(text.split(|c| !part(c) && c != '-').map(str::to_owned));
+        }
+        names
+    })
+}
+
+/// Whether a word looks like a name: of letters, digits, `_` and `-`, or a file's.
+fn bare(word: &str) -> bool {
+    let part = |c: char| c.is_alphanumeric() || matches!(c, '_' | '-' | '.');
+    word.starts_with(char::is_alphabetic) && word.chars().all(part)
 }
 
 /// Whether a line of a specs or proofs file declares a name: `pub name : …`,
@@ -78,6 +124,8 @@ fn missing(word: &str) -> Option<String> {
                 begins(line, test)
             }),
         },
+        ["target", ..] => None,
+        _ if word.contains("NAME") => None,
         [_, _, ..] if !word.contains(['…', ' ']) => {
             let there = |folder: &str| root().join(folder).join(word).exists();
             (!there("") && !there("crates"))
@@ -87,6 +135,9 @@ fn missing(word: &str) -> Option<String> {
             [krate, module, name] => has(format!("crates/{krate}/src/{module}.rt"), &|line| {
                 begins(line, name)
             }),
+            [name] if bare(name) && !names().contains(name) => {
+                Some(format!("{word}: no file has this name or names it"))
+            }
             _ => None,
         },
         _ => None,
@@ -115,6 +166,9 @@ fn every_name_of_the_promises_is_there() {
 fn every_name_of_the_other_pages_is_there() {
     all_are_there("docs/ARCHITECTURE.md", 20);
     all_are_there("docs/DECISIONS.md", 5);
+    all_are_there("docs/BENCHMARKS.md", 1);
+    all_are_there("README.md", 5);
+    all_are_there("CONTRIBUTING.md", 10);
 }
 
 #[test]
@@ -150,6 +204,10 @@ fn names_that_point_nowhere_are_found() {
         "model/tests/answers::no_such_test",
         "store::views::no_such_function",
         "docs/NO-SUCH-PAGE.md",
+        // in two pieces, since this file is searched too
+        concat!("noSuch", "Name"),
+        concat!("no-such-", "word"),
+        concat!("no_such", ".rs"),
     ] {
         assert!(missing(wrong).is_some(), "{wrong} was found");
     }
@@ -161,6 +219,9 @@ fn names_that_point_nowhere_are_found() {
         "store::views::view",
         "layout::sizes::Mfn",
         "differential/tests/docs::names_that_point_nowhere_are_found",
+        "viewOf",
+        "isis_view",
+        "isis.h",
     ] {
         assert_eq!(missing(right), None);
     }

@@ -1,5 +1,6 @@
 //! At least a million calls through the archive, each compared with the model. The
-//! tables printed say how often each answer of each call came.
+//! tables printed say how often each answer of each call came; from the fixed seeds each
+//! must come often enough, from a seed in ISIS_SEED only the comparing counts.
 
 use differential::damage::Damaged;
 use differential::families::{Family, FromFormat, Hostile, calls, drive};
@@ -19,16 +20,21 @@ fn run(name: &str, family: &mut dyn Family, wanted: usize) -> Tally {
     tally
 }
 
+/// An answer of a call came at least so often, unless the seeds are somebody's own.
+fn came(tally: &Tally, call: usize, number: usize, times: usize) {
+    let count = tally.count(call, number);
+    assert!(
+        count >= times || std::env::var_os("ISIS_SEED").is_some(),
+        "{} answered {number} {count} times",
+        Call::NAMES[call]
+    );
+}
+
 /// Every one of these answers of every call came at least `times` times.
 fn all_came(tally: &Tally, left_out: &[usize], times: usize) {
     for (call, answers) in ANSWERS.iter().enumerate() {
         for &number in answers.iter().filter(|number| !left_out.contains(number)) {
-            let count = tally.count(call, number);
-            assert!(
-                count >= times,
-                "{} answered {number} {count} times",
-                Call::NAMES[call]
-            );
+            came(tally, call, number, times);
         }
     }
 }
@@ -53,8 +59,8 @@ fn damaged_cards() {
 #[test]
 fn random_cards() {
     let tally = run("random cards", &mut RandomCards, RANDOM);
-    for (call, name) in Call::NAMES.iter().enumerate() {
-        assert!(tally.count(call, 1) >= 10, "{name}");
+    for call in 0..Call::NAMES.len() {
+        came(&tally, call, 1, 10);
     }
 }
 
@@ -62,11 +68,6 @@ fn random_cards() {
 fn hostile_arguments() {
     let tally = run("hostile arguments", &mut Hostile, HOSTILE);
     for (call, number) in [(3, 3), (4, 3), (9, 12), (10, 12)] {
-        let count = tally.count(call, number);
-        assert!(
-            count > calls(100),
-            "{} {number}: {count}",
-            Call::NAMES[call]
-        );
+        came(&tally, call, number, calls(100));
     }
 }

@@ -6,6 +6,7 @@ use super::record::{settled, test};
 use super::{CHANGED, Control, entry, gate, i32_at, numbered, slot, step_over, u16_at};
 
 /// The answer number of the check.
+#[inline(always)]
 pub fn check(mst: &[u8], xrf: &[u8]) -> u32 {
     let control = match gate(mst, xrf) {
         Ok(control) => control,

@@ -1,24 +1,58 @@
 //! The same work in plain safe Rust, written to be fast and nothing else: no proof, no
-//! words for what is wrong, only the answer numbers. It is what the library is timed
-//! against; that it does the same is held by comparing all bytes after every row.
+//! words for what is wrong, only the answer numbers. It asks the same rules; that is held
+//! by the test below and by comparing all bytes after every row. Each call stands here
+//! twice: `called`, as the library's are, by a call that is not inlined, and `inlined`
+//! into the loop that makes the calls, where the optimiser sees both.
 
 mod check;
 mod record;
 mod store;
 mod write;
 
-pub use check::check;
-pub use store::{delete, field, field_settled, revert, settle, view, view_settled};
-pub use write::{create, format, update};
+/// Each call by a call.
+pub mod called {
+    use model::Draft;
+
+    macro_rules! called {
+        ($($module:ident::$name:ident($($argument:ident: $kind:ty),*) -> $answer:ty;)*) => {$(
+            /// The call of this name, not inlined.
+            #[inline(never)]
+            pub fn $name($($argument: $kind),*) -> $answer {
+                super::$module::$name($($argument),*)
+            }
+        )*};
+    }
+
+    called! {
+        write::format(mst: &mut [u8], xrf: &mut [u8]) -> u32;
+        write::create(mst: &mut [u8], xrf: &mut [u8], draft: &Draft) -> (u32, u32);
+        write::update(mst: &mut [u8], xrf: &mut [u8], mfn: u32, draft: &Draft) -> u32;
+        store::view(mst: &[u8], xrf: &[u8], mfn: u32, tag: u16, occurrence: u32) -> (u32, usize, usize);
+        store::view_settled(mst: &[u8], xrf: &[u8], mfn: u32, tag: u16, occurrence: u32) -> (u32, usize, usize);
+        store::field(mst: &[u8], xrf: &[u8], mfn: u32, index: usize) -> (u32, u16, usize, usize);
+        store::field_settled(mst: &[u8], xrf: &[u8], mfn: u32, index: usize) -> (u32, u16, usize, usize);
+        store::delete(mst: &mut [u8], xrf: &mut [u8], mfn: u32) -> u32;
+        store::settle(mst: &mut [u8], xrf: &mut [u8], mfn: u32) -> u32;
+        store::revert(mst: &[u8], xrf: &mut [u8], mfn: u32) -> u32;
+        check::check(mst: &[u8], xrf: &[u8]) -> u32;
+    }
+}
+
+/// Each call as it is, for the compiler to inline.
+pub mod inlined {
+    pub use super::check::check;
+    pub use super::store::{delete, field, field_settled, revert, settle, view, view_settled};
+    pub use super::write::{create, format, update};
+}
 
 /// The 2-byte integer at `at`.
 fn u16_at(bytes: &[u8], at: usize) -> u16 {
-    u16::from_le_bytes([bytes[at], bytes[at + 1]])
+    u16::from_le_bytes(*bytes[at..].first_chunk().expect("two bytes"))
 }
 
 /// The 4-byte integer at `at`.
 fn i32_at(bytes: &[u8], at: usize) -> i32 {
-    i32::from_le_bytes([bytes[at], bytes[at + 1], bytes[at + 2], bytes[at + 3]])
+    i32::from_le_bytes(*bytes[at..].first_chunk().expect("four bytes"))
 }
 
 /// NXTMFN and the end.
@@ -131,14 +165,14 @@ mod tests {
     fn run(mst: &mut [u8], xrf: &mut [u8], call: &Call) -> Outcome {
         let (mut mfn, mut tag, mut part) = (0, 0, (0, 0));
         let number = match call {
-            Call::Format => super::format(mst, xrf),
-            Call::Check => super::check(mst, xrf),
-            Call::Delete(mfn) => super::delete(mst, xrf, *mfn),
-            Call::Settle(mfn) => super::settle(mst, xrf, *mfn),
-            Call::Revert(mfn) => super::revert(mst, xrf, *mfn),
-            Call::Update(mfn, draft) => super::update(mst, xrf, *mfn, &draft.lent()),
+            Call::Format => super::called::format(mst, xrf),
+            Call::Check => super::called::check(mst, xrf),
+            Call::Delete(mfn) => super::called::delete(mst, xrf, *mfn),
+            Call::Settle(mfn) => super::called::settle(mst, xrf, *mfn),
+            Call::Revert(mfn) => super::called::revert(mst, xrf, *mfn),
+            Call::Update(mfn, draft) => super::called::update(mst, xrf, *mfn, &draft.lent()),
             Call::Create(draft) => {
-                let (number, created) = super::create(mst, xrf, &draft.lent());
+                let (number, created) = super::called::create(mst, xrf, &draft.lent());
                 mfn = created;
                 number
             }
@@ -164,15 +198,15 @@ mod tests {
                 mfn,
                 tag,
                 occurrence,
-            } => super::view(mst, xrf, mfn, tag, occurrence),
+            } => super::called::view(mst, xrf, mfn, tag, occurrence),
             Call::ViewSettled {
                 mfn,
                 tag,
                 occurrence,
-            } => super::view_settled(mst, xrf, mfn, tag, occurrence),
-            Call::Field { mfn, index } => return super::field(mst, xrf, mfn, index),
+            } => super::called::view_settled(mst, xrf, mfn, tag, occurrence),
+            Call::Field { mfn, index } => return super::called::field(mst, xrf, mfn, index),
             Call::FieldSettled { mfn, index } => {
-                return super::field_settled(mst, xrf, mfn, index);
+                return super::called::field_settled(mst, xrf, mfn, index);
             }
             _ => unreachable!("only calls that show a field come here"),
         };

@@ -37,7 +37,6 @@ fn number(result: Result<(), u32>) -> u32 {
 }
 
 /// The current version, up to answer 9.
-#[inline(always)]
 fn current(mst: &[u8], xrf: &[u8], mfn: u32) -> Result<Tested, u32> {
     let found = found(mst, xrf, gate(mst, xrf)?, mfn)?;
     if found.place.deleted {
@@ -47,7 +46,6 @@ fn current(mst: &[u8], xrf: &[u8], mfn: u32) -> Result<Tested, u32> {
 }
 
 /// The settled version, up to answer 11.
-#[inline(always)]
 fn kept(mst: &[u8], xrf: &[u8], mfn: u32) -> Result<Tested, u32> {
     let found = found(mst, xrf, gate(mst, xrf)?, mfn)?;
     match found.place.mark {
@@ -66,12 +64,14 @@ fn shown(field: Result<(usize, usize), u32>) -> Shown {
 }
 
 /// A field of the current version.
+#[inline(always)]
 pub fn view(mst: &[u8], xrf: &[u8], mfn: u32, tag: u16, occurrence: u32) -> Shown {
     let find = |record| find(mst, &record, tag, occurrence).ok_or(12);
     shown(current(mst, xrf, mfn).and_then(find))
 }
 
 /// A field of the settled version.
+#[inline(always)]
 pub fn view_settled(mst: &[u8], xrf: &[u8], mfn: u32, tag: u16, occurrence: u32) -> Shown {
     let find = |record| find(mst, &record, tag, occurrence).ok_or(12);
     shown(kept(mst, xrf, mfn).and_then(find))
@@ -88,18 +88,21 @@ fn indexed(field: Result<(u16, usize, usize), u32>) -> Indexed {
 }
 
 /// A field of the current version by its index.
+#[inline(always)]
 pub fn field(mst: &[u8], xrf: &[u8], mfn: u32, index: usize) -> Indexed {
     let at = |record| at_index(mst, &record, index).ok_or(12);
     indexed(current(mst, xrf, mfn).and_then(at))
 }
 
 /// A field of the settled version by its index.
+#[inline(always)]
 pub fn field_settled(mst: &[u8], xrf: &[u8], mfn: u32, index: usize) -> Indexed {
     let at = |record| at_index(mst, &record, index).ok_or(12);
     indexed(kept(mst, xrf, mfn).and_then(at))
 }
 
 /// Deletes a record.
+#[inline(always)]
 pub fn delete(mst: &mut [u8], xrf: &mut [u8], mfn: u32) -> u32 {
     number(try_delete(mst, xrf, mfn))
 }
@@ -143,6 +146,7 @@ fn copy_deleted(mst: &mut [u8], found: &Found) -> Result<usize, u32> {
 }
 
 /// Makes a pending change final.
+#[inline(always)]
 pub fn settle(mst: &mut [u8], xrf: &mut [u8], mfn: u32) -> u32 {
     let mut act = || {
         let found = found(mst, xrf, gate(mst, xrf)?, mfn)?;
@@ -159,6 +163,7 @@ pub fn settle(mst: &mut [u8], xrf: &mut [u8], mfn: u32) -> u32 {
 }
 
 /// Makes the settled version current again.
+#[inline(always)]
 pub fn revert(mst: &[u8], xrf: &mut [u8], mfn: u32) -> u32 {
     let mut act = || {
         let found = found(mst, xrf, gate(mst, xrf)?, mfn)?;

@@ -15,6 +15,7 @@ pub fn put_end(mst: &mut [u8], end: usize) {
 }
 
 /// Empties a card of permitted lengths.
+#[inline(always)]
 pub fn format(mst: &mut [u8], xrf: &mut [u8]) -> u32 {
     if !lengths_permitted(mst, xrf) {
         return 1;
@@ -70,6 +71,7 @@ fn write(record: &mut [u8], mfn: usize, back: (i32, u16), draft: &Draft) {
 }
 
 /// Writes a new record: the answer and its MFN.
+#[inline(always)]
 pub fn create(mst: &mut [u8], xrf: &mut [u8], draft: &Draft) -> (u32, u32) {
     match try_create(mst, xrf, draft) {
         Ok(mfn) => (0, mfn),
@@ -97,6 +99,7 @@ fn try_create(mst: &mut [u8], xrf: &mut [u8], draft: &Draft) -> Result<u32, u32>
 }
 
 /// Replaces the fields of a record.
+#[inline(always)]
 pub fn update(mst: &mut [u8], xrf: &mut [u8], mfn: u32, draft: &Draft) -> u32 {
     try_update(mst, xrf, mfn, draft).err().unwrap_or(0)
 }

@@ -1,5 +1,5 @@
-use borrow.Author.Needs.{needs}
 use Rattle.layout.proofs.Answers.{control-answers}
+use borrow.Author.Needs.{needs}
 use Rattle.layout.proofs.control.end_of.Statement.{statement}
 use Rattle.layout.proofs.control.end_of.Tie as tie
 
@@ -9,6 +9,9 @@ u32-at-requires c κs = search needs
 u16-at-requires : tie.Need-u16-at-requires
 u16-at-requires c κs = search needs
 
+sub-address : tie.Need-sub-address
+sub-address c = search needs
+
 address-requires : tie.Need-address-requires
 address-requires c κs = search needs
 
@@ -16,4 +19,5 @@ returns : tie.Need-returns
 returns c = search control-answers
 
 pub end-of-spec : {M : Type 1} → statement M
-end-of-spec = tie.close (tie.spec u32-at-requires u16-at-requires address-requires returns)
+end-of-spec =
+    tie.close (tie.spec u32-at-requires u16-at-requires sub-address address-requires returns)

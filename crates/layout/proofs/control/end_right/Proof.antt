@@ -1,5 +1,5 @@
-use borrow.Author.Needs.{needs}
 use Rattle.layout.proofs.Answers.{control-answers}
+use borrow.Author.Needs.{needs}
 use Rattle.layout.proofs.control.end_right.Statement.{statement}
 use Rattle.layout.proofs.control.end_right.Tie as tie
 
@@ -14,6 +14,9 @@ u16-at-requires c κs = search needs
 
 returns-2 : tie.Need-returns-2
 returns-2 c = search control-answers
+
+add-if3 : tie.Need-add-if3
+add-if3 c = search needs
 
 returns-3 : tie.Need-returns-3
 returns-3 c = search control-answers
@@ -35,6 +38,7 @@ end-right-spec =
     returns
     u16-at-requires
     returns-2
+    add-if3
     returns-3
     end-of-requires
     returns-4

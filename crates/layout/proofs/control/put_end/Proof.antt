@@ -1,5 +1,5 @@
-use borrow.Author.Needs.{needs}
 use Rattle.layout.proofs.Answers.{write-answers}
+use borrow.Author.Needs.{needs}
 use Rattle.layout.proofs.control.put_end.Statement.{statement}
 use Rattle.layout.proofs.control.put_end.Tie as tie
 
@@ -11,6 +11,9 @@ put-u32-requires c κs = search needs
 
 offset-at-requires : tie.Need-offset-at-requires
 offset-at-requires c κs = search needs
+
+add-put-u16 : tie.Need-add-put-u16
+add-put-u16 c = search needs
 
 put-u16-requires : tie.Need-put-u16-requires
 put-u16-requires c κs = search needs
@@ -28,6 +31,7 @@ put-end-spec =
     block-at-requires
     put-u32-requires
     offset-at-requires
+    add-put-u16
     put-u16-requires
     same-length
     returns)

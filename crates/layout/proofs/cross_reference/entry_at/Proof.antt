@@ -1,16 +1,10 @@
-use borrow.Author.Needs.{needs}
 use Rattle.layout.proofs.Answers.{xrf-answers}
+use borrow.Author.Needs.{needs}
 use Rattle.layout.proofs.cross_reference.entry_at.Statement.{statement}
 use Rattle.layout.proofs.cross_reference.entry_at.Tie as tie
 
-cast-k : tie.Need-cast-k
-cast-k c = search needs
-
-sub-k : tie.Need-sub-k
-sub-k c = search needs
-
-add-k : tie.Need-add-k
-add-k c = search needs
+xrf-block-requires : tie.Need-xrf-block-requires
+xrf-block-requires c κs = search needs
 
 head-right-requires : tie.Need-head-right-requires
 head-right-requires c κs = search needs
@@ -34,9 +28,7 @@ pub entry-at-spec : {M : Type 1} → statement M
 entry-at-spec =
     tie.close
     (tie.spec
-    cast-k
-    sub-k
-    add-k
+    xrf-block-requires
     head-right-requires
     returns
     slot-at-requires

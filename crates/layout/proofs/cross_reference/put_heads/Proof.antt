@@ -4,6 +4,7 @@ use Prim.Native.Nat.{_≤_, _-_, _/_}
 use native.Mathlib.Omega.{arith}
 use lib.ListN.{length}
 use borrow.Author.Needs.{needs}
+use Rattle.layout.specs.Sizes.{xrfBlocks}
 use Rattle.layout.specs.CrossReference.{withHeads}
 use Rattle.layout.proofs.Facts.{blocks-facts}
 use Rattle.layout.proofs.Answers.{head-put}
@@ -27,7 +28,7 @@ add-head-bits : tie.Need-add-head-bits Inv-loop μ-loop
 add-head-bits c = search needs
 
 head-bits-requires : tie.Need-head-bits-requires Inv-loop μ-loop
-head-bits-requires c κs = let f = blocks-facts 4096 _ (c .before .before .before .before .pre) in (omega arith, omega arith)
+head-bits-requires c κs = let f = blocks-facts xrfBlocks _ (c .before .before .before .before .pre) in (omega arith, omega arith)
 
 put-u32-requires : tie.Need-put-u32-requires Inv-loop μ-loop
 put-u32-requires c κs = search needs

@@ -4,13 +4,14 @@ use native.Mathlib.Omega.{arith}
 use mathlib.Core.Path.{_≡_, refl}
 use borrow.Author.Needs.{needs}
 use lib.ListN.{length, take}
+use Rattle.layout.specs.Sizes.{recordMost}
 use Rattle.record.specs.Draft.{sum}
 use Rattle.record.proofs.DraftFields.{total-more, total-answers}
 use Rattle.record.proofs.draft.total.Statement.{statement}
 use Rattle.record.proofs.draft.total.Tie as tie
 
 abbrev Inv-loop : tie.InvT-loop
-Inv-loop lens s₀ i₀ s i = (i ≤ length lens) × (s ≡ sum (take i lens)) × (s ≤ 32766)
+Inv-loop lens s₀ i₀ s i = (i ≤ length lens) × (s ≡ sum (take i lens)) × (s ≤ recordMost)
 
 abbrev μ-loop : tie.MeasureT-loop
 μ-loop lens s₀ i₀ s i = length lens - i
@@ -30,6 +31,9 @@ cast-s c = omega (arith, c .shared-slice-known .given (c .before .before .loop .
 
 add-s : tie.Need-add-s Inv-loop μ-loop
 add-s c = omega (arith, c .shared-slice-known .given (c .before .before .loop .i))
+
+add-result : tie.Need-add-result Inv-loop μ-loop
+add-result c = search needs
 
 returns : tie.Need-returns Inv-loop μ-loop
 returns c = search total-answers
@@ -59,6 +63,7 @@ total-spec =
     shared-slice-read-s
     cast-s
     add-s
+    add-result
     returns
     add-i
     loop-less

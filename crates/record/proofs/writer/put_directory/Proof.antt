@@ -35,18 +35,17 @@ shared-slice-read-len c =
     let f = draft-facts _ _ _ (c .before .before .before .before .before .before .before .pre .0) in
     omega arith
 
+mul-t9 : tie.Need-mul-t9 Inv-loop μ-loop
+mul-t9 c = omega arith
+
+shared-slice-read-t12 : tie.Need-shared-slice-read-t12 Inv-loop μ-loop
+shared-slice-read-t12 c = omega arith
+
 mul-put-directory-entry : tie.Need-mul-put-directory-entry Inv-loop μ-loop
 mul-put-directory-entry c = omega arith
 
 add-put-directory-entry : tie.Need-add-put-directory-entry Inv-loop μ-loop
 add-put-directory-entry c = omega arith
-
-mul-put-directory-entry-2 : tie.Need-mul-put-directory-entry-2 Inv-loop μ-loop
-mul-put-directory-entry-2 c = omega arith
-
-shared-slice-read-put-directory-entry :
-    tie.Need-shared-slice-read-put-directory-entry Inv-loop μ-loop
-shared-slice-read-put-directory-entry c = omega arith
 
 put-directory-entry-requires : tie.Need-put-directory-entry-requires Inv-loop μ-loop
 put-directory-entry-requires c κs = omega arith
@@ -92,10 +91,10 @@ put-directory-spec =
     loop-holds
     mul-len
     shared-slice-read-len
+    mul-t9
+    shared-slice-read-t12
     mul-put-directory-entry
     add-put-directory-entry
-    mul-put-directory-entry-2
-    shared-slice-read-put-directory-entry
     put-directory-entry-requires
     add-pos
     add-i

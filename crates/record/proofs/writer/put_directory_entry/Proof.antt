@@ -28,7 +28,7 @@ returns c =
     let f = t .before .before .before .before in
     let s = f .before .before .before in
     let a = s .args in
-    entry-put (a .out .now) (a .at) (a .tag) (a .pos) (a .len) (s .pre) (f .put-u16 .ensures) (t .put-u162 .ensures) (u .put-u163 .ensures)
+    entry-put (a .out .now) (a .at) (a .e .tag .0) (a .e .pos) (a .e .len) (s .pre) (f .put-u16 .ensures) (t .put-u162 .ensures) (u .put-u163 .ensures)
 
 pub put-directory-entry-spec : {M : Type 1} → statement M
 put-directory-entry-spec =

@@ -15,11 +15,8 @@ add-if1 c = search needs
 returns : tie.Need-returns
 returns c = search slot-answers
 
-sub-head-right : tie.Need-sub-head-right
-sub-head-right c = search needs
-
-add-head-right : tie.Need-add-head-right
-add-head-right c = search needs
+xrf-block-requires : tie.Need-xrf-block-requires
+xrf-block-requires c κs = search needs
 
 head-right-requires : tie.Need-head-right-requires
 head-right-requires c κs = search needs
@@ -50,8 +47,7 @@ create-slot-spec =
     capacity-requires
     add-if1
     returns
-    sub-head-right
-    add-head-right
+    xrf-block-requires
     head-right-requires
     returns-2
     slot-free-requires

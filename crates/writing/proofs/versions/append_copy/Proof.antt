@@ -12,18 +12,6 @@ add-stop c = search needs
 place-address-requires : tie.Need-place-address-requires
 place-address-requires c κs = search needs
 
-sub-copy-record : tie.Need-sub-copy-record
-sub-copy-record c = search needs
-
-part-copy-record-start : tie.Need-part-copy-record-start
-part-copy-record-start c = search needs
-
-part-copy-record-end : tie.Need-part-copy-record-end
-part-copy-record-end c = search needs
-
-sub-copy-record-2 : tie.Need-sub-copy-record-2
-sub-copy-record-2 c = search needs
-
 copy-record-requires : tie.Need-copy-record-requires
 copy-record-requires c κs = search copy-writes
 
@@ -46,10 +34,6 @@ append-copy-spec =
     cast-stop
     add-stop
     place-address-requires
-    sub-copy-record
-    part-copy-record-start
-    part-copy-record-end
-    sub-copy-record-2
     copy-record-requires
     end-moved-requires
     put-end-requires
