@@ -16,7 +16,8 @@ use Rattle.layout.specs.declared.entry.Entry.the-variants.{Gone, At}
 use Rattle.record.specs.Fields.{fieldsOf}
 use Rattle.record.specs.Bytes.{needFor}
 use Rattle.store.specs.Reading.{mfnInRange, entryFor, isSettled, isChanged, isNew, recordAt, leaderAt, settledRecord, shownSettled, currentFields}
-use Rattle.writing.specs.Refusals.{exceeds, formatAnswer, createAnswer, updateAppends, updateAnswer, deleteAnswer, settleAnswer, revertAnswer}
+use Rattle.writing.specs.Refusals.{exceeds, formatAnswer, createAnswer, updateAnswer, deleteAnswer, settleAnswer, revertAnswer}
+use Rattle.versions.specs.Written.{updateAppends}
 use Rattle.views.specs.Views.{viewAnswer, settledViewAnswer}
 use Rattle.store.specs.declared.answer.Answer.the-variants.{Done, BadDraft, NoSlot, BadEntry, NoRoom}
 use Rattle.soundness.specs.Sound.{bodySound, checkAnswer}

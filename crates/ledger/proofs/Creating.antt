@@ -9,7 +9,7 @@ use Rattle.layout.specs.declared.entry.Mark.the-variants.{New}
 use Rattle.record.specs.Bytes.{needFor}
 use Rattle.record.proofs.Draftable.{draft-draftable}
 use Rattle.store.specs.Store.{store, Draft, fieldsIn}
-use Rattle.writing.specs.Calls.{placeAtEnd, createdMst, createdXrf}
+use Rattle.versions.specs.Written.{placeAtEnd, createdMst, createdXrf}
 use Rattle.soundness.proofs.SoundEntries.{Sound, sound}
 use Rattle.soundness.proofs.Leaving.{Leaves}
 use Rattle.soundness.proofs.Writes.{created-leaves}

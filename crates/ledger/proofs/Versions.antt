@@ -16,8 +16,7 @@ use Rattle.record.specs.Fields.{Field, fieldsOf}
 use Rattle.record.specs.Bytes.{needFor}
 use Rattle.record.proofs.Draftable.{Draftable}
 use Rattle.store.specs.Reading.{placeFor, isSettled, isChanged, recordAt, leaderAt, settledRecord, currentFields}
-use Rattle.writing.specs.Refusals.{updateAppends}
-use Rattle.writing.specs.Calls.{pendingMark, updatedMst, updatedXrf, deletedMst, deletedXrf, settledMst, settledXrf, revertedXrf}
+use Rattle.versions.specs.Written.{updateAppends, pendingMark, updatedMst, updatedXrf, deletedMst, deletedXrf, settledMst, settledXrf, revertedXrf}
 use Rattle.store.proofs.Gates.{MfnFacts, mfn-facts}
 use Rattle.soundness.proofs.SoundEntries.{Sound, sound}
 use Rattle.soundness.proofs.Leaving.{Leaves}

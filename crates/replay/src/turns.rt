@@ -118,7 +118,7 @@ fn update_next(
     let te = t + n.tags;
     let le = l + n.lens;
     let de = d + n.bytes;
-    writing::versions::update(mst, xrf, m, &tags[t..te], &lens[l..le], &data[d..de])
+    writing::changes::update(mst, xrf, m, &tags[t..te], &lens[l..le], &data[d..de])
 }
 
 // The answer of a call that returns no MFN.
@@ -148,7 +148,7 @@ fn write(
         Writing::Format => without_mfn(writing::format::format(mst, xrf)),
         Writing::Create(n) => create_next(mst, xrf, tags, lens, data, at, n),
         Writing::Update(m, n) => without_mfn(update_next(mst, xrf, m, tags, lens, data, at, n)),
-        Writing::Delete(m) => without_mfn(writing::versions::delete(mst, xrf, m)),
+        Writing::Delete(m) => without_mfn(writing::changes::delete(mst, xrf, m)),
         Writing::Settle(m) => without_mfn(writing::settling::settle(mst, xrf, m)),
         Writing::Revert(m) => without_mfn(writing::settling::revert(mst, xrf, m)),
     }

@@ -19,7 +19,8 @@ use Rattle.store.specs.Reading.{mfnInRange, entryFor, placeFor, isGone, isSettl
 use Rattle.store.specs.Refusals.{named, fine, bothFine}
 use Rattle.store.specs.declared.answer.Answer.the-variants.{Done, BadDraft, NoMfn, NoSlot, BadEntry, Gone as GoneAnswer, Deleted, NotPending, NeverSettled, NoRoom}
 use Rattle.store.proofs.Gates.{Refusing, passed, holds}
-use Rattle.writing.specs.Refusals.{exceeds, createAnswer, updateAppends, updateAnswer, deleteAnswer, settleAnswer, revertAnswer}
+use Rattle.writing.specs.Refusals.{exceeds, createAnswer, updateAnswer, deleteAnswer, settleAnswer, revertAnswer}
+use Rattle.versions.specs.Written.{updateAppends}
 use Rattle.writing.proofs.Results.{only-changed}
 use Rattle.soundness.proofs.SoundEntries.{Sound, gated-sound, named-fine, named-both, entry-for-place, below-capacity}
 

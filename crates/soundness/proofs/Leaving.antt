@@ -34,7 +34,7 @@ use Rattle.record.specs.Bytes.{recordBytes, leaderFor}
 use Rattle.record.proofs.Local.{ReadsAs, reads-window}
 use Rattle.record.proofs.Trip.{Writable, written-length, written-placed}
 use Rattle.store.specs.Reading.{entryFor, isChanged, recordFrom, recordAt, leaderAt, backAddress, backFine, settledRecord, currentFields}
-use Rattle.writing.specs.Calls.{appended, placeAtEnd}
+use Rattle.versions.specs.Written.{appended, placeAtEnd}
 use Rattle.soundness.specs.Sound.{elem, mfrlAt, steps}
 use Rattle.soundness.specs.Touching.{TouchesOnly}
 use Rattle.soundness.proofs.SoundEntries.{PlaceStands, is-at, Sound, at-stands}

@@ -18,8 +18,9 @@ use Rattle.store.specs.Store.{Store, store, Draft, fieldsIn}
 use Rattle.store.specs.Reading.{placeFor, isSettled, leaderAt, currentFields}
 use Rattle.store.specs.declared.answer.Answer.the-variants.{Done}
 use Rattle.store.proofs.Gates.{MfnFacts, mfn-facts, after-done}
-use Rattle.writing.specs.Refusals.{createAnswer, updateAppends, updateAnswer, deleteAnswer, settleAnswer, revertAnswer}
-use Rattle.writing.specs.Calls.{createdMst, createdXrf, createLeaves, updatedMst, updatedXrf, updateLeaves, deletedMst, deletedXrf, deleteLeaves, settledMst, settledXrf, settleLeaves, revertedXrf, revertLeaves}
+use Rattle.writing.specs.Refusals.{createAnswer, updateAnswer, deleteAnswer, settleAnswer, revertAnswer}
+use Rattle.versions.specs.Written.{updateAppends, createdMst, createdXrf, updatedMst, updatedXrf, deletedMst, deletedXrf, settledMst, settledXrf, revertedXrf}
+use Rattle.writing.specs.Calls.{createLeaves, updateLeaves, deleteLeaves, settleLeaves, revertLeaves}
 use Rattle.soundness.specs.Sound.{soundOf}
 use Rattle.soundness.specs.Touching.{Changes, TouchesOnly, CallsTouchOnly}
 use Rattle.soundness.proofs.Stepping.{member-facts}

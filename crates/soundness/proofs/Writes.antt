@@ -33,8 +33,7 @@ use Rattle.record.proofs.Draftable.{Draftable, reads-draftable, reads-need}
 use Rattle.record.proofs.Local.{ReadsAs, reads-leader, reads-settled, withBack}
 use Rattle.record.proofs.Trip.{Writable, need-writable, written-length, written-placed}
 use Rattle.store.specs.Reading.{lengthsPermitted, entryFor, isSettled, recordAt, leaderAt, backAddress, backFine, settledRecord, shownSettled, currentFields}
-use Rattle.writing.specs.Calls.{withRecord, appended, placeAtEnd, createdMst, createdXrf, newBackBlock, newBackOffset, pendingMark, versionLeader, versionAppended, versionInPlace, updatedMst, updatedXrf, deletedMst, deletedXrf, settledMst, settledXrf, revertedXrf}
-use Rattle.writing.specs.Refusals.{updateAppends}
+use Rattle.versions.specs.Written.{withRecord, appended, placeAtEnd, createdMst, createdXrf, newBackBlock, newBackOffset, pendingMark, versionLeader, versionAppended, versionInPlace, updatedMst, updatedXrf, deletedMst, deletedXrf, settledMst, settledXrf, revertedXrf, updateAppends}
 use Rattle.store.proofs.Gates.{lengths-both, fine-facts, back-changed, back-settled, back-new, settled-facts}
 use Rattle.soundness.proofs.Stepping.{arrives-end, member-facts}
 use Rattle.soundness.proofs.SoundEntries.{PlaceStands, Sound, sound-from, at-stands}

@@ -1,6 +1,3 @@
 pub mod Lowest
-pub mod Told
 pub mod Plans
-pub mod Writes
-pub mod Body
 pub mod Results

@@ -25,10 +25,11 @@ use Rattle.record.proofs.Draftable.{draft-need}
 use Rattle.store.specs.Answer.{numberOf, refuse, after}
 use Rattle.store.specs.Reading.{lengthsPermitted, controlFine, mfnInRange, entryFor, placeFor, isMalformed, isGone, isSettled, isNew, leaderAt, currentFields}
 use Rattle.store.specs.Refusals.{fine, bothFine}
-use Rattle.writing.specs.Refusals.{exceeds, createAnswer, updateAppends, updateAnswer, deleteAnswer, settleAnswer, revertAnswer}
+use Rattle.writing.specs.Refusals.{exceeds, createAnswer, updateAnswer, deleteAnswer, settleAnswer, revertAnswer}
+use Rattle.versions.specs.Written.{updateAppends}
 use Rattle.store.specs.Gate.{gateOf, gateAnswer, knownOf, knownAnswer, reachedIf, reachedOf, reachedBoth, reachedAnswer}
 use Rattle.writing.specs.Plans.{settlePlan, revertPlan, slotAnswer, SlotAsked, createPlan, planIf, updatePlan, deletePlan, roomPlan}
-use Rattle.writing.specs.Asked.{RecordRead}
+use Rattle.versions.specs.Asked.{RecordRead}
 use Rattle.store.specs.declared.answer.Answer.{Answer}
 use Rattle.store.specs.declared.answer.Answer.the-variants.{Done, BadLength, BadControl, BadDraft, NoMfn, NoSlot, BadEntry, Gone as GoneAnswer, BadRecord, Deleted, NotPending, NeverSettled, NoField, NoRoom, NotSound, NoRoomInList}
 use Rattle.writing.specs.declared.create.Creating.the-variants.{Write, Unwritten}
@@ -38,10 +39,10 @@ use Rattle.store.specs.declared.gate.Known.{Known}
 use Rattle.store.specs.declared.gate.Known.the-variants.{Record, Refused}
 use Rattle.store.specs.declared.gate.Reached.{Reached}
 use Rattle.store.specs.declared.gate.Reached.the-variants.{There, Refused as Unreached}
-use Rattle.writing.specs.declared.versions.Plan.{Plan}
-use Rattle.writing.specs.declared.versions.Plan.the-variants.{NewVersion, Refuse}
+use Rattle.writing.specs.declared.changes.Plan.{Plan}
+use Rattle.writing.specs.declared.changes.Plan.the-variants.{NewVersion, Refuse}
 use Rattle.store.proofs.answer.Answer as answer
-use Rattle.writing.proofs.Told.{draft-fits, read-known}
+use Rattle.versions.proofs.Told.{draft-fits, read-known, not-settled}
 use Rattle.store.proofs.Gates.{Refusing, refused-is, done-is, gate-shut, known-refused, known-facts, gate-is, opened, Planned}
 use Rattle.store.proofs.Reaching.{reach-refused, both-unreached, BothPlanned, reached-facts, reached-both-facts}
 use Rattle.store.specs.Store.{store, draft}
@@ -66,11 +67,6 @@ not-done NoField v = λ z. omega arith
 not-done NoRoom v = λ z. omega arith
 not-done NotSound v = λ z. omega arith
 not-done NoRoomInList v = λ z. omega arith
-
-pub not-settled : (k : Mark) → OneOf (1 ∷ 2 ∷ []) (tagOf mark.the-type k) → isSettled k ≡ false
-not-settled Settled v = absurd (miss (1 ∷ 2 ∷ []) 0 tt v)
-not-settled Changed v = refl
-not-settled New v = refl
 
 -- what is asked behind an open gate
 module _ (mst xrf : List ℕ) (g : Gate) (p : g ≡ gateOf (store mst xrf)) (next : Mfn) (end : ℕ) (q : g ≡ Open next end) where

@@ -26,11 +26,12 @@ use Rattle.record.proofs.Draftable.{draft-need}
 use Rattle.store.specs.Answer.{numberOf, after}
 use Rattle.store.specs.Reading.{lengthsPermitted, placeFor, isSettled, isNew, leaderAt, currentFields}
 use Rattle.store.specs.Refusals.{fine, bothFine}
-use Rattle.writing.specs.Refusals.{exceeds, formatAnswer, createAnswer, updateAppends, updateAnswer, deleteAnswer, settleAnswer, revertAnswer}
-use Rattle.writing.specs.Calls.{placeAtEnd, pendingMark, versionAppended, versionInPlace, formatLeaves, createdMst, createdXrf, createOf, createLeaves, updatedMst, updatedXrf, updateLeaves, deletedMst, deletedXrf, deleteLeaves, settledMst, settledXrf, settleLeaves, revertedXrf, revertLeaves}
+use Rattle.writing.specs.Refusals.{exceeds, formatAnswer, createAnswer, updateAnswer, deleteAnswer, settleAnswer, revertAnswer}
+use Rattle.versions.specs.Written.{updateAppends, placeAtEnd, pendingMark, versionAppended, versionInPlace, createdMst, createdXrf, updatedMst, updatedXrf, deletedMst, deletedXrf, settledMst, settledXrf, revertedXrf}
+use Rattle.writing.specs.Calls.{formatLeaves, createOf, createLeaves, updateLeaves, deleteLeaves, settleLeaves, revertLeaves}
 use Rattle.store.specs.Gate.{reachedIf, reachedAnswer}
 use Rattle.writing.specs.Plans.{settlePlan, revertPlan, createPlan, creatingAnswer, planIf, planAnswer, updatePlan, deletePlan}
-use Rattle.writing.specs.Asked.{HasSlot, AtEnd, DraftFits, RecordRead}
+use Rattle.versions.specs.Asked.{HasSlot, AtEnd, DraftFits, RecordRead}
 use Rattle.store.specs.declared.answer.Answer.{Answer}
 use Rattle.store.specs.declared.answer.Answer.the-variants.{Done, BadLength, BadDraft, NoSlot, BadEntry, Deleted, NotPending, NeverSettled, NoRoom}
 use Rattle.writing.specs.declared.create.Created.{Created}
@@ -38,11 +39,11 @@ use Rattle.writing.specs.declared.create.Creating.{Creating}
 use Rattle.writing.specs.declared.create.Creating.the-variants.{Write, Unwritten}
 use Rattle.store.specs.declared.gate.Reached.{Reached}
 use Rattle.store.specs.declared.gate.Reached.the-variants.{There, Refused as Unreached}
-use Rattle.writing.specs.declared.versions.Plan.{Plan}
-use Rattle.writing.specs.declared.versions.Plan.the-variants.{NewVersion, Refuse}
+use Rattle.writing.specs.declared.changes.Plan.{Plan}
+use Rattle.writing.specs.declared.changes.Plan.the-variants.{NewVersion, Refuse}
 use Rattle.store.proofs.Reaching.{of-refusal, of-record}
 use Rattle.store.proofs.Gates.{Refusing, after-refused, after-cases, passed, gate-done, named-done, lengths-both, OpenFacts, open-from, back-changed, Planned, planned-at}
-use Rattle.writing.proofs.Told.{need-low, draft-fits, at-end, slot-known, read-known, read-own}
+use Rattle.versions.proofs.Told.{need-low, draft-fits, at-end, slot-known, read-known, read-own}
 use Rattle.store.specs.Store.{store, draft}
 
 and-true-false : (a b : Bool) → a && b ≡ false → a ≡ true → b ≡ false

@@ -1,95 +1,25 @@
 -- What each call that may write leaves in the two buffers: the new store where it is done, the old one where it is refused.
 -- Document 01, "What the calls do".
-use Prim.Native.Nat.{ℕ, _+_}
-use mathlib.Core.Bool.{Bool, true, false, cond}
-use mathlib.Core.List.{List}
-use lib.ListN.{length, replicate}
-use Rattle.word.specs.Overwrite.{overwrite}
-use Rattle.layout.specs.Sizes.{blockAt, offsetAt, endMoved}
-use Rattle.layout.specs.Entry.{placed, placeAddress}
-use Rattle.layout.specs.CrossReference.{withEntry, formattedXrf}
-use Rattle.layout.specs.Control.{nextOf, endOf, withNext, withEnd, formattedMst}
-use Rattle.layout.specs.declared.entry.Mark.{Mark}
-use Rattle.layout.specs.declared.entry.Mark.the-variants.{Settled, Changed, New}
-use Rattle.layout.specs.declared.entry.Place.{Place}
-use Rattle.layout.specs.declared.leader.Leader.{Leader}
-use Rattle.record.specs.Fields.{Field}
-use Rattle.record.specs.Bytes.{needFor, recordBytes, leaderFor}
+use Prim.Native.Nat.{ℕ}
+use lib.ListN.{length}
+use Rattle.layout.specs.CrossReference.{formattedXrf}
+use Rattle.layout.specs.Control.{nextOf, formattedMst}
 use Rattle.store.specs.Store.{Store, store, Draft, fieldsIn}
 use Rattle.store.specs.Answer.{after}
-use Rattle.store.specs.Reading.{placeFor, isSettled, leaderAt, currentFields}
-use Rattle.writing.specs.Refusals.{formatAnswer, createAnswer, updateAppends, updateAnswer, deleteAnswer, settleAnswer, revertAnswer}
+use Rattle.store.specs.Reading.{placeFor, currentFields}
+use Rattle.versions.specs.Written.{createdMst, createdXrf, updatedMst, updatedXrf, deletedMst, deletedXrf, settledMst, settledXrf, revertedXrf}
+use Rattle.writing.specs.Refusals.{formatAnswer, createAnswer, updateAnswer, deleteAnswer, settleAnswer, revertAnswer}
 use Rattle.writing.specs.declared.create.Created.{Created}
-
--- ---- format
 
 unfoldable pub formatLeaves : Store → Store
 formatLeaves s = after (formatAnswer s) (store (formattedMst (length (s .mst))) (formattedXrf (length (s .xrf)))) s
 
--- ---- writing
-
--- a record of the fields in the part of the MST that starts at an address
-abbrev pub withRecord : List ℕ → ℕ → Leader → List Field → List ℕ
-withRecord mst at l fs = overwrite mst at (recordBytes l fs)
-
--- a record at the end, which moves by MFRL
-unfoldable pub appended : List ℕ → Leader → List Field → List ℕ
-appended mst l fs = withEnd (withRecord mst (endOf mst) l fs) (endMoved (endOf mst + l .mfrl))
-
--- the place at the end
-abbrev pub placeAtEnd : List ℕ → Bool → Mark → Place
-placeAtEnd mst deleted mark = placed (blockAt (endOf mst)) (offsetAt (endOf mst)) deleted mark
-
--- ---- create: at the end, MFRL = need, back pointer 0/0, STATUS 0, mark new; NXTMFN + 1; returns the MFN, 0 where it is refused
-
-unfoldable pub createdMst : List ℕ → List Field → List ℕ
-createdMst mst fs = withNext (appended mst (leaderFor (nextOf mst) (needFor fs) 0 0 false (length fs)) fs) (nextOf mst + 1)
-
-unfoldable pub createdXrf : List ℕ → List ℕ → List ℕ
-createdXrf mst xrf = withEntry xrf (nextOf mst) (placeAtEnd mst false New)
-
+-- create returns the MFN, 0 where it is refused
 unfoldable pub createOf : Store → Draft → Created
 createOf s d = record { answer = createAnswer s d; mfn = record { 0 = after (createAnswer s d) (nextOf (s .mst)) 0 } }
 
 unfoldable pub createLeaves : Store → Draft → Store
 createLeaves s d = after (createAnswer s d) (store (createdMst (s .mst) (fieldsIn d)) (createdXrf (s .mst) (s .xrf))) s
-
--- ---- update. Settled: at the end, MFRL = need, back pointer to the old version, mark changed. Pending: in place if need is at most the
--- old MFRL, and then MFRL stays and bytes after the data are zero; else at the end with MFRL = need. Mark and back pointer are kept
-
--- the back pointer of a new version: to the old version if that is settled, else the old version's own
-abbrev pub newBackBlock : Place → Leader → ℕ
-newBackBlock p l = cond (isSettled (p .mark)) (p .block .0) (l .mfbwb .0)
-
-abbrev pub newBackOffset : Place → Leader → ℕ
-newBackOffset p l = cond (isSettled (p .mark)) (p .offset) (l .mfbwp)
-
--- the mark after a change: changed where it was settled, else kept
-abbrev pub pendingMark : Mark → Mark
-pendingMark Settled = Changed
-pendingMark Changed = Changed
-pendingMark New = New
-
--- the leader of a new version of the record at a place with a leader
-unfoldable pub versionLeader : ℕ → Place → Leader → ℕ → Bool → ℕ → Leader
-versionLeader m p l mfrl deleted n = leaderFor m mfrl (newBackBlock p l) (newBackOffset p l) deleted n
-
--- the new version at the end, and in place
-unfoldable pub versionAppended : List ℕ → ℕ → Place → Leader → Bool → List Field → List ℕ
-versionAppended mst m p l deleted fs = appended mst (versionLeader m p l (needFor fs) deleted (length fs)) fs
-
-unfoldable pub versionInPlace : List ℕ → ℕ → Place → Leader → Bool → List Field → List ℕ
-versionInPlace mst m p l deleted fs = withRecord mst (placeAddress p) (versionLeader m p l (l .mfrl) deleted (length fs)) fs
-
-unfoldable pub updatedMst : List ℕ → ℕ → Place → List Field → List ℕ
-updatedMst mst m p fs =
-    cond (updateAppends p (leaderAt mst p) (needFor fs))
-    (versionAppended mst m p (leaderAt mst p) false fs)
-    (versionInPlace mst m p (leaderAt mst p) false fs)
-
-unfoldable pub updatedXrf : List ℕ → List ℕ → ℕ → Place → List Field → List ℕ
-updatedXrf mst xrf m p fs =
-    cond (updateAppends p (leaderAt mst p) (needFor fs)) (withEntry xrf m (placeAtEnd mst false (pendingMark (p .mark)))) xrf
 
 unfoldable pub updateLeaves : Store → ℕ → Draft → Store
 updateLeaves s m d =
@@ -97,40 +27,14 @@ updateLeaves s m d =
     (store (updatedMst (s .mst) m (placeFor s m) (fieldsIn d)) (updatedXrf (s .mst) (s .xrf) m (placeFor s m) (fieldsIn d)))
     s
 
--- ---- delete: an update with the same fields, STATUS 1, block negated. A settled record is copied to the end with MFRL = need; a pending
--- one stays in place, its MFRL kept and bytes after the data zero
-
-unfoldable pub deletedMst : List ℕ → ℕ → Place → List Field → List ℕ
-deletedMst mst m p fs =
-    cond (isSettled (p .mark))
-    (versionAppended mst m p (leaderAt mst p) true fs)
-    (versionInPlace mst m p (leaderAt mst p) true fs)
-
-unfoldable pub deletedXrf : List ℕ → List ℕ → ℕ → Place → List ℕ
-deletedXrf mst xrf m p =
-    withEntry xrf m (cond (isSettled (p .mark)) (placeAtEnd mst true Changed) (placed (p .block .0) (p .offset) true (p .mark)))
-
 unfoldable pub deleteLeaves : Store → ℕ → Store
 deleteLeaves s m =
     after (deleteAnswer s m)
     (store (deletedMst (s .mst) m (placeFor s m) (currentFields (s .mst) (placeFor s m))) (deletedXrf (s .mst) (s .xrf) m (placeFor s m)))
     s
 
--- ---- settle: mark removed, back pointer 0/0. A deletion stays one
-
-unfoldable pub settledMst : List ℕ → Place → List ℕ
-settledMst mst p = overwrite mst (placeAddress p + 6) (replicate 6 0)
-
-unfoldable pub settledXrf : List ℕ → ℕ → Place → List ℕ
-settledXrf xrf m p = withEntry xrf m (placed (p .block .0) (p .offset) (p .deleted) Settled)
-
 unfoldable pub settleLeaves : Store → ℕ → Store
 settleLeaves s m = after (settleAnswer s m) (store (settledMst (s .mst) (placeFor s m)) (settledXrf (s .xrf) m (placeFor s m))) s
-
--- ---- revert: the entry becomes the back place, positive, no mark. No MST byte changes
-
-unfoldable pub revertedXrf : List ℕ → List ℕ → ℕ → Place → List ℕ
-revertedXrf mst xrf m p = withEntry xrf m (placed (leaderAt mst p .mfbwb .0) (leaderAt mst p .mfbwp) false Settled)
 
 unfoldable pub revertLeaves : Store → ℕ → Store
 revertLeaves s m = after (revertAnswer s m) (store (s .mst) (revertedXrf (s .mst) (s .xrf) m (placeFor s m))) s

@@ -19,11 +19,12 @@ use Rattle.store.specs.Gate.{reachedIf}
 use Rattle.store.specs.declared.answer.Answer.{Answer}
 use Rattle.store.specs.declared.answer.Answer.the-variants.{Done, NoSlot, BadEntry, NoRoom}
 use Rattle.store.specs.declared.gate.Reached.{Reached}
-use Rattle.writing.specs.Refusals.{exceeds, createAnswer, updateAppends, updateAnswer, deleteAnswer, settleAnswer, revertAnswer}
+use Rattle.writing.specs.Refusals.{exceeds, createAnswer, updateAnswer, deleteAnswer, settleAnswer, revertAnswer}
+use Rattle.versions.specs.Written.{updateAppends}
 use Rattle.writing.specs.declared.create.Creating.{Creating}
 use Rattle.writing.specs.declared.create.Creating.the-variants.{Write, Unwritten}
-use Rattle.writing.specs.declared.versions.Plan.{Plan}
-use Rattle.writing.specs.declared.versions.Plan.the-variants.{NewVersion, Refuse}
+use Rattle.writing.specs.declared.changes.Plan.{Plan}
+use Rattle.writing.specs.declared.changes.Plan.the-variants.{NewVersion, Refuse}
 
 unfoldable pub settlePlan : Store → ℕ → Reached
 settlePlan s m = reachedIf (settleAnswer s m) s m

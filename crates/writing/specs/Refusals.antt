@@ -1,15 +1,13 @@
 -- The refusals of each call that may write, in the order of their numbers, and each call's answer: the lowest that applies.
 -- Document 01, "Answer numbers" and the room rule.
 use Prim.Native.Nat.{ℕ, _+_}
-use mathlib.Core.Bool.{Bool, not, _&&_, _||_}
+use mathlib.Core.Bool.{Bool, not, _&&_}
 use mathlib.Core.List.{List, [], _∷_}
 use lib.Dec.{eqb, ltb}
 use lib.ListN.{length}
 use Rattle.layout.specs.Sizes.{capacityOf}
 use Rattle.layout.specs.CrossReference.{xrfBlock, headRight, slotFree}
 use Rattle.layout.specs.Control.{nextOf, endOf}
-use Rattle.layout.specs.declared.entry.Place.{Place}
-use Rattle.layout.specs.declared.leader.Leader.{Leader}
 use Rattle.record.specs.Bytes.{needFor}
 use Rattle.store.specs.Store.{Store, Draft, isRight, fieldsIn}
 use Rattle.store.specs.Answer.{Refusal, refuse, lowest}
@@ -17,6 +15,7 @@ use Rattle.store.specs.Reading.{lengthsPermitted, placeFor, isSettled, isNew, l
 use Rattle.store.specs.Refusals.{gated, named, fine, bothFine}
 use Rattle.store.specs.declared.answer.Answer.{Answer}
 use Rattle.store.specs.declared.answer.Answer.the-variants.{BadLength, BadDraft, NoSlot, BadEntry, Deleted, NotPending, NeverSettled, NoRoom}
+use Rattle.versions.specs.Written.{updateAppends}
 
 -- end + MFRL exceeds the MST length
 unfoldable pub exceeds : List ℕ → ℕ → Bool
@@ -41,10 +40,6 @@ createRefusals s d =
 
 unfoldable pub createAnswer : Store → Draft → Answer
 createAnswer s d = lowest (createRefusals s d)
-
--- an update writes at the end unless the record is pending and its MFRL is enough
-unfoldable pub updateAppends : Place → Leader → ℕ → Bool
-updateAppends p l need = isSettled (p .mark) || ltb (l .mfrl) need
 
 abbrev pub updateRefusals : Store → ℕ → Draft → List Refusal
 updateRefusals s m d =

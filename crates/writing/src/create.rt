@@ -1,23 +1,11 @@
 // Create: a new record at the end, under the next MFN.
-use layout::entry::Mark;
-use layout::entry::Place;
-use layout::leader::Leader;
-use layout::sizes::Block;
 use layout::sizes::Mfn;
 use store::answer::Answer;
 use store::gate::Gate;
 ghost use mathlib.Core.Path.{_≡_};
-ghost use mathlib.Core.Bool.{true};
-ghost use Prim.Native.Nat.{_+_, _/_, _%_, _≤_};
-ghost use lib.ListN.{length};
-ghost use Rattle.layout.specs.Control.{nextOf};
-ghost use Rattle.layout.specs.Sizes.{blockAt, offsetAt};
-ghost use Rattle.layout.specs.Entry.{placed};
-ghost use Rattle.record.specs.Draft.{needOf, draftRight, draftFields};
-ghost use Rattle.writing.specs.Calls.{appended, createdMst, createdXrf, createOf, createLeaves};
-ghost use Rattle.writing.specs.Plans.{SlotAsked, slotAnswer, createPlan, creatingAnswer};
-ghost use Rattle.writing.specs.Asked.{HasSlot, AtEnd, DraftFits};
 ghost use Rattle.store.specs.Store.{store, draft};
+ghost use Rattle.writing.specs.Calls.{createOf, createLeaves};
+ghost use Rattle.writing.specs.Plans.{SlotAsked, slotAnswer, createPlan, creatingAnswer};
 
 // The answer of a create, and the MFN that it returns.
 pub struct Created {
@@ -70,38 +58,6 @@ fn plan_create(mst: &[u8], xrf: &[u8], tags: &[u16], lens: &[u16], data: &[u8]) 
     Creating::Write { next, end, need }
 }
 
-// The place at the end.
-pub(crate) fn end_place(end: usize, deleted: bool, mark: Mark) -> Place
-    requires { ⌜ end ≤ 536870400 ⌝ }
-    ensures is { λ r. ⌜ r ≡ placed (blockAt end) (offsetAt end) deleted mark ⌝ }
-    ensures numbers { λ r. ⌜ (r .block .0 ≡ end / 512 + 1) × (r .offset ≡ end % 512) ⌝ }
-{
-    Place {
-        block: layout::sizes::block_at(end),
-        offset: layout::sizes::offset_at(end),
-        deleted,
-        mark,
-    }
-}
-
-// Writes a draft's record at the end, and moves the end.
-pub(crate) fn append_draft(
-    mst: &mut [u8],
-    end: usize,
-    l: Leader,
-    tags: &[u16],
-    lens: &[u16],
-    data: &[u8],
-)
-    requires { ⌜ draftRight (now tags) (now lens) (now «data») ≡ true ⌝ }
-    requires { ⌜ (AtEnd (now mst) end (l .mfrl)) × (needOf (length (now tags)) (length (now «data»)) ≤ l .mfrl) ⌝ }
-    ensures { λ _. ⌜ now (mst .exit) ≡ appended (now (mst .entry)) l (draftFields (now (tags .entry)) (now (lens .entry)) (now («data» .entry))) ⌝ }
-{
-    let stop = end + l.mfrl as usize;
-    record::writer::write_record(&mut mst[end..], l, tags, lens, data);
-    layout::control::put_end(mst, layout::sizes::end_moved(stop));
-}
-
 // The refusal of a create that is not to write.
 fn creating_answer(c: Creating) -> Answer
     ensures { λ r. ⌜ r ≡ creatingAnswer c ⌝ }
@@ -116,29 +72,6 @@ fn creating_answer(c: Creating) -> Answer
     }
 }
 
-// Writes a draft's record at the end under the next MFN, NXTMFN and the entry.
-fn create_at_end(
-    mst: &mut [u8],
-    xrf: &mut [u8],
-    next: Mfn,
-    end: usize,
-    need: usize,
-    tags: &[u16],
-    lens: &[u16],
-    data: &[u8],
-)
-    requires { ⌜ (HasSlot (now xrf) (next .0)) × (next .0 ≡ nextOf (now mst)) × (next .0 ≤ 520192) ⌝ }
-    requires { ⌜ (AtEnd (now mst) end need) × (need ≡ needOf (length (now tags)) (length (now «data»))) ⌝ }
-    requires { ⌜ DraftFits (now tags) (now lens) (now «data») ⌝ }
-    ensures master { λ _. ⌜ now (mst .exit) ≡ createdMst (now (mst .entry)) (draftFields (now (tags .entry)) (now (lens .entry)) (now («data» .entry))) ⌝ }
-    ensures cross { λ _. ⌜ now (xrf .exit) ≡ createdXrf (now (mst .entry)) (now (xrf .entry)) ⌝ }
-{
-    let l = record::writer::leader_for(next, need as u16, Block(0), 0, false, tags.len() as u16);
-    append_draft(mst, end, l, tags, lens, data);
-    layout::control::put_next(mst, Mfn(next.0 + 1));
-    layout::cross_reference::put_entry(xrf, next, end_place(end, false, Mark::New));
-}
-
 pub fn create(mst: &mut [u8], xrf: &mut [u8], tags: &[u16], lens: &[u16], data: &[u8]) -> Created
     ensures answers { λ r. ⌜ r ≡ createOf (store (now (mst .entry)) (now (xrf .entry))) (draft (now (tags .entry)) (now (lens .entry)) (now («data» .entry))) ⌝ }
     ensures left { λ _. ⌜ store (now (mst .exit)) (now (xrf .exit)) ≡ createLeaves (store (now (mst .entry)) (now (xrf .entry))) (draft (now (tags .entry)) (now (lens .entry)) (now («data» .entry))) ⌝ }
@@ -150,7 +83,7 @@ pub fn create(mst: &mut [u8], xrf: &mut [u8], tags: &[u16], lens: &[u16], data: 
             mfn: Mfn(0),
         };
     };
-    create_at_end(mst, xrf, next, end, need, tags, lens, data);
+    versions::create::create_at_end(mst, xrf, next, end, need, tags, lens, data);
     Created {
         answer: Answer::Done,
         mfn: next,

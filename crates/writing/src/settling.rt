@@ -5,12 +5,9 @@ use layout::sizes::Mfn;
 use store::answer::Answer;
 use store::gate::Reached;
 ghost use mathlib.Core.Path.{_≡_};
-ghost use Rattle.layout.specs.Control.{endOf};
-ghost use Rattle.store.specs.Reading.{leaderAt};
 ghost use Rattle.writing.specs.Refusals.{settleAnswer, revertAnswer};
-ghost use Rattle.writing.specs.Calls.{settledMst, settledXrf, settleLeaves, revertLeaves};
+ghost use Rattle.writing.specs.Calls.{settleLeaves, revertLeaves};
 ghost use Rattle.writing.specs.Plans.{settlePlan, revertPlan};
-ghost use Rattle.writing.specs.Asked.{HasSlot, RecordRead};
 ghost use Rattle.store.specs.Store.{store};
 
 fn plan_settle(mst: &[u8], xrf: &[u8], m: Mfn) -> Reached
@@ -32,25 +29,6 @@ fn plan_settle(mst: &[u8], xrf: &[u8], m: Mfn) -> Reached
     r
 }
 
-// Clears the back pointer and the mark of a pending record.
-fn settle_place(mst: &mut [u8], xrf: &mut [u8], m: Mfn, place: Place)
-    requires { ⌜ HasSlot (now xrf) (m .0) ⌝ }
-    requires { ⌜ RecordRead (now mst) (endOf (now mst)) place (leaderAt (now mst) place) ⌝ }
-    ensures master { λ _. ⌜ now (mst .exit) ≡ settledMst (now (mst .entry)) place ⌝ }
-    ensures cross { λ _. ⌜ now (xrf .exit) ≡ settledXrf (now (xrf .entry)) (m .0) place ⌝ }
-{
-    let at = layout::entry::place_address(place);
-    record::writer::clear_back(&mut mst[at..]);
-    let block = place.block;
-    let p = Place {
-        block,
-        offset: place.offset,
-        deleted: place.deleted,
-        mark: Mark::Settled,
-    };
-    layout::cross_reference::put_entry(xrf, m, p);
-}
-
 pub fn settle(mst: &mut [u8], xrf: &mut [u8], m: Mfn) -> Answer
     ensures answers { λ r. ⌜ r ≡ settleAnswer (store (now (mst .entry)) (now (xrf .entry))) (m .0) ⌝ }
     ensures left { λ _. ⌜ store (now (mst .exit)) (now (xrf .exit)) ≡ settleLeaves (store (now (mst .entry)) (now (xrf .entry))) (m .0) ⌝ }
@@ -64,7 +42,7 @@ pub fn settle(mst: &mut [u8], xrf: &mut [u8], m: Mfn) -> Answer
     else {
         return store::gate::reached_answer(r);
     };
-    settle_place(mst, xrf, m, place);
+    versions::settling::settle_place(mst, xrf, m, place);
     Answer::Done
 }
 

@@ -1,4 +1,4 @@
-use Rattle.writing.proofs.Told.{draft-counted}
+use Rattle.versions.proofs.Told.{draft-counted}
 use Rattle.writing.proofs.Plans.{create-plans}
 use borrow.Author.Needs.{needs}
 use Rattle.writing.proofs.create.plan_create.Statement.{statement}

@@ -1,0 +1,54 @@
+use borrow.Author.Needs.{needs}
+use Rattle.writing.proofs.Plans.{delete-plans, own-room-asked}
+use Rattle.writing.proofs.changes.plan_delete.Statement.{statement}
+use Rattle.writing.proofs.changes.plan_delete.Tie as tie
+
+reach-requires : tie.Need-reach-requires
+reach-requires c κs = search needs
+
+enum-known-r : tie.Need-enum-known-r
+enum-known-r c = search needs
+
+enum-told : tie.Need-enum-told
+enum-told c = search needs
+
+reached-answer-requires : tie.Need-reached-answer-requires
+reached-answer-requires c κs = search needs
+
+returns : tie.Need-returns
+returns c = search delete-plans
+
+returns-2 : tie.Need-returns-2
+returns-2 c = search delete-plans
+
+enum-told-2 : tie.Need-enum-told-2
+enum-told-2 c = search needs
+
+returns-3 : tie.Need-returns-3
+returns-3 c = search delete-plans
+
+own-need-requires : tie.Need-own-need-requires
+own-need-requires c κs = search delete-plans
+
+plan-room-requires : tie.Need-plan-room-requires
+plan-room-requires c κs =
+    own-room-asked _ _ _ _ (c .before .before .before .before .before .before .before .reach .ensures) _ _ _ (c .before .before .before .before .before .r .given .1) (c .before .before .before .if1 .left) _ (c .own-need .ensures)
+
+returns-4 : tie.Need-returns-4
+returns-4 c = search delete-plans
+
+pub plan-delete-spec : {M : Type 1} → statement M
+plan-delete-spec =
+    tie.close
+    (tie.spec
+    reach-requires
+    enum-known-r
+    enum-told
+    reached-answer-requires
+    returns
+    returns-2
+    enum-told-2
+    returns-3
+    own-need-requires
+    plan-room-requires
+    returns-4)
