@@ -19,3 +19,4 @@ pub mod Others
 pub mod Never
 pub mod Room
 pub mod SettledView
+pub mod Touched
