@@ -20,3 +20,4 @@ pub mod Never
 pub mod Room
 pub mod SettledView
 pub mod Touched
+pub mod Claims

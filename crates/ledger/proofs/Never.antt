@@ -20,7 +20,7 @@ use Rattle.ledger.specs.Ledger.{new, Item, gone, held, Ledger, nextMfn, 
 use Rattle.ledger.specs.LedgerAnswers.{measured, named, refusalsL, numberL, answerL}
 use Rattle.ledger.specs.LedgerSteps.{Effect, itemSet, itemAdded, applied, effectOf, nextL, answersL}
 use Rattle.ledger.specs.StoreRun.{nextS, answersS}
-use Rattle.ledger.specs.History.{MayCome, AllMayCome, none, more}
+use Rattle.ledger.specs.History.{MayCome, AllMayCome, none, more, NeverCome}
 use Rattle.ledger.proofs.Effects.{Known, Does, reads, empties, adds, changes, settles, reverts, in-range, after-call, set-long, set-own, set-other, added-long, added-own, added-other}
 use Rattle.ledger.proofs.Theorem.{demand-3}
 use Rattle.ledger.proofs.History.{number-is}
@@ -129,7 +129,7 @@ unfolding lengthsPermitted lengthsFine empty
 permitted mst xrf h = h
 
 -- IN A LIST FROM FORMAT, 1, 2, 6, 7, 8 AND 14 NEVER COME: the library's own answers
-pub never-come : (mst xrf : List ℕ) → lengthsPermitted (store mst xrf) ≡ true → (cs : List Call) → AllMayCome cs (answersS (nextS (store mst xrf) format) cs)
+pub never-come : (mst xrf : List ℕ) → lengthsPermitted (store mst xrf) ≡ true → NeverCome mst xrf
 never-come mst xrf h cs =
     rw (demand-3 mst xrf h cs .answers)
     (all-may-come (empty (length mst) (length xrf)) (whole-empty (length mst) (length xrf) (permitted mst xrf h)) cs)

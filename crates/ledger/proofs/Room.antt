@@ -100,7 +100,7 @@ module _ (s : Store) (h : SoundStore s) where
   answer-is : (c : Call) → answerS s c .answer ≡ numberL L c
   answer-is c = ap (λ (o : Outcome). o .answer) (answered (holds-own s h) c) ∙ number-is L c
 
-  pub create-room : (d : Draft) → RoomOf s L (create d) true (needFor (fieldsIn d))
+  pub create-room : (d : Draft) → RoomOf s (create d) true (needFor (fieldsIn d))
   unfolding numberL refusalsL overfull allBelow numberOf
   create-room d =
       rw (answer-is (create d))
@@ -108,7 +108,7 @@ module _ (s : Store) (h : SoundStore s) where
       (measured L (refuse BadDraft (not (isRight d)) ∷ refuse NoSlot (eqb (nextMfn L) (capacityOf (L .xrfLength) + 1)) ∷ []))
       true (L .end) (needFor (fieldsIn d)) (L .mstLength) refl)
 
-  pub update-room : (m : ℕ) (d : Draft) → RoomOf s L (update m d) (appends (keptMark (itemOf L m)) (needFor (fieldsIn d))) (needFor (fieldsIn d))
+  pub update-room : (m : ℕ) (d : Draft) → RoomOf s (update m d) (appends (keptMark (itemOf L m)) (needFor (fieldsIn d))) (needFor (fieldsIn d))
   unfolding numberL refusalsL overfull allBelow numberOf
   update-room m d =
       rw (answer-is (update m d))
@@ -116,7 +116,7 @@ module _ (s : Store) (h : SoundStore s) where
       (measured L (refuse BadDraft (not (isRight d)) ∷ named L m (refuse Deleted (keptDeleted (itemOf L m)) ∷ [])))
       (appends (keptMark (itemOf L m)) (needFor (fieldsIn d))) (L .end) (needFor (fieldsIn d)) (L .mstLength) refl)
 
-  pub delete-room : (m : ℕ) → RoomOf s L (delete m) (isSettledMark (keptMark (itemOf L m))) (needFor (keptFields (itemOf L m)))
+  pub delete-room : (m : ℕ) → RoomOf s (delete m) (isSettledMark (keptMark (itemOf L m))) (needFor (keptFields (itemOf L m)))
   unfolding numberL refusalsL overfull allBelow numberOf
   delete-room m =
       rw (answer-is (delete m))

@@ -1,5 +1,5 @@
--- What the order and document 01 say of lists of calls beside demand 3, each a statement about the library's own answers from a sound store.
--- Proved in proofs/History, by demand 3 from laws of the ledger.
+-- What the order and document 01 say of lists of calls beside demand 3, each a statement about the library's own answers. `Claims` stands last.
+-- Proved in proofs/Claims, from laws of the ledger by demand 3.
 use Prim.Native.Nat.{ℕ, _+_, _<_}
 use mathlib.Core.Path.{_≡_}
 use mathlib.Core.Bool.{Bool, true, false, _&&_, _||_}
@@ -8,15 +8,18 @@ use lib.Dec.{eqb, ltb}
 use Rattle.layout.specs.declared.entry.Mark.the-variants.{Settled}
 use Rattle.layout.specs.declared.entry.Place.{Place}
 use Rattle.layout.specs.declared.entry.Entry.the-variants.{At}
+use Rattle.record.specs.Bytes.{needFor}
 use Rattle.store.specs.Answer.{numberOf, Refusal}
 use Rattle.store.specs.Reading.{mfnInRange, entryFor, placeFor}
 use Rattle.store.specs.declared.answer.Answer.{Answer}
 use Rattle.store.specs.declared.answer.Answer.the-variants.{Done, NeverSettled, NoRoom}
-use Rattle.store.specs.Store.{Store, Draft}
+use Rattle.store.specs.Store.{Store, store, Draft, fieldsIn}
 use Rattle.ledger.specs.Call.{Call, format, view, viewSettled, create, update, delete, settle, revert, check, Outcome, plain}
-use Rattle.ledger.specs.Ledger.{Ledger}
-use Rattle.ledger.specs.LedgerAnswers.{refusalsL}
-use Rattle.ledger.specs.StoreRun.{answerS, nextS, afterS}
+use Rattle.ledger.specs.Ledger.{itemOf, keptFields, keptMark, isSettledMark}
+use Rattle.ledger.specs.LedgerAnswers.{appends, refusalsL}
+use Rattle.ledger.specs.LedgerSteps.{touches, effectOf}
+use Rattle.ledger.specs.StoreRun.{answerS, nextS, answersS, afterS}
+use Rattle.ledger.specs.LedgerOf.{ledgerOf}
 
 -- every call of a list
 pub data Every (P : Call → Type 0) : List Call → Type 0 where
@@ -91,9 +94,9 @@ pub record RoomRule (a : Answer) (table : List Refusal) (atEnd : Bool) (end need
   pub exceeds : a ≡ NoRoom → size < end + need
   pub refused : someBelow 13 table ≡ false → atEnd ≡ true → size < end + need → a ≡ NoRoom
 
--- read on the ledger, for a call
-abbrev pub RoomOf : Store → Ledger → Call → Bool → ℕ → Type 0
-RoomOf s L c atEnd need = RoomRule (answerS s c .answer) (refusalsL L c) atEnd (L .end) need (L .mstLength)
+-- read on the ledger that the store holds, for a call
+abbrev pub RoomOf : Store → Call → Bool → ℕ → Type 0
+RoomOf s c atEnd need = RoomRule (answerS s c .answer) (refusalsL (ledgerOf s) c) atEnd (ledgerOf s .end) need (ledgerOf s .mstLength)
 
 -- ---- answers that never come
 
@@ -124,3 +127,24 @@ MayCome c a = among (numberOf a) (neverFrom c) ≡ false
 pub data AllMayCome : List Call → List Outcome → Type 0 where
   none : AllMayCome [] []
   more : {c : Call} {cs : List Call} {o : Outcome} {os : List Outcome} → MayCome c (o .answer) → AllMayCome cs os → AllMayCome (c ∷ cs) (o ∷ os)
+
+-- from format on
+abbrev pub NeverCome : List ℕ → List ℕ → Type 0
+NeverCome mst xrf = (cs : List Call) → AllMayCome cs (answersS (nextS (store mst xrf) format) cs)
+
+-- ---- THE CLAIMS, from any sound store
+
+pub record Claims (s : Store) : Type 0 where
+  -- the settled version of a live and settled MFN, after a change of it that is done, and calls that leave it pending
+  pub settled-version : (m : ℕ) → LiveSettled s m → (c : Call) → UpdatesOrDeletes m c → answerS s c .answer ≡ Done
+      → (cs : List Call) → Every (LeavesPending m) cs → SettledVersion s m c cs
+  -- a record never settled, after a create that is done, and calls that do not settle it
+  pub never-settled : (d : Draft) → answerS s (create d) .answer ≡ Done
+      → (cs : List Call) → Every (LeavesNew (answerS s (create d) .mfn)) cs → NeverSettledYet s d (answerS s (create d) .mfn) cs
+  -- a call leaves the views of every MFN that it does not set, add or empty
+  pub others : (c : Call) (m : ℕ) → touches (ledgerOf s) (effectOf (ledgerOf s) c) m ≡ false → SameViews s (nextS s c) m
+  -- 13 exactly by the room rule, of a create, an update and a delete: an update writes at the end where the record is settled or too short, a
+  -- delete where it is settled
+  pub create-room : (d : Draft) → RoomOf s (create d) true (needFor (fieldsIn d))
+  pub update-room : (m : ℕ) (d : Draft) → RoomOf s (update m d) (appends (keptMark (itemOf (ledgerOf s) m)) (needFor (fieldsIn d))) (needFor (fieldsIn d))
+  pub delete-room : (m : ℕ) → RoomOf s (delete m) (isSettledMark (keptMark (itemOf (ledgerOf s) m))) (needFor (keptFields (itemOf (ledgerOf s) m)))
