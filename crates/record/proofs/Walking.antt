@@ -1,7 +1,7 @@
 -- The walk over a record's fields. A walk hands out the record's fields, in directory order, and no more; what stands at an index is the
 -- field of that number, or nothing; and it lies in the record. Then the laws that the steps' own proofs are made of.
 use Prim.Native.Nat.{ℕ, zero, suc, _+_, _*_, _-_, _<_, _≤_, _^_}
-use native.Mathlib.Nat.{add-zero, zero-add}
+use native.Mathlib.Nat.{add-zero, zero-add, le-refl}
 use native.Mathlib.Numerals.{add-one}
 use native.Mathlib.Omega.{arith}
 use mathlib.Core.Path.{_≡_, refl, sym, _∙_}
@@ -114,6 +114,28 @@ module _ (rec : List ℕ) (i : ℕ) (s : AtField rec i) where
 
   pub entry-within : 24 + 6 * i ≤ length rec
   entry-within = omega (arith, s .listed, s .readable .base-is, s .readable .base-in, s .readable .record-in)
+
+-- so does every field that a walk hands out
+abbrev pub Within : ℕ → List Spot → Type 0
+Within n [] = Unit {0}
+Within n (s ∷ ss) = (s .start + s .len ≤ n) × Within n ss
+
+within-snoc : (n : ℕ) (ss : List Spot) (s : Spot) → Within n ss → s .start + s .len ≤ n → Within n (ss ++ (s ∷ []))
+within-snoc n [] s w h = (h, tt)
+within-snoc n (t ∷ ss) s w h = (w .0, within-snoc n ss s (w .1) h)
+
+none-within : (rec : List ℕ) (n : ℕ) → Within n (spotsBefore rec 0)
+unfolding spotsBefore
+none-within rec n = tt
+
+pub spots-within : (rec : List ℕ) → Readable rec → Within (leaderOf rec .mfrl) (spotsOf rec)
+spots-within rec r = before (leaderOf rec .nvf) (le-refl _)
+  where
+    before : (k : ℕ) → k ≤ leaderOf rec .nvf → Within (leaderOf rec .mfrl) (spotsBefore rec k)
+    before zero h = none-within rec (leaderOf rec .mfrl)
+    before (suc k) h =
+        rw (← add-one k, ← before-more rec k)
+        (within-snoc (leaderOf rec .mfrl) (spotsBefore rec k) (spotAt rec k) (before k (omega arith)) (field-in rec k (record { readable = r; listed = omega arith })))
 
 walked-cases : (b : Bool) (t tag : Tag) (s l start len : ℕ) → cond b End (FieldHere t s l) ≡ FieldHere tag start len
     → (b ≡ false) × (s ≡ start) × (l ≡ len)

@@ -3,4 +3,5 @@ pub mod VersionAnswers
 pub mod ViewAnswers
 pub mod WalkAnswers
 pub mod ListAnswers
+pub mod AllFields
 pub mod StateAnswers

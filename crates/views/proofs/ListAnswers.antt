@@ -20,7 +20,7 @@ use Rattle.store.specs.Answer.{numberOf, lowest, after}
 use Rattle.store.specs.Reading.{placeFor, recordAt, recordFrom, shownSettled}
 use Rattle.store.specs.Store.{store}
 use Rattle.store.specs.declared.answer.Answer.{Answer}
-use Rattle.store.specs.declared.answer.Answer.the-variants.{Done, ListTooShort}
+use Rattle.store.specs.declared.answer.Answer.the-variants.{Done, NoRoomInList}
 use Rattle.store.proofs.Gates.{Refusing, after-refused}
 use Rattle.views.specs.Views.{onCurrent, onSettled, settledAddress}
 use Rattle.views.specs.Listing.{Lists, lists, allAtLeast, shortFor, counted, leaves, allFieldsAnswer, allFieldsOf, allFieldsLeaves, settledAllFieldsAnswer, settledAllFieldsOf, settledAllFieldsLeaves}
@@ -59,7 +59,7 @@ not-false false e = let z : _≡_ {A = ℕ} 0 1 = cc in absurd (omega arith)
 -- ---- the fields of a record
 
 module _ (rec : List ℕ) (at : ℕ) (ts ss ls : List ℕ) (n : ℕ) (w : Bool) (c : n ≡ leaderOf rec .nvf) (x : w ≡ allAtLeast n (length ts) (length ss) (length ls)) where
-  pub list-short : (r : Listed) → not w ≡ true → r ≡ refusedList ListTooShort → r ≡ listedOf rec (lists ts ss ls)
+  pub list-short : (r : Listed) → not w ≡ true → r ≡ refusedList NoRoomInList → r ≡ listedOf rec (lists ts ss ls)
   unfolding listedOf after numberOf
   list-short r h s = rw (s, ← c, ← x, h)
 
@@ -121,12 +121,12 @@ module _ (mst xrf : List ℕ) (m : ℕ) (l : Lists) (v : Version) where
   counted-refused : (a : Answer) (rec : List ℕ) → Refusing a → refusedList a ≡ counted a rec
   counted-refused a rec h = rw (after-refused {A = ℕ} a (leaderOf rec .nvf) 0 h)
 
-  version-listed : (a b : Answer) (at : ℕ) → v ≡ versionIf a at (endOf mst) → b ≡ after a (lastly ListTooShort (shortFor (recordFrom mst at) l)) a
+  version-listed : (a b : Answer) (at : ℕ) → v ≡ versionIf a at (endOf mst) → b ≡ after a (lastly NoRoomInList (shortFor (recordFrom mst at) l)) a
       → (listedIn mst v l ≡ counted b (recordFrom mst at)) × (leftIn mst v l ≡ leaves b at (recordFrom mst at) l)
   unfolding listedIn leftIn listedOf leftOf
   version-listed a b at e t =
       let rec : List ℕ = recordFrom mst at in
-      let last : Answer = lastly ListTooShort (shortFor rec l) in (
+      let last : Answer = lastly NoRoomInList (shortFor rec l) in (
         rw (e, t) (version-shows (λ u. listedIn mst u l) (λ c. counted c rec) a last at (endOf mst) refl (counted-refused a rec)),
         rw (e, t) (version-shows (λ u. leftIn mst u l) (λ c. leaves c at rec l) a last at (endOf mst) refl (λ h. sym (after-refused {A = Lists} a _ l h))),
       )
@@ -136,7 +136,7 @@ module _ (mst xrf : List ℕ) (m : ℕ) (l : Lists) (v : Version) where
     unfolding currentVersion allFieldsOf allFieldsLeaves allFieldsAnswer
     current-listed =
         let p : Place = placeFor (store mst xrf) m in
-        version-listed (lowest (onCurrent (store mst xrf) m [])) _ (placeAddress p) e (current-then mst xrf m ListTooShort (shortFor (recordAt mst p) l))
+        version-listed (lowest (onCurrent (store mst xrf) m [])) _ (placeAddress p) e (current-then mst xrf m NoRoomInList (shortFor (recordAt mst p) l))
 
     pub fields-are : (r : Listed) → r ≡ listedIn mst v l → r ≡ allFieldsOf (store mst xrf) m l
     fields-are r s = s ∙ current-listed .0
@@ -150,7 +150,7 @@ module _ (mst xrf : List ℕ) (m : ℕ) (l : Lists) (v : Version) where
     settled-listed =
         let at : ℕ = settledAddress mst (placeFor (store mst xrf) m) in
         rw (← settled-from mst (placeFor (store mst xrf) m))
-        (version-listed (lowest (onSettled (store mst xrf) m [])) _ at e (settled-then mst xrf m ListTooShort (shortFor (recordFrom mst at) l)))
+        (version-listed (lowest (onSettled (store mst xrf) m [])) _ at e (settled-then mst xrf m NoRoomInList (shortFor (recordFrom mst at) l)))
 
     pub settled-fields-are : (r : Listed) → r ≡ listedIn mst v l → r ≡ settledAllFieldsOf (store mst xrf) m l
     settled-fields-are r s = s ∙ settled-listed .0

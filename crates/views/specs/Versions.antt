@@ -23,7 +23,7 @@ use Rattle.store.specs.Store.{Store}
 use Rattle.store.specs.Answer.{refuse, lowest, after}
 use Rattle.store.specs.Reading.{placeFor, isSettled, isChanged, isNew, backAddress}
 use Rattle.store.specs.declared.answer.Answer.{Answer}
-use Rattle.store.specs.declared.answer.Answer.the-variants.{Done, Deleted, NeverSettled, NoField, ListTooShort}
+use Rattle.store.specs.declared.answer.Answer.the-variants.{Done, Deleted, NeverSettled, NoField, NoRoomInList}
 use Rattle.views.specs.Views.{onCurrent, onSettled, settledAddress}
 use Rattle.views.specs.Listing.{Lists, shortFor, counted, leaves}
 use Rattle.views.specs.declared.listing.Listed.{Listed}
@@ -112,10 +112,10 @@ pub record ListedFrom (rec : List ℕ) (at : ℕ) : Type 0 where
   pub fits : at + leaderOf rec .mfrl < 2 ^ 64
 
 unfoldable pub listedOf : List ℕ → Lists → Listed
-listedOf rec l = counted (lastly ListTooShort (shortFor rec l)) rec
+listedOf rec l = counted (lastly NoRoomInList (shortFor rec l)) rec
 
 unfoldable pub leftOf : ℕ → List ℕ → Lists → Lists
-leftOf at rec l = leaves (lastly ListTooShort (shortFor rec l)) at rec l
+leftOf at rec l = leaves (lastly NoRoomInList (shortFor rec l)) at rec l
 
 unfoldable pub listedIn : List ℕ → Version → Lists → Listed
 listedIn mst (Begins at end) l = listedOf (part mst at (end - at)) l

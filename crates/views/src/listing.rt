@@ -47,7 +47,7 @@ fn list_record(
 {
     let n = record::walker::field_count(rec);
     if !all_long(n, tags.len(), starts.len(), lens.len()) {
-        return refused_list(Answer::ListTooShort);
+        return refused_list(Answer::NoRoomInList);
     }
     let count = record::walker::list_fields(rec, at, tags, starts, lens);
     Listed {
