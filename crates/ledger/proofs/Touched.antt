@@ -1,7 +1,7 @@
 -- THE THEOREM: what a call touches. A call that is done touches what soundness says of it; a refused one leaves the store as it was, and so does
 -- one that only reads.
 use Prim.Native.Nat.{ℕ}
-use mathlib.Core.Path.{_≡_, refl, sym}
+use mathlib.Core.Path.{_≡_, refl}
 use mathlib.Core.Logic.{⊎-elim}
 use Rattle.layout.specs.Control.{nextOf}
 use Rattle.store.specs.Store.{Store, store, fieldsIn}
@@ -12,11 +12,10 @@ use Rattle.store.specs.declared.answer.Answer.the-variants.{Done}
 use Rattle.store.proofs.Gates.{after-cases}
 use Rattle.writing.specs.Refusals.{createAnswer, updateAnswer, deleteAnswer, settleAnswer, revertAnswer}
 use Rattle.writing.specs.Calls.{createLeaves, createdMst, createdXrf, updateLeaves, updatedMst, updatedXrf, deleteLeaves, deletedMst, deletedXrf, settleLeaves, settledMst, settledXrf, revertLeaves, revertedXrf}
-use Rattle.soundness.specs.Touching.{MayChange, TouchesOnly, CallsTouchOnly}
+use Rattle.soundness.specs.Touching.{MayChange, TouchesOnly}
 use Rattle.soundness.proofs.Touching.{calls-touch-only, nothing-touched}
-use Rattle.ledger.specs.Call.{Call, format, view, viewSettled, create, update, delete, settle, revert, check}
+use Rattle.ledger.specs.Call.{format, view, viewSettled, create, update, delete, settle, revert, check}
 use Rattle.ledger.specs.StoreRun.{nextS}
-use Rattle.ledger.specs.LedgerOf.{SoundStore}
 use Rattle.ledger.specs.Touched.{mfnOf, Touches}
 
 same-touched : (s s′ : Store) (m : ℕ) → s′ ≡ s → TouchesOnly s s′ m
