@@ -19,4 +19,5 @@ pub mod Others
 pub mod Never
 pub mod Room
 pub mod SettledView
+pub mod Touched
 pub mod Claims

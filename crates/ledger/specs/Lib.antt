@@ -6,3 +6,4 @@ pub mod StoreRun
 pub mod LedgerOf
 pub mod Demand3
 pub mod History
+pub mod Touched

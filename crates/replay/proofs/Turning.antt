@@ -24,6 +24,7 @@ use Rattle.store.specs.declared.answer.Answer.the-variants.{Done, BadLength}
 use Rattle.writing.specs.declared.create.Created.{Created}
 use Rattle.views.specs.declared.views.Shown.{Shown}
 use Rattle.store.proofs.Gates.{Refusing, after-cases, holds, lengths-facts}
+use Rattle.layout.specs.Sizes.{mstMost}
 use Rattle.layout.specs.declared.sizes.Mfn.{Mfn}
 use Rattle.layout.specs.declared.sizes.Tag.{Tag}
 use Rattle.record.specs.declared.fields.Found.{Found}
@@ -77,7 +78,7 @@ no-length z = omega arith
 
 module _ (mst xrf : List ℕ) (sh : Shown) where
   short : (a : Answer) (at : ℕ) (f : Found) → sh ≡ shownAt a at f → (a ≡ Done → lengthsPermitted (store mst xrf) ≡ true) → sh .start + sh .len ≤ length mst
-      → sh .len ≤ 536870400
+      → sh .len ≤ mstMost
   unfolding shownAt
   short a at f e permitted within =
       ⊎-elim
@@ -85,11 +86,11 @@ module _ (mst xrf : List ℕ) (sh : Shown) where
       (λ n. let z : sh .len ≡ 0 = rw e (n .1) in omega arith)
       (after-cases a (foundLength f) 0)
 
-  pub view-short : (m tag occ : ℕ) → sh ≡ viewOf (store mst xrf) m tag occ → sh .start + sh .len ≤ length mst → sh .len ≤ 536870400
+  pub view-short : (m tag occ : ℕ) → sh ≡ viewOf (store mst xrf) m tag occ → sh .start + sh .len ≤ length mst → sh .len ≤ mstMost
   unfolding viewOf viewAnswer
   view-short m tag occ e w = short (viewAnswer (store mst xrf) m tag occ) _ _ e (λ d. holds (lengthsPermitted (store mst xrf)) BadLength _ no-length d .0) w
 
-  pub settled-short : (m tag occ : ℕ) → sh ≡ settledViewOf (store mst xrf) m tag occ → sh .start + sh .len ≤ length mst → sh .len ≤ 536870400
+  pub settled-short : (m tag occ : ℕ) → sh ≡ settledViewOf (store mst xrf) m tag occ → sh .start + sh .len ≤ length mst → sh .len ≤ mstMost
   unfolding settledViewOf settledViewAnswer
   settled-short m tag occ e w = short (settledViewAnswer (store mst xrf) m tag occ) _ _ e (λ d. holds (lengthsPermitted (store mst xrf)) BadLength _ no-length d .0) w
 

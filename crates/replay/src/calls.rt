@@ -7,7 +7,7 @@ ghost use lib.ListN.{length, drop};
 ghost use Rattle.replay.specs.Calls.{callSize, noDraft, countsFit, viewOp, opNamed, draftOf, takenBy, opFitting, opIn};
 
 // The numbers of a call.
-pub const CALL_SIZE: usize = 5;
+pub(crate) const CALL_SIZE: usize = 5;
 
 // How many tags, lengths and bytes a draft takes, or are left.
 pub struct Counts {

@@ -14,6 +14,7 @@ ghost use mathlib.Core.List.{List, [], _∷_};
 ghost use Prim.Native.Nat.{ℕ, _+_, _*_, _≤_};
 ghost use lib.ListN.{length};
 ghost use Rattle.word.specs.Overwrite.{overwrite};
+ghost use Rattle.layout.specs.Sizes.{mstMost};
 ghost use Rattle.store.specs.Answer.{numberOf};
 ghost use Rattle.store.specs.Store.{store};
 ghost use Rattle.ledger.specs.StoreRun.{shownOutcome, answerS};
@@ -55,7 +56,7 @@ pub enum Turn {
 fn ask(mst: &[u8], xrf: &[u8], r: Reading) -> Shown
     ensures is { λ s. ⌜ shownOutcome (now (mst .entry)) s ≡ answerS (store (now (mst .entry)) (now (xrf .entry))) (readingCall r) ⌝ }
     ensures within { λ s. ⌜ s .start + s .len ≤ length (now (mst .entry)) ⌝ }
-    ensures short { λ s. ⌜ s .len ≤ 536870400 ⌝ }
+    ensures short { λ s. ⌜ s .len ≤ mstMost ⌝ }
 {
     match r {
         Reading::View {

@@ -2,8 +2,8 @@
 -- the rulesets below. That a tally with the walk's answer is whether every entry is sound is `walk-decides`.
 use Prim.Native.Nat.{ℕ, _+_, _≤_}
 use native.Mathlib.Omega.{arith}
-use mathlib.Core.Path.{_≡_, refl, sym, ap, _∙_}
-use mathlib.Core.Bool.{Bool, true, false, not, _&&_, cond, and-assoc}
+use mathlib.Core.Path.{_≡_, sym, ap, _∙_}
+use mathlib.Core.Bool.{Bool, true, false, not, cond}
 use mathlib.Core.List.{List, [], _∷_}
 use lib.ListN.{length}
 use borrow.Author.Tests.{not-true, not-false}
@@ -18,7 +18,7 @@ use Rattle.store.specs.declared.answer.Answer.the-variants.{Done, NotSound}
 use Rattle.store.specs.declared.gate.Gate.{Gate}
 use Rattle.store.specs.declared.gate.Gate.the-variants.{Open, Shut}
 use Rattle.store.proofs.Gates.{gated-passes, gate-shut, gate-open, gate-is, opened, open-xrf}
-use Rattle.soundness.specs.Sound.{headsRight, restFree, steps, arrives, entriesSound, bodySound, checkAnswer}
+use Rattle.soundness.specs.Sound.{headsRight, restFree, steps, bodySound, checkAnswer}
 use Rattle.soundness.specs.Passes.{entriesFine, namedTotal, tallyOf, walkOf}
 use Rattle.soundness.specs.declared.passes.Tally.{Tally}
 use Rattle.soundness.specs.declared.passes.Tally.the-variants.{Named, Wrong}

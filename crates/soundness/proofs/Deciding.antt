@@ -19,6 +19,7 @@ use Rattle.layout.proofs.Tests.{tests, and-iff, false-true, not-both, cond-hold
 use Rattle.record.specs.Record.{recordRight, noBack, backRight}
 use Rattle.record.proofs.Facts.{right-facts}
 use Rattle.store.specs.Reading.{mfnInRange, entryFor, isChanged, recordFrom, recordAt, leaderAt, backAddress, backFine, recordFine, settledRecord, settledFine, versionFine}
+use Rattle.store.proofs.Gates.{fine-both, settled-both}
 use Rattle.soundness.specs.Sound.{allTo, elem, implies, steps, arrives, placeSound, entrySound, entriesSound}
 use Rattle.soundness.specs.Passes.{namesOf, entryFine, entriesFine, namedTotal, mfnAt, hit, walkOf}
 use Rattle.soundness.proofs.Stepping.{steps-ascend, elem-none, elem-cases}
@@ -38,19 +39,19 @@ module _ (mst : List ℕ) (m : ℕ) where
     both-fine = and-iff (recordFine mst m p) (versionFine mst m p) .0 f
 
     record-both : (recordRight (recordAt mst p) m (p .deleted) ≡ true) × (backFine (endOf mst) p (leaderAt mst p) ≡ true)
-    unfolding recordFine
-    record-both = and-iff (recordRight (recordAt mst p) m (p .deleted)) (backFine (endOf mst) p (leaderAt mst p)) .0 (both-fine .0)
+    record-both =
+        and-iff (recordRight (recordAt mst p) m (p .deleted)) (backFine (endOf mst) p (leaderAt mst p)) .0 (rw (fine-both mst m p) at (both-fine .0))
 
     place-own : mfnAt mst (placeAddress p) ≡ m
     place-own = right-own (placeAddress p) (p .deleted) (record-both .0)
 
     module _ (c : isChanged (p .mark) ≡ true) where
       back-own : mfnAt mst (backAddress (leaderAt mst p)) ≡ m
-      unfolding versionFine settledFine
+      unfolding versionFine
       back-own =
           right-own (backAddress (leaderAt mst p)) false
           (and-iff (recordRight (settledRecord mst p) m false) (noBack (leaderOf (settledRecord mst p))) .0
-          (cond-holds (isChanged (p .mark)) (settledFine mst m p) (both-fine .1) c) .0)
+          (rw (settled-both mst m p) at (cond-holds (isChanged (p .mark)) (settledFine mst m p) (both-fine .1) c)) .0)
 
       back-other : placeAddress p ≡ backAddress (leaderAt mst p) → ⊥
       unfolding backFine

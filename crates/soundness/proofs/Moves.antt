@@ -33,7 +33,7 @@ use Rattle.record.specs.Fields.{Field, fieldsOf}
 use Rattle.record.specs.Record.{recordRight, noBack, backRight}
 use Rattle.record.proofs.Local.{ReadsAs, reads-mfn, reads-window}
 use Rattle.store.specs.Reading.{lengthsPermitted, controlFine, entryFor, recordFrom, recordAt, leaderAt, backAddress, backFine, recordFine, settledRecord, settledFine, currentFields}
-use Rattle.store.proofs.Gates.{fine-facts, BackFacts, back-changed, settled-facts, fine-reads, settled-fine-reads}
+use Rattle.store.proofs.Gates.{fine-both, settled-both, fine-facts, BackFacts, back-changed, settled-facts, fine-reads, settled-fine-reads}
 use Rattle.soundness.specs.Sound.{elem, mfrlAt, steps, arrives}
 use Rattle.soundness.specs.Touching.{MayChange, control-integer, own-record, new-byte, TouchesOnly}
 use Rattle.soundness.proofs.Stepping.{MemberFacts, member-facts, steps-apart, mfrl-kept, MfrlKept, steps-same, arrives-same, arrives-append, elem-kept, elem-new}
@@ -114,13 +114,11 @@ back-later end end′ p l h e = let q = simp tests at e in simp tests (back-righ
 
 pub fine-from : (mst : List ℕ) (m : ℕ) (p : Place) → recordRight (recordAt mst p) m (p .deleted) ≡ true → backFine (endOf mst) p (leaderAt mst p) ≡ true
     → recordFine mst m p ≡ true
-unfolding recordFine
-fine-from mst m p a b = simp tests (a, b)
+fine-from mst m p a b = rw (fine-both mst m p, a, b)
 
 pub settled-from : (mst : List ℕ) (m : ℕ) (p : Place) → recordRight (settledRecord mst p) m false ≡ true → noBack (leaderOf (settledRecord mst p)) ≡ true
     → settledFine mst m p ≡ true
-unfolding settledFine
-settled-from mst m p a b = simp tests (a, b)
+settled-from mst m p a b = rw (settled-both mst m p, a, b)
 
 -- what is read of a place that stands, and of its settled version
 pub place-reads : {mst : List ℕ} {m : ℕ} {p : Place} → PlaceStands mst m p → ReadsAs (recordAt mst p) m (p .deleted) (leaderAt mst p) (currentFields mst p)
