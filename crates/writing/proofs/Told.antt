@@ -6,6 +6,7 @@ use mathlib.Core.Bool.{Bool, true, false, not}
 use mathlib.Core.List.{List}
 use lib.ListN.{length}
 use borrow.Author.Tests.{not-false}
+use Rattle.layout.specs.Sizes.{fieldsMost, recordMost}
 use Rattle.layout.specs.Control.{endOf}
 use Rattle.layout.specs.declared.sizes.Mfn.{Mfn}
 use Rattle.layout.specs.declared.entry.Place.{Place}
@@ -21,11 +22,11 @@ pub need-low : (fields size : ℕ) → 18 ≤ needOf fields size
 unfolding needOf
 need-low fields size = omega arith
 
-few-fields : (n s : ℕ) → needOf n s ≤ 32766 → n ≤ 5458
+few-fields : (n s : ℕ) → needOf n s ≤ recordMost → n ≤ fieldsMost
 unfolding needOf
 few-fields n s h = omega arith
 
-small-data : (n s : ℕ) → needOf n s ≤ 32766 → s ≤ 32766
+small-data : (n s : ℕ) → needOf n s ≤ recordMost → s ≤ recordMost
 unfolding needOf
 small-data n s h = omega arith
 

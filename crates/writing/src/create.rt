@@ -11,7 +11,7 @@ ghost use mathlib.Core.Bool.{true};
 ghost use Prim.Native.Nat.{_+_, _/_, _%_, _≤_};
 ghost use lib.ListN.{length};
 ghost use Rattle.layout.specs.Control.{nextOf};
-ghost use Rattle.layout.specs.Sizes.{blockAt, offsetAt};
+ghost use Rattle.layout.specs.Sizes.{mstMost, mfnMost, blockAt, offsetAt};
 ghost use Rattle.layout.specs.Entry.{placed};
 ghost use Rattle.record.specs.Draft.{needOf, draftRight, draftFields};
 ghost use Rattle.writing.specs.Calls.{appended, createdMst, createdXrf, createOf, createLeaves};
@@ -72,7 +72,7 @@ fn plan_create(mst: &[u8], xrf: &[u8], tags: &[u16], lens: &[u16], data: &[u8]) 
 
 // The place at the end.
 pub(crate) fn end_place(end: usize, deleted: bool, mark: Mark) -> Place
-    requires { ⌜ end ≤ 536870400 ⌝ }
+    requires { ⌜ end ≤ mstMost ⌝ }
     ensures is { λ r. ⌜ r ≡ placed (blockAt end) (offsetAt end) deleted mark ⌝ }
     ensures numbers { λ r. ⌜ (r .block .0 ≡ end / 512 + 1) × (r .offset ≡ end % 512) ⌝ }
 {
@@ -127,7 +127,7 @@ fn create_at_end(
     lens: &[u16],
     data: &[u8],
 )
-    requires { ⌜ (HasSlot (now xrf) (next .0)) × (next .0 ≡ nextOf (now mst)) × (next .0 ≤ 520192) ⌝ }
+    requires { ⌜ (HasSlot (now xrf) (next .0)) × (next .0 ≡ nextOf (now mst)) × (next .0 ≤ mfnMost) ⌝ }
     requires { ⌜ (AtEnd (now mst) end need) × (need ≡ needOf (length (now tags)) (length (now «data»))) ⌝ }
     requires { ⌜ DraftFits (now tags) (now lens) (now «data») ⌝ }
     ensures master { λ _. ⌜ now (mst .exit) ≡ createdMst (now (mst .entry)) (draftFields (now (tags .entry)) (now (lens .entry)) (now («data» .entry))) ⌝ }

@@ -11,6 +11,7 @@ ghost use mathlib.Core.Path.{_≡_};
 ghost use mathlib.Core.Bool.{true, false};
 ghost use Prim.Native.Nat.{_+_, _≤_};
 ghost use lib.ListN.{length};
+ghost use Rattle.layout.specs.Sizes.{mstMost, recordMost, fieldsMost};
 ghost use Rattle.layout.specs.Control.{endOf};
 ghost use Rattle.layout.specs.CrossReference.{withEntry};
 ghost use Rattle.layout.specs.Entry.{placed, placeAddress};
@@ -58,7 +59,7 @@ fn plan_room(
     place: Place,
     leader: Leader,
 ) -> Plan
-    requires { ⌜ (end ≤ 536870400) × (need ≤ 65536) ⌝ }
+    requires { ⌜ (end ≤ mstMost) × (need ≤ 65536) ⌝ }
     ensures { λ r. ⌜ r ≡ roomPlan room end need appends place leader ⌝ }
 {
     if appends {
@@ -110,7 +111,7 @@ fn plan_update(mst: &[u8], xrf: &[u8], m: Mfn, tags: &[u16], lens: &[u16], data:
 // The need of the fields of a record that was found.
 fn own_need(mst: &[u8], end: usize, place: Place, leader: Leader) -> usize
     requires { ⌜ RecordRead (now mst) end place leader ⌝ }
-    ensures { λ r. ⌜ (r ≡ needFor (currentFields (now (mst .entry)) place)) × (18 ≤ r) × (r ≤ 32766) ⌝ }
+    ensures { λ r. ⌜ (r ≡ needFor (currentFields (now (mst .entry)) place)) × (18 ≤ r) × (r ≤ recordMost) ⌝ }
 {
     let at = layout::entry::place_address(place);
     record::draft::need(
@@ -151,7 +152,7 @@ fn version_leader(
     deleted: bool,
     nvf: u16,
 ) -> Leader
-    requires { ⌜ nvf ≤ 5458 ⌝ }
+    requires { ⌜ nvf ≤ fieldsMost ⌝ }
     ensures is { λ r. ⌜ r ≡ versionLeader (m .0) place leader mfrl deleted nvf ⌝ }
     ensures mfrl { λ r. ⌜ r .mfrl ≡ mfrl ⌝ }
 {
