@@ -20,7 +20,7 @@ use Rattle.word.specs.Signed.{signedOf, bitsOf}
 use Rattle.word.proofs.TwosComplement.{back-of}
 use Rattle.layout.specs.Sizes.{mstBlocks, recordMost, tagMost, offsetMost, blocksWithin, mstPermitted, xrfPermitted, addressOf, blockAt, offsetAt, endMoved, recordLength, tagPermitted}
 use Rattle.layout.specs.Entry.{wellPlaced, markedPlace, placeOf, markBits, entryOf, encodeOf}
-use Rattle.layout.specs.Control.{storedOffset, readOffset, nextOf, endOf, numbersRight, endRight, controlRight, withNext, withEnd, formattedMst}
+use Rattle.layout.specs.Control.{offsetsFrom, storedOffset, readOffset, nextOf, endOf, numbersRight, endRight, controlRight, withNext, withEnd, formattedMst}
 use Rattle.layout.specs.CrossReference.{xrfBlock, slotAt, headBits, headRight, slotFree, entryAt, withEntry, withHeads, formattedXrf}
 use Rattle.layout.specs.Leader.{leaderBytes, leaderOf}
 use Rattle.layout.specs.Inner.{controlOf, firstBytes}
@@ -229,12 +229,16 @@ module _ (mst : List ℕ) where
         unfolding endRight
         control-block h = let q = simp tests at (sym f ∙ not-false end h) in q .0 .0 .0 .0
 
+        pub control-offset : not end ≡ false → offsetsFrom ≤ u16At mst 12
+        unfolding endRight
+        control-offset h = let q = simp tests at (sym f ∙ not-false end h) in omega arith
+
         pub control-right : (n r : ℕ) → not numbers ≡ false → not end ≡ false → n ≡ u32At mst 4 → r ≡ endOf mst → Right (record { 0 = n }) r ≡ controlOf mst capacity
         unfolding controlOf controlRight nextOf
         control-right n r h i p q = rw (← e, ← f, not-false numbers h, not-false end i, p, q)
 
 pub ruleset control-answers =
-    (number-wrong, type-wrong, next-none, next-rest, end-no-block, end-is, end-odd, end-late, end-low, end-rest, control-short, control-numbers, control-end, control-block, control-right, arith)
+    (number-wrong, type-wrong, next-none, next-rest, end-no-block, end-is, end-odd, end-late, end-low, end-rest, control-short, control-numbers, control-end, control-block, control-offset, control-right, arith)
 
 -- ---- the cross-reference file
 

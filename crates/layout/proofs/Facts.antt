@@ -1,15 +1,22 @@
 -- The tests of `specs/` as facts on numbers: a test that came out true gives a record of facts, and the facts give the test back. Callers
 -- read the records and never the tests. Besides, addresses as blocks and offsets, and where the end moves.
-use Prim.Native.Nat.{ℕ, _+_, _*_, _/_, _%_, _≤_, _<_}
+use Prim.Native.Nat.{ℕ, _+_, _*_, _-_, _/_, _%_, _^_, _≤_, _<_}
 use native.Mathlib.Omega.{arith}
-use mathlib.Core.Path.{_≡_}
+use mathlib.Core.Path.{_≡_, refl}
 use mathlib.Core.Logic.{⊎-elim}
 use mathlib.Core.Bool.{true}
 use borrow.Author.Tests.{le-leb, lt-leb}
 use Rattle.word.proofs.Overwrite.{lt-or-ge}
-use Rattle.layout.specs.Sizes.{mstBlocks, mstMost, recordMost, tagMost, offsetMost, blocksWithin, addressOf, blockAt, offsetAt, endMoved, recordLength, tagPermitted}
+use Rattle.layout.specs.Sizes.{mstBlocks, xrfBlocks, mstMost, xrfMost, mfnMost, recordMost, fieldsMost, tagMost, offsetMost, addressLimit, blocksWithin, addressOf, blockAt, offsetAt, endMoved, recordLength, tagPermitted}
 use Rattle.layout.specs.Entry.{wellPlaced}
 use Rattle.layout.proofs.Tests.{tests}
+
+-- ---- limits
+
+-- each limit as document 01 gives it: by blocks of 512 bytes, 127 MFNs a block, a leader of 18 bytes and entries of 6, and 32 bits for a block
+pub limits-are : (mstMost ≡ 512 * mstBlocks) × (xrfMost ≡ 512 * xrfBlocks) × (mfnMost ≡ 127 * xrfBlocks) × (18 + 6 * fieldsMost ≡ recordMost)
+    × (addressLimit ≡ 512 * (2 ^ 32 - 1))
+limits-are = (refl, refl, refl, refl, refl)
 
 -- ---- lengths of the two files
 

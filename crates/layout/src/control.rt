@@ -8,10 +8,10 @@ ghost use mathlib.Core.Path.{_≡_};
 ghost use mathlib.Core.Bool.{true};
 ghost use Prim.Native.Nat.{_+_, _≤_, _<_};
 ghost use lib.ListN.{length};
-ghost use Rattle.word.specs.Integer.{u32At};
+ghost use Rattle.word.specs.Integer.{u16At, u32At};
 ghost use Rattle.layout.specs.Sizes.{addressLimit, mstPermitted};
 ghost use Rattle.layout.specs.Inner.{controlOf};
-ghost use Rattle.layout.specs.Control.{endOf, numbersRight, endRight, withNext, withEnd, formattedMst};
+ghost use Rattle.layout.specs.Control.{offsetsFrom, endOf, numbersRight, endRight, withNext, withEnd, formattedMst};
 
 // NXTMFP counts the end's offset from here.
 const OFFSETS_FROM: u16 = 0;
@@ -41,7 +41,7 @@ fn numbers_right(mst: &[u8], capacity: usize) -> bool
 
 // The end that the control record gives; its block counts from 1.
 fn end_of(mst: &[u8]) -> usize
-    requires { ⌜ (64 ≤ length (now mst)) × (1 ≤ u32At (now mst) 8) ⌝ }
+    requires { ⌜ (64 ≤ length (now mst)) × (1 ≤ u32At (now mst) 8) × (offsetsFrom ≤ u16At (now mst) 12) ⌝ }
     ensures { λ r. ⌜ r ≡ endOf (now (mst .entry)) ⌝ }
 {
     crate::sizes::address(Block(u32_at(mst, 8)), u16_at(mst, 12) - OFFSETS_FROM)

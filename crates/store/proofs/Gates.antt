@@ -11,7 +11,7 @@ use borrow.Author.Tests.{lt-ltb, le-leb, eqb-true, eqb-false, eq-eqb, ne-eqb, no
 use lib.ListN.{length}
 use Rattle.word.specs.Overwrite.{part}
 use Rattle.word.proofs.Overwrite.{part-short}
-use Rattle.layout.specs.Sizes.{mstPermitted, xrfPermitted, capacityOf}
+use Rattle.layout.specs.Sizes.{mstMost, xrfMost, mstBlocks, mstPermitted, xrfPermitted, capacityOf}
 use Rattle.layout.specs.Entry.{wellPlaced, placed, placeAddress}
 use Rattle.layout.specs.Control.{nextOf, endOf}
 use Rattle.layout.specs.CrossReference.{entryAt}
@@ -164,10 +164,10 @@ gate-shut mst xrf a e =
 pub record LengthsFacts (mst xrf : List ℕ) : Type 0 where
   pub mst-whole : length mst % 512 ≡ 0
   pub mst-low : 512 ≤ length mst
-  pub mst-high : length mst ≤ 536870400
+  pub mst-high : length mst ≤ mstMost
   pub xrf-whole : length xrf % 512 ≡ 0
   pub xrf-low : 512 ≤ length xrf
-  pub xrf-high : length xrf ≤ 2097152
+  pub xrf-high : length xrf ≤ xrfMost
 
 pub lengths-both : (mst xrf : List ℕ) → lengthsPermitted (store mst xrf) ≡ true → (mstPermitted (length mst) ≡ true) × (xrfPermitted (length xrf) ≡ true)
 unfolding lengthsPermitted
@@ -176,7 +176,7 @@ lengths-both mst xrf e = simp tests at e
 pub lengths-facts : (mst xrf : List ℕ) → lengthsPermitted (store mst xrf) ≡ true → LengthsFacts mst xrf
 lengths-facts mst xrf e =
     let q = lengths-both mst xrf e in
-    let f = blocks-facts 1048575 (length mst) (q .0) in
+    let f = blocks-facts mstBlocks (length mst) (q .0) in
     let g = blocks-facts 4096 (length xrf) (q .1) in
     record {
       mst-whole = f .whole;
@@ -233,7 +233,7 @@ module _ (mst xrf : List ℕ) (next : Mfn) (end : ℕ) (g : gateOf (store mst xr
   pub open-end-in : end ≤ length mst
   open-end-in = let f = gate-open mst xrf next end g in omega arith
 
-  pub open-xrf : length xrf ≤ 2097152
+  pub open-xrf : length xrf ≤ xrfMost
   open-xrf = gate-open mst xrf next end g .sizes .xrf-high
 
   pub open-capacity : (m : ℕ) → m < next .0 → m ≤ capacityOf (length xrf)

@@ -8,6 +8,7 @@ use denote.Enum.Declared.{tagOf}
 use types.Run.{OneOf, miss}
 use lib.ListN.{length}
 use borrow.Author.Tests.{not-false}
+use Rattle.layout.specs.Sizes.{fieldsMost, recordMost}
 use Rattle.layout.specs.Control.{endOf}
 use Rattle.layout.specs.declared.sizes.Mfn.{Mfn}
 use Rattle.layout.specs.declared.entry.Place.{Place}
@@ -32,11 +33,11 @@ pub need-low : (fields size : ℕ) → 18 ≤ needOf fields size
 unfolding needOf
 need-low fields size = omega arith
 
-few-fields : (n s : ℕ) → needOf n s ≤ 32766 → n ≤ 5458
+few-fields : (n s : ℕ) → needOf n s ≤ recordMost → n ≤ fieldsMost
 unfolding needOf
 few-fields n s h = omega arith
 
-small-data : (n s : ℕ) → needOf n s ≤ 32766 → s ≤ 32766
+small-data : (n s : ℕ) → needOf n s ≤ recordMost → s ≤ recordMost
 unfolding needOf
 small-data n s h = omega arith
 

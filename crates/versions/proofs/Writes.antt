@@ -10,7 +10,7 @@ use lib.ListN.{length, replicate, length-take, length-drop, length-append}
 use borrow.Rule.Slice.PartMut.{midOf, putMid}
 use Rattle.word.specs.Overwrite.{overwrite}
 use Rattle.word.proofs.Overwrite.{returned-front, returned-tail, tail-back}
-use Rattle.layout.specs.Sizes.{capacityOf, blockAt, offsetAt, endMoved}
+use Rattle.layout.specs.Sizes.{addressLimit, recordMost, mstMost, mstBlocks, capacityOf, blockAt, offsetAt, endMoved}
 use Rattle.layout.specs.Entry.{placed, placeAddress}
 use Rattle.layout.specs.Control.{nextOf, endOf, withNext, withEnd}
 use Rattle.layout.specs.CrossReference.{withEntry}
@@ -55,7 +55,7 @@ module _ (mst : List ℕ) (end : ℕ) (l : Leader) (a : AtEnd mst end (l .mfrl))
   pub control-kept : (ys : List ℕ) → length ys ≡ length (midOf end (length mst - end) mst) → 64 ≤ length (putMid end (length mst - end) mst ys)
   control-kept ys e = omega (arith, tail-kept mst end ys (omega arith) e)
 
-  pub end-small : (moved : ℕ) → moved ≡ endMoved (end + l .mfrl) → moved < 2199023255040
+  pub end-small : (moved : ℕ) → moved ≡ endMoved (end + l .mfrl) → moved < addressLimit
   end-small moved e = omega (arith, end-moved-facts (end + l .mfrl))
 
   pub draft-appended : (tail last : List ℕ) (moved : ℕ) (fs : List Field) → tail ≡ overwrite (midOf end (length mst - end) mst) 0 (recordBytes l fs)
@@ -90,7 +90,7 @@ module _ (mst : List ℕ) (end : ℕ) (p : Place) (l : Leader) (r : RecordRead m
   pub own-count : l .nvf ≡ length (currentFields mst p)
   own-count = rw (r .leader-is) (sym (fields-count (recordAt mst p)))
 
-  pub own-small : needFor (currentFields mst p) ≤ 32766
+  pub own-small : needFor (currentFields mst p) ≤ recordMost
   own-small = readable-draftable (recordAt mst p) own-readable .need
 
   -- as it is lent up to the end
@@ -126,7 +126,7 @@ module _ (mst : List ℕ) (end : ℕ) (p : Place) (l : Leader) (r : RecordRead m
       pub own-counted : (l .nvf ≤ 65535) × (size ≤ 65535)
       own-counted = omega (arith, own-size, data-within (recordAt mst p) own-readable, own-readable .short)
 
-      pub own-need : (n : ℕ) → n ≡ needOf (l .nvf) size → (n ≡ needFor (currentFields mst p)) × (18 ≤ n) × (n ≤ 32766)
+      pub own-need : (n : ℕ) → n ≡ needOf (l .nvf) size → (n ≡ needFor (currentFields mst p)) × (18 ≤ n) × (n ≤ recordMost)
       own-need n h =
           let is : n ≡ needFor (currentFields mst p) = rw (h, own-size, own-count) in
           (is, rw is (need-low _ _), rw is own-small)
@@ -217,12 +217,12 @@ pub end-placed : (b : Block) (offset end : ℕ) (deleted : Bool) (k : Mark) → 
     × ((b .0 ≡ end / 512 + 1) × (offset ≡ end % 512))
 end-placed b offset end deleted k e f = (rw (← e, f), (e, f))
 
-pub end-asked : (mst : List ℕ) (end size : ℕ) → AtEnd mst end size → end ≤ 536870400
+pub end-asked : (mst : List ℕ) (end size : ℕ) → AtEnd mst end size → end ≤ mstMost
 end-asked mst end size a = omega arith
 
 module _ (mst xrf : List ℕ) (m end : ℕ) (q : Place) where
   pub entry-asked : (size : ℕ) → HasSlot xrf m → AtEnd mst end size → q .block .0 ≡ end / 512 + 1 → q .offset ≡ end % 512
-      → ((1 ≤ m) × (m ≤ capacityOf (length xrf))) × ((1 ≤ q .block .0) × (q .block .0 ≤ 1048575) × (q .offset ≤ 498))
+      → ((1 ≤ m) × (m ≤ capacityOf (length xrf))) × ((1 ≤ q .block .0) × (q .block .0 ≤ mstBlocks) × (q .offset ≤ 498))
   entry-asked size s a b o = ((s .low, s .high), (omega arith, omega arith, omega arith))
 
   pub entered : (last : List ℕ) (deleted : Bool) (k k′ : Mark) (size : ℕ) → AtEnd mst end size → k ≡ k′ → q ≡ placed (blockAt end) (offsetAt end) deleted k → last ≡ withEntry xrf m q

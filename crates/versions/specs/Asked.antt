@@ -5,7 +5,7 @@ use mathlib.Core.Path.{_≡_}
 use mathlib.Core.Bool.{true}
 use mathlib.Core.List.{List}
 use lib.ListN.{length}
-use Rattle.layout.specs.Sizes.{capacityOf}
+use Rattle.layout.specs.Sizes.{mstMost, fieldsMost, recordMost, mstBlocks, capacityOf}
 use Rattle.layout.specs.Control.{endOf}
 use Rattle.layout.specs.Entry.{placeAddress}
 use Rattle.layout.specs.declared.entry.Place.{Place}
@@ -26,26 +26,26 @@ pub record AtEnd (mst : List ℕ) (end size : ℕ) : Type 0 where
   pub offset : end % 512 ≤ 498
   pub some : 18 ≤ size
   pub room : end + size ≤ length mst
-  pub blocks : length mst ≤ 536870400
+  pub blocks : length mst ≤ mstMost
 
 -- a draft is right
 pub record DraftFits (tags lens bytes : List ℕ) : Type 0 where
   pub right : draftRight tags lens bytes ≡ true
-  pub few : length tags ≤ 5458
-  pub small : length bytes ≤ 32766
+  pub few : length tags ≤ fieldsMost
+  pub small : length bytes ≤ recordMost
   pub low : 18 ≤ needOf (length tags) (length bytes)
-  pub high : needOf (length tags) (length bytes) ≤ 32766
+  pub high : needOf (length tags) (length bytes) ≤ recordMost
 
 -- the record at a place, before the end, has a leader and is right
 pub record RecordRead (mst : List ℕ) (end : ℕ) (p : Place) (l : Leader) : Type 0 where
   pub end-is : end ≡ endOf mst
   pub end-in : end ≤ length mst
   pub block : 1 ≤ p .block .0
-  pub block-fits : p .block .0 ≤ 1048575
+  pub block-fits : p .block .0 ≤ mstBlocks
   pub offset : p .offset ≤ 498
   pub place-in : placeAddress p + 18 ≤ end
   pub leader-is : l ≡ leaderAt mst p
   pub right : recordRight (recordAt mst p) (l .mfn .0) (p .deleted) ≡ true
   pub record-in : placeAddress p + l .mfrl ≤ end
-  pub short : l .mfrl ≤ 32766
-  pub few : l .nvf ≤ 5458
+  pub short : l .mfrl ≤ recordMost
+  pub few : l .nvf ≤ fieldsMost

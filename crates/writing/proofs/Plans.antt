@@ -10,7 +10,7 @@ use lib.ListN.{length}
 use borrow.Author.Tests.{lt-ltb, le-ltb, eq-eqb, ne-eqb, not-true, not-false}
 use denote.Enum.Declared.{tagOf}
 use types.Run.{OneOf, miss}
-use Rattle.layout.specs.Sizes.{capacityOf}
+use Rattle.layout.specs.Sizes.{mstMost, recordMost, capacityOf}
 use Rattle.layout.specs.Control.{nextOf, endOf}
 use Rattle.layout.specs.CrossReference.{xrfBlock, headRight, slotFree}
 use Rattle.layout.specs.declared.sizes.Mfn.{Mfn}
@@ -70,11 +70,11 @@ not-done NoRoomInList v = λ z. omega arith
 
 -- what is asked behind an open gate
 module _ (mst xrf : List ℕ) (g : Gate) (p : g ≡ gateOf (store mst xrf)) (next : Mfn) (end : ℕ) (q : g ≡ Open next end) where
-  pub room-asked : (need : ℕ) → need ≤ 32766 → (end ≤ 536870400) × (need ≤ 65536)
+  pub room-asked : (need : ℕ) → need ≤ recordMost → (end ≤ mstMost) × (need ≤ 65536)
   room-asked need h = let o = opened mst xrf g p next end q in (omega arith, omega arith)
 
   pub draft-room-asked : (tags lens bytes : List ℕ) (d : Bool) (need : ℕ) → d ≡ draftRight tags lens bytes → not d ≡ false
-      → need ≡ needOf (length tags) (length bytes) → (end ≤ 536870400) × (need ≤ 65536)
+      → need ≡ needOf (length tags) (length bytes) → (end ≤ mstMost) × (need ≤ 65536)
   draft-room-asked tags lens bytes d need e h n =
       let f = draft-fits tags lens bytes (sym e ∙ not-false d h) in
       room-asked need (omega arith)
@@ -303,7 +303,7 @@ module _ (mst xrf : List ℕ) (m : ℕ) (r : Reached) (p : r ≡ reachedOf (stor
       pub own-need-asked : RecordRead mst end pl l
       own-need-asked = rw (reached .0) (read-known mst xrf m _ (endOf mst) (reached .1 .gate) pl l (reached .1 .found))
 
-      pub own-room-asked : (need : ℕ) → (need ≡ needFor (currentFields mst pl)) × (18 ≤ need) × (need ≤ 32766) → (end ≤ 536870400) × (need ≤ 65536)
+      pub own-room-asked : (need : ℕ) → (need ≡ needFor (currentFields mst pl)) × (18 ≤ need) × (need ≤ recordMost) → (end ≤ mstMost) × (need ≤ 65536)
       own-room-asked need h = let o = reached .1 .gate in let e = reached .0 in let k = h .2 in (omega arith, omega arith)
 
       pub delete-in-place : OneOf (1 ∷ 2 ∷ []) (tagOf mark.the-type (pl .mark)) → NewVersion end pl l false ≡ deletePlan (store mst xrf) m

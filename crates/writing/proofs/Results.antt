@@ -9,7 +9,7 @@ use mathlib.Core.List.{List}
 use lib.Dec.{eqb}
 use lib.ListN.{length}
 use borrow.Author.Tests.{eqb-false, ltb-false, not-false}
-use Rattle.layout.specs.Sizes.{mstPermitted, xrfPermitted, capacityOf}
+use Rattle.layout.specs.Sizes.{mfnMost, mstBlocks, mstPermitted, xrfPermitted, capacityOf}
 use Rattle.layout.specs.Entry.{placed, placeAddress}
 use Rattle.layout.specs.Control.{nextOf, endOf, formattedMst}
 use Rattle.layout.specs.CrossReference.{xrfBlock, headRight, slotFree, withEntry, formattedXrf}
@@ -110,7 +110,7 @@ module _ (mst xrf tags lens bytes : List ℕ) (plan : Creating) (p : plan ≡ cr
         let r = passed (exceeds mst (needFor (draftFields tags lens bytes))) NoRoom Done (λ z. omega arith) (s .1) in
         (open-from mst xrf next end (g .0) (g .1) (ap (λ (n : Mfn). n .0) (w .1)) (w .2), not-false _ (d .0), f .0, r .0)
 
-    pub create-asks : (HasSlot xrf (next .0) × (next .0 ≡ nextOf mst) × (next .0 ≤ 520192))
+    pub create-asks : (HasSlot xrf (next .0) × (next .0 ≡ nextOf mst) × (next .0 ≤ mfnMost))
         × ((AtEnd mst end need × (need ≡ needOf (length tags) (length bytes))) × DraftFits tags lens bytes)
     unfolding exceeds
     create-asks =
@@ -386,7 +386,7 @@ module _ (mst xrf : List ℕ) (m : ℕ) (k : Reached) (u : k ≡ revertPlan (sto
           rw (a .2) at (only-changed (placeFor (store mst xrf) m .mark) (x .0) (y .0)),
         )
 
-    pub revert-asks : ((1 ≤ m) × (m ≤ capacityOf (length xrf))) × ((1 ≤ l .mfbwb .0) × (l .mfbwb .0 ≤ 1048575) × (l .mfbwp ≤ 498))
+    pub revert-asks : ((1 ≤ m) × (m ≤ capacityOf (length xrf))) × ((1 ≤ l .mfbwb .0) × (l .mfbwb .0 ≤ mstBlocks) × (l .mfbwp ≤ 498))
     revert-asks =
         let c = revert-passed in
         let o = c .0 .gate in

@@ -6,7 +6,7 @@ use mathlib.Core.Bool.{Bool, not, _&&_, cond}
 use mathlib.Core.List.{List, [], _∷_}
 use lib.Dec.{eqb, ltb}
 use lib.ListN.{length}
-use Rattle.layout.specs.Sizes.{capacityOf}
+use Rattle.layout.specs.Sizes.{xrfMost, mstMost, recordMost, capacityOf}
 use Rattle.layout.specs.CrossReference.{xrfBlock, headRight, slotFree}
 use Rattle.layout.specs.Control.{nextOf, endOf}
 use Rattle.layout.specs.declared.entry.Place.{Place}
@@ -46,10 +46,10 @@ pub record SlotAsked (mst xrf : List ℕ) (next end need : ℕ) : Type 0 where
   pub next-is : next ≡ nextOf mst
   pub low : 1 ≤ next
   pub high : next ≤ capacityOf (length xrf) + 1
-  pub blocks : length xrf ≤ 2097152
+  pub blocks : length xrf ≤ xrfMost
   pub end-is : end ≡ endOf mst
-  pub end-in : end ≤ 536870400
-  pub small : need ≤ 32766
+  pub end-in : end ≤ mstMost
+  pub small : need ≤ recordMost
 
 -- NXTMFN, the end and the need of a create whose answer is done
 unfoldable pub createPlan : Store → Draft → Creating
