@@ -239,7 +239,7 @@ mod tests {
                     xrf[at % 40] ^= bit;
                     model_xrf[at % 40] ^= bit;
                 }
-                call = lists::call_or_field(&mut random, Taste::SHORT, 12);
+                call = lists::any_call(&mut random, Taste::SHORT, 12);
             }
         }
     }
