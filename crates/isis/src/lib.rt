@@ -8,6 +8,8 @@ ghost use Rattle.writing.specs.Refusals.{formatAnswer, updateAnswer, deleteAnsw
 ghost use Rattle.writing.specs.Calls.{formatLeaves, createOf, createLeaves, updateLeaves, deleteLeaves, settleLeaves, revertLeaves};
 ghost use Rattle.views.specs.Views.{viewOf, settledViewOf};
 ghost use Rattle.views.specs.Fields.{fieldOf, settledFieldOf};
+ghost use Rattle.views.specs.Listing.{lists, allFieldsOf, allFieldsLeaves, settledAllFieldsOf, settledAllFieldsLeaves};
+ghost use Rattle.views.specs.State.{nextFreeOf, stateOf, markNumber, deletedNumber};
 ghost use Rattle.soundness.specs.Sound.{checkAnswer};
 ghost use Rattle.store.specs.Store.{store, draft};
 
@@ -108,6 +110,83 @@ pub extern "C" fn isis_field_settled(
     *tag = shown.tag.0;
     *start = shown.start;
     *len = shown.len;
+    let a = shown.answer;
+    number(a)
+}
+
+// All fields of the current version: their tags, and where they lie in the MST, in three lists; how many they are goes to `count`.
+#[no_mangle]
+pub extern "C" fn isis_fields(
+    mst: &[u8],
+    xrf: &[u8],
+    mfn: u32,
+    tags: &mut [u16],
+    starts: &mut [usize],
+    lens: &mut [usize],
+    count: &mut usize,
+) -> u32
+    ensures answers { λ r. ⌜ r ≡ numberOf (allFieldsOf (store (now (mst .entry)) (now (xrf .entry))) mfn (lists (now (tags .entry)) (now (starts .entry)) (now (lens .entry))) .answer) ⌝ }
+    ensures counts { λ _. ⌜ now (count .exit) ≡ allFieldsOf (store (now (mst .entry)) (now (xrf .entry))) mfn (lists (now (tags .entry)) (now (starts .entry)) (now (lens .entry))) .count ⌝ }
+    ensures left { λ _. ⌜ lists (now (tags .exit)) (now (starts .exit)) (now (lens .exit)) ≡ allFieldsLeaves (store (now (mst .entry)) (now (xrf .entry))) mfn (lists (now (tags .entry)) (now (starts .entry)) (now (lens .entry))) ⌝ }
+{
+    let listed = views::listing::fields(mst, xrf, Mfn(mfn), tags, starts, lens);
+    *count = listed.count;
+    let a = listed.answer;
+    number(a)
+}
+
+// The same for the settled version.
+#[no_mangle]
+pub extern "C" fn isis_fields_settled(
+    mst: &[u8],
+    xrf: &[u8],
+    mfn: u32,
+    tags: &mut [u16],
+    starts: &mut [usize],
+    lens: &mut [usize],
+    count: &mut usize,
+) -> u32
+    ensures answers { λ r. ⌜ r ≡ numberOf (settledAllFieldsOf (store (now (mst .entry)) (now (xrf .entry))) mfn (lists (now (tags .entry)) (now (starts .entry)) (now (lens .entry))) .answer) ⌝ }
+    ensures counts { λ _. ⌜ now (count .exit) ≡ settledAllFieldsOf (store (now (mst .entry)) (now (xrf .entry))) mfn (lists (now (tags .entry)) (now (starts .entry)) (now (lens .entry))) .count ⌝ }
+    ensures left { λ _. ⌜ lists (now (tags .exit)) (now (starts .exit)) (now (lens .exit)) ≡ settledAllFieldsLeaves (store (now (mst .entry)) (now (xrf .entry))) mfn (lists (now (tags .entry)) (now (starts .entry)) (now (lens .entry))) ⌝ }
+{
+    let listed = views::listing::fields_settled(mst, xrf, Mfn(mfn), tags, starts, lens);
+    *count = listed.count;
+    let a = listed.answer;
+    number(a)
+}
+
+// The next MFN, and the address of the end.
+#[no_mangle]
+pub extern "C" fn isis_next(mst: &[u8], xrf: &[u8], next: &mut u32, end: &mut usize) -> u32
+    ensures answers { λ r. ⌜ r ≡ numberOf (nextFreeOf (store (now (mst .entry)) (now (xrf .entry))) .answer) ⌝ }
+    ensures number { λ _. ⌜ now (next .exit) ≡ nextFreeOf (store (now (mst .entry)) (now (xrf .entry))) .next .0 ⌝ }
+    ensures address { λ _. ⌜ now (end .exit) ≡ nextFreeOf (store (now (mst .entry)) (now (xrf .entry))) .end ⌝ }
+{
+    let shown = views::state::next_free(mst, xrf);
+    *next = shown.next.0;
+    *end = shown.end;
+    let a = shown.answer;
+    number(a)
+}
+
+// The mark of a record, 0 settled, 1 changed, 2 new, and whether it is deleted, 0 or 1.
+#[no_mangle]
+pub extern "C" fn isis_state(
+    mst: &[u8],
+    xrf: &[u8],
+    mfn: u32,
+    mark: &mut u32,
+    deleted: &mut u32,
+) -> u32
+    ensures answers { λ r. ⌜ r ≡ numberOf (stateOf (store (now (mst .entry)) (now (xrf .entry))) mfn .answer) ⌝ }
+    ensures marked { λ _. ⌜ now (mark .exit) ≡ markNumber (stateOf (store (now (mst .entry)) (now (xrf .entry))) mfn .mark) ⌝ }
+    ensures dead { λ _. ⌜ now (deleted .exit) ≡ deletedNumber (stateOf (store (now (mst .entry)) (now (xrf .entry))) mfn .deleted) ⌝ }
+{
+    let shown = views::state::state(mst, xrf, Mfn(mfn));
+    let k = shown.mark;
+    *mark = views::state::mark_number(k);
+    *deleted = views::state::deleted_number(shown.deleted);
     let a = shown.answer;
     number(a)
 }

@@ -10,6 +10,7 @@ use mathlib.Core.List.{List}
 use lib.ListN.{length, getD}
 use Rattle.word.specs.Integer.{le}
 use Rattle.word.proofs.Overwrite.{lt-or-ge, overwrite-other}
+use Rattle.layout.specs.Sizes.{mstMost, addressLimit}
 use Rattle.layout.specs.Control.{endBytes, nextOf, endOf, controlRight, withNext, withEnd}
 use Rattle.layout.specs.NamedBytes.{Within, NextByte, EndByte, ControlByte, next-mfn, the-end}
 use Rattle.layout.proofs.ControlRecord.{next-length, next-of-next, end-of-next, control-right-next, end-length, next-of-end, end-of-end, control-right-end}
@@ -43,7 +44,7 @@ pub record EndPlace (n e : ℕ) : Type 0 where
   pub high : e ≤ n
   pub even : e % 2 ≡ 0
   pub offset : e % 512 ≤ 498
-  pub small : n ≤ 536870400
+  pub small : n ≤ mstMost
 
 -- NXTMFN and the end are others, and of the bytes at most those that `May` names
 pub record ControlMoved (mst mst′ : List ℕ) (May : ℕ → Type 0) (capacity next end : ℕ) : Type 0 where
@@ -58,7 +59,7 @@ module _ (mst : List ℕ) (capacity e : ℕ) (right : controlRight mst capacity 
   long : 64 ≤ length mst
   long = omega (arith, p .low, p .high)
 
-  small : e < 2199023255040
+  small : e < addressLimit
   small = omega (arith, p .high, p .small)
 
   -- the end

@@ -128,47 +128,46 @@ module _ (mst : List ℕ) (at : ℕ) (xs : List ℕ) (low : controlRead ≤ at) 
 
 -- ---- NXTMFN is written
 
-module _ (mst : List ℕ) (n : ℕ) where
-  module _ (long : 64 ≤ length mst) where
-    pub next-length : length (withNext mst n) ≡ length mst
-    unfolding withNext
-    next-length = overwrite-length mst 4 (le 4 n) (omega arith)
+module _ (mst : List ℕ) (n : ℕ) (long : 64 ≤ length mst) where
+  pub next-length : length (withNext mst n) ≡ length mst
+  unfolding withNext
+  next-length = overwrite-length mst 4 (le 4 n) (omega arith)
 
-    pub next-of-next : n < 4294967296 → nextOf (withNext mst n) ≡ n
-    unfolding withNext nextOf
-    next-of-next h = u32-placed mst 4 n (omega arith) h
+  pub next-of-next : n < 4294967296 → nextOf (withNext mst n) ≡ n
+  unfolding withNext nextOf
+  next-of-next h = u32-placed mst 4 n (omega arith) h
 
-    pub end-of-next : endOf (withNext mst n) ≡ endOf mst
-    unfolding withNext endOf
-    end-of-next =
-        rw (u32-other mst 4 (le 4 n) 8 (omega arith) (inr (omega arith)), u16-other mst 4 (le 4 n) 12 (omega arith) (inr (omega arith)))
+  pub end-of-next : endOf (withNext mst n) ≡ endOf mst
+  unfolding withNext endOf
+  end-of-next =
+      rw (u32-other mst 4 (le 4 n) 8 (omega arith) (inr (omega arith)), u16-other mst 4 (le 4 n) 12 (omega arith) (inr (omega arith)))
 
-    next-before : u32At (withNext mst n) 0 ≡ u32At mst 0
-    unfolding withNext
-    next-before = u32-other mst 4 (le 4 n) 0 (omega arith) (inl (omega arith))
+  next-before : u32At (withNext mst n) 0 ≡ u32At mst 0
+  unfolding withNext
+  next-before = u32-other mst 4 (le 4 n) 0 (omega arith) (inl (omega arith))
 
-    next-after16 : (i : ℕ) → 8 ≤ i → u16At (withNext mst n) i ≡ u16At mst i
-    unfolding withNext
-    next-after16 i h = u16-other mst 4 (le 4 n) i (omega arith) (inr h)
+  next-after16 : (i : ℕ) → 8 ≤ i → u16At (withNext mst n) i ≡ u16At mst i
+  unfolding withNext
+  next-after16 i h = u16-other mst 4 (le 4 n) i (omega arith) (inr h)
 
-    next-after32 : (i : ℕ) → 8 ≤ i → u32At (withNext mst n) i ≡ u32At mst i
-    unfolding withNext
-    next-after32 i h = u32-other mst 4 (le 4 n) i (omega arith) (inr h)
+  next-after32 : (i : ℕ) → 8 ≤ i → u32At (withNext mst n) i ≡ u32At mst i
+  unfolding withNext
+  next-after32 i h = u32-other mst 4 (le 4 n) i (omega arith) (inr h)
 
-    pub control-right-next : (capacity other : ℕ) → controlRight mst capacity ≡ true → n < 4294967296 → 1 ≤ n → n ≤ other + 1
-        → controlRight (withNext mst n) other ≡ true
-    control-right-next capacity other e h low high =
-        let f = control-facts mst capacity e in
-        let s = end-stored mst capacity e in
-        let next : nextOf (withNext mst n) ≡ n = next-of-next h in
-        let end : endOf (withNext mst n) ≡ endOf mst = end-of-next in
-        let type : u16At (withNext mst n) 14 ≡ u16At mst 14 = next-after16 14 (omega arith) in
-        let block : u32At (withNext mst n) 8 ≡ u32At mst 8 = next-after32 8 (omega arith) in
-        let offset : u16At (withNext mst n) 12 ≡ u16At mst 12 = next-after16 12 (omega arith) in
-        control-from (withNext mst n) other
-        (next-before ∙ f .number) (type ∙ f .type) (rw next low) (rw next high)
-        (record { block = rw block (s .block); even = rw offset (s .even); offset = rw offset (s .offset) }) (rw end (f .end-low))
-        (rw (end, next-length) (f .end-in))
+  pub control-right-next : (capacity other : ℕ) → controlRight mst capacity ≡ true → n < 4294967296 → 1 ≤ n → n ≤ other + 1
+      → controlRight (withNext mst n) other ≡ true
+  control-right-next capacity other e h low high =
+      let f = control-facts mst capacity e in
+      let s = end-stored mst capacity e in
+      let next : nextOf (withNext mst n) ≡ n = next-of-next h in
+      let end : endOf (withNext mst n) ≡ endOf mst = end-of-next in
+      let type : u16At (withNext mst n) 14 ≡ u16At mst 14 = next-after16 14 (omega arith) in
+      let block : u32At (withNext mst n) 8 ≡ u32At mst 8 = next-after32 8 (omega arith) in
+      let offset : u16At (withNext mst n) 12 ≡ u16At mst 12 = next-after16 12 (omega arith) in
+      control-from (withNext mst n) other
+      (next-before ∙ f .number) (type ∙ f .type) (rw next low) (rw next high)
+      (record { block = rw block (s .block); even = rw offset (s .even); offset = rw offset (s .offset) }) (rw end (f .end-low))
+      (rw (end, next-length) (f .end-in))
 
 -- ---- the end is written
 
@@ -176,46 +175,45 @@ module _ (mst : List ℕ) (n : ℕ) where
 stored-back : (p : ℕ) → readOffset (storedOffset p) ≡ p
 stored-back p = omega arith
 
-module _ (mst : List ℕ) (e : ℕ) where
-  module _ (long : 64 ≤ length mst) where
-    pub end-length : length (withEnd mst e) ≡ length mst
+module _ (mst : List ℕ) (e : ℕ) (long : 64 ≤ length mst) where
+  pub end-length : length (withEnd mst e) ≡ length mst
+  unfolding withEnd
+  end-length = overwrite-length mst 8 (endBytes e) (omega arith)
+
+  pub next-of-end : nextOf (withEnd mst e) ≡ nextOf mst
+  unfolding withEnd nextOf
+  next-of-end = u32-other mst 8 (endBytes e) 4 (omega arith) (inl (omega arith))
+
+  end-before : u32At (withEnd mst e) 0 ≡ u32At mst 0
+  unfolding withEnd
+  end-before = u32-other mst 8 (endBytes e) 0 (omega arith) (inl (omega arith))
+
+  end-after : u16At (withEnd mst e) 14 ≡ u16At mst 14
+  unfolding withEnd
+  end-after = u16-other mst 8 (endBytes e) 14 (omega arith) (inr (omega arith))
+
+  end-offset : u16At (withEnd mst e) 12 ≡ storedOffset (offsetAt e)
+  unfolding withEnd
+  end-offset =
+      u16-inside mst 8 (endBytes e) 4 (omega arith) (omega arith) ∙ u16-le-at (le 4 (blockAt e)) (storedOffset (offsetAt e)) [] 4 refl (omega arith)
+
+  module _ (small : e < addressLimit) where
+    end-block : u32At (withEnd mst e) 8 ≡ blockAt e
     unfolding withEnd
-    end-length = overwrite-length mst 8 (endBytes e) (omega arith)
+    end-block = u32-inside mst 8 (endBytes e) 0 (omega arith) (omega arith) ∙ u32-le (blockAt e) (le 2 (storedOffset (offsetAt e))) (omega arith)
 
-    pub next-of-end : nextOf (withEnd mst e) ≡ nextOf mst
-    unfolding withEnd nextOf
-    next-of-end = u32-other mst 8 (endBytes e) 4 (omega arith) (inl (omega arith))
+    pub end-of-end : endOf (withEnd mst e) ≡ e
+    unfolding endOf
+    end-of-end = rw (end-block, end-offset, stored-back (offsetAt e)) (address-of-at e)
 
-    end-before : u32At (withEnd mst e) 0 ≡ u32At mst 0
-    unfolding withEnd
-    end-before = u32-other mst 8 (endBytes e) 0 (omega arith) (inl (omega arith))
-
-    end-after : u16At (withEnd mst e) 14 ≡ u16At mst 14
-    unfolding withEnd
-    end-after = u16-other mst 8 (endBytes e) 14 (omega arith) (inr (omega arith))
-
-    end-offset : u16At (withEnd mst e) 12 ≡ storedOffset (offsetAt e)
-    unfolding withEnd
-    end-offset =
-        u16-inside mst 8 (endBytes e) 4 (omega arith) (omega arith) ∙ u16-le-at (le 4 (blockAt e)) (storedOffset (offsetAt e)) [] 4 refl (omega arith)
-
-    module _ (small : e < addressLimit) where
-      end-block : u32At (withEnd mst e) 8 ≡ blockAt e
-      unfolding withEnd
-      end-block = u32-inside mst 8 (endBytes e) 0 (omega arith) (omega arith) ∙ u32-le (blockAt e) (le 2 (storedOffset (offsetAt e))) (omega arith)
-
-      pub end-of-end : endOf (withEnd mst e) ≡ e
-      unfolding endOf
-      end-of-end = rw (end-block, end-offset, stored-back (offsetAt e)) (address-of-at e)
-
-      pub control-right-end : (capacity : ℕ) → controlRight mst capacity ≡ true → 64 ≤ e → e ≤ length mst → e % 2 ≡ 0 → e % 512 ≤ offsetMost
-          → controlRight (withEnd mst e) capacity ≡ true
-      control-right-end capacity r low high even offset =
-          let f = control-facts mst capacity r in
-          control-from (withEnd mst e) capacity
-          (end-before ∙ f .number) (end-after ∙ f .type) (rw next-of-end (f .next-low)) (rw next-of-end (f .next-high))
-          (record { block = rw end-block (omega arith); even = rw end-offset (omega arith); offset = rw end-offset (omega arith) })
-          (rw end-of-end low) (rw (end-of-end, end-length) high)
+    pub control-right-end : (capacity : ℕ) → controlRight mst capacity ≡ true → 64 ≤ e → e ≤ length mst → e % 2 ≡ 0 → e % 512 ≤ offsetMost
+        → controlRight (withEnd mst e) capacity ≡ true
+    control-right-end capacity r low high even offset =
+        let f = control-facts mst capacity r in
+        control-from (withEnd mst e) capacity
+        (end-before ∙ f .number) (end-after ∙ f .type) (rw next-of-end (f .next-low)) (rw next-of-end (f .next-high))
+        (record { block = rw end-block (omega arith); even = rw end-offset (omega arith); offset = rw end-offset (omega arith) })
+        (rw end-of-end low) (rw (end-of-end, end-length) high)
 
 -- ---- format
 

@@ -38,6 +38,21 @@ meansGone (negsuc n) = eqb n 2047
 abbrev pub placed : ℕ → ℕ → Bool → Mark → Place
 placed b p d m = record { block = record { 0 = b }; offset = p; deleted = d; mark = m }
 
+abbrev pub isSettled : Mark → Bool
+isSettled Settled = true
+isSettled Changed = false
+isSettled New = false
+
+abbrev pub isChanged : Mark → Bool
+isChanged Settled = false
+isChanged Changed = true
+isChanged New = false
+
+abbrev pub isNew : Mark → Bool
+isNew Settled = false
+isNew Changed = false
+isNew New = true
+
 -- the mark by the 512s above the offset: + 512 if changed, + 1024 if new; both together is malformed
 unfoldable pub markedPlace : ℕ → ℕ → Bool → ℕ → Entry
 markedPlace b p d k =

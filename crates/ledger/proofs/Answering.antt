@@ -14,31 +14,33 @@ use Rattle.layout.specs.declared.entry.Mark.the-variants.{Settled, Changed, New
 use Rattle.layout.specs.declared.entry.Place.{Place}
 use Rattle.layout.specs.declared.entry.Entry.the-variants.{Gone, At}
 use Rattle.record.specs.Fields.{fieldsOf}
-use Rattle.record.specs.Draft.{draftRight, draftFields}
 use Rattle.record.specs.Bytes.{needFor}
-use Rattle.store.specs.Reading.{mfnKnown, entryFor, isSettled, isChanged, isNew, recordAt, leaderAt, settledRecord, shownSettled, currentFields}
-use Rattle.store.specs.Refusals.{exceeds, formatAnswer, viewAnswer, settledViewAnswer, createAnswer, updateAppends, updateAnswer, deleteAnswer, settleAnswer, revertAnswer}
-use Rattle.store.specs.declared.answer.Answer.the-variants.{Done, BadDraft, Full, BadEntry, NoRoom}
+use Rattle.store.specs.Reading.{mfnInRange, entryFor, isSettled, isChanged, isNew, recordAt, leaderAt, settledRecord, shownSettled, currentFields}
+use Rattle.writing.specs.Refusals.{exceeds, formatAnswer, createAnswer, updateAppends, updateAnswer, deleteAnswer, settleAnswer, revertAnswer}
+use Rattle.views.specs.Views.{viewAnswer, settledViewAnswer}
+use Rattle.store.specs.declared.answer.Answer.the-variants.{Done, BadDraft, NoSlot, BadEntry, NoRoom}
 use Rattle.soundness.specs.Sound.{bodySound, checkAnswer}
-use Rattle.ledger.specs.Ledger.{gone, held, itemOf, isSettledMark, isNewMark, settledFields, overfull, appends, formatNumber, viewNumber, settledViewNumber, createNumber, updateNumber, deleteNumber, settleNumber, revertNumber, checkNumber}
-use Rattle.ledger.specs.StoreRun.{Store}
-use Rattle.ledger.specs.LedgerOf.{standingAt, itemFor, ledgerOf}
+use Rattle.store.specs.Store.{Store, Draft, isRight, fieldsIn}
+use Rattle.ledger.specs.Call.{format, view, viewSettled, create, update, delete, settle, revert, check}
+use Rattle.ledger.specs.Ledger.{gone, held, itemOf, isSettledMark, isNewMark, settledOr}
+use Rattle.ledger.specs.LedgerAnswers.{overfull, appends, refusalsL, numberL}
+use Rattle.ledger.specs.LedgerOf.{markingAt, itemFor, ledgerOf}
 use Rattle.ledger.proofs.Reading.{Opened, Seen, absent, physically, present, next-is, lengths-are, mfn-is, item-is}
 use Rattle.ledger.proofs.Showing.{missing-is}
 
 -- the mark of the bytes and of the ledger
-pub settled-mark : (mst : List ℕ) (p : Place) (k : Mark) → isSettledMark (standingAt mst p k) ≡ isSettled k
+pub settled-mark : (mst : List ℕ) (p : Place) (k : Mark) → isSettledMark (markingAt mst p k) ≡ isSettled k
 settled-mark mst p Settled = refl
 settled-mark mst p Changed = refl
 settled-mark mst p New = refl
 
-pub new-mark : (mst : List ℕ) (p : Place) (k : Mark) → isNewMark (standingAt mst p k) ≡ isNew k
+pub new-mark : (mst : List ℕ) (p : Place) (k : Mark) → isNewMark (markingAt mst p k) ≡ isNew k
 new-mark mst p Settled = refl
 new-mark mst p Changed = refl
 new-mark mst p New = refl
 
 -- an update is appended, by the bytes and by the ledger
-pub appends-is : (mst : List ℕ) (p : Place) (k : Mark) (need : ℕ) → appends (standingAt mst p k) need ≡ (isSettled k || ltb (leaderAt mst p .mfrl) need)
+pub appends-is : (mst : List ℕ) (p : Place) (k : Mark) (need : ℕ) → appends (markingAt mst p k) need ≡ (isSettled k || ltb (leaderAt mst p .mfrl) need)
 unfolding appends
 appends-is mst p Settled need = refl
 appends-is mst p Changed need = refl
@@ -46,18 +48,18 @@ appends-is mst p New need = refl
 
 -- the fields that the settled view reads
 pub settled-fields : (mst : List ℕ) (p : Place) (k : Mark)
-    → settledFields (currentFields mst p) (standingAt mst p k) ≡ fieldsOf (cond (isChanged k) (settledRecord mst p) (recordAt mst p))
+    → settledOr (currentFields mst p) (markingAt mst p k) ≡ fieldsOf (cond (isChanged k) (settledRecord mst p) (recordAt mst p))
 settled-fields mst p Settled = refl
 settled-fields mst p Changed = refl
 settled-fields mst p New = refl
 
 module _ (s : Store) (o : Opened s) where
   -- the item of an MFN that is there
-  pub item-at : (m : ℕ) (p : Place) → mfnKnown (s .mst) m ≡ true → entryFor (s .mst) (s .xrf) m ≡ At p
-      → itemOf (ledgerOf s) m ≡ held (currentFields (s .mst) p) (p .deleted) (standingAt (s .mst) p (p .mark))
+  pub item-at : (m : ℕ) (p : Place) → mfnInRange (s .mst) m ≡ true → entryFor s m ≡ At p
+      → itemOf (ledgerOf s) m ≡ held (currentFields (s .mst) p) (p .deleted) (markingAt (s .mst) p (p .mark))
   item-at m p k e = item-is s o m k ∙ ap (itemFor (s .mst)) e
 
-  pub item-gone : (m : ℕ) → mfnKnown (s .mst) m ≡ true → entryFor (s .mst) (s .xrf) m ≡ Gone → itemOf (ledgerOf s) m ≡ gone
+  pub item-gone : (m : ℕ) → mfnInRange (s .mst) m ≡ true → entryFor s m ≡ Gone → itemOf (ledgerOf s) m ≡ gone
   item-gone m k e = item-is s o m k ∙ ap (itemFor (s .mst)) e
 
   pub room-is : (need : ℕ) → overfull (ledgerOf s) need ≡ exceeds (s .mst) need
@@ -68,19 +70,19 @@ module _ (s : Store) (o : Opened s) where
   unfolding ledgerOf
   xrf-is = refl
 
-  pub format-answer : formatAnswer (s .mst) (s .xrf) ≡ formatNumber (ledgerOf s)
-  unfolding formatAnswer formatNumber
+  pub format-answer : formatAnswer s ≡ numberL (ledgerOf s) format
+  unfolding formatAnswer numberL refusalsL
   format-answer = rw (o .lengths, lengths-are s o)
 
-  pub view-answer : (m tag occ : ℕ) → Seen s m → viewAnswer (s .mst) (s .xrf) m tag occ ≡ viewNumber (ledgerOf s) m tag occ
-  unfolding viewAnswer viewNumber
+  pub view-answer : (m tag occ : ℕ) → Seen s m → viewAnswer s m tag occ ≡ numberL (ledgerOf s) (view m tag occ)
+  unfolding viewAnswer numberL refusalsL
   view-answer m tag occ (absent k) = rw (o .lengths, o .control, lengths-are s o, mfn-is s o m, k)
   view-answer m tag occ (physically k e) = rw (o .lengths, o .control, lengths-are s o, mfn-is s o m, k, e, item-gone m k e)
   view-answer m tag occ (present p k e f v) =
       rw (o .lengths, o .control, lengths-are s o, mfn-is s o m, k, e, f, item-at m p k e, missing-is (recordAt (s .mst) p) tag occ)
 
-  pub settled-view-answer : (m tag occ : ℕ) → Seen s m → settledViewAnswer (s .mst) (s .xrf) m tag occ ≡ settledViewNumber (ledgerOf s) m tag occ
-  unfolding settledViewAnswer settledViewNumber
+  pub settled-view-answer : (m tag occ : ℕ) → Seen s m → settledViewAnswer s m tag occ ≡ numberL (ledgerOf s) (viewSettled m tag occ)
+  unfolding settledViewAnswer numberL refusalsL
   settled-view-answer m tag occ (absent k) = rw (o .lengths, o .control, lengths-are s o, mfn-is s o m, k)
   settled-view-answer m tag occ (physically k e) = rw (o .lengths, o .control, lengths-are s o, mfn-is s o m, k, e, item-gone m k e)
   settled-view-answer m tag occ (present p k e f v) =
@@ -100,11 +102,11 @@ module _ (s : Store) (o : Opened s) where
         missing-is (shownSettled (s .mst) p) tag occ,
       )
 
-  pub update-answer : (m : ℕ) (tags lens bytes : List ℕ) → Seen s m → updateAnswer (s .mst) (s .xrf) m tags lens bytes ≡ updateNumber (ledgerOf s) m tags lens bytes
-  unfolding updateAnswer updateNumber updateAppends
-  update-answer m tags lens bytes (absent k) = rw (o .lengths, o .control, lengths-are s o, mfn-is s o m, k)
-  update-answer m tags lens bytes (physically k e) = rw (o .lengths, o .control, lengths-are s o, mfn-is s o m, k, e, item-gone m k e)
-  update-answer m tags lens bytes (present p k e f v) =
+  pub update-answer : (m : ℕ) (d : Draft) → Seen s m → updateAnswer s m d ≡ numberL (ledgerOf s) (update m d)
+  unfolding updateAnswer numberL refusalsL updateAppends
+  update-answer m d (absent k) = rw (o .lengths, o .control, lengths-are s o, mfn-is s o m, k)
+  update-answer m d (physically k e) = rw (o .lengths, o .control, lengths-are s o, mfn-is s o m, k, e, item-gone m k e)
+  update-answer m d (present p k e f v) =
       rw (
         o .lengths,
         o .control,
@@ -114,27 +116,27 @@ module _ (s : Store) (o : Opened s) where
         e,
         f,
         item-at m p k e,
-        appends-is (s .mst) p (p .mark) (needFor (draftFields tags lens bytes)),
-        room-is (needFor (draftFields tags lens bytes)),
+        appends-is (s .mst) p (p .mark) (needFor (fieldsIn d)),
+        room-is (needFor (fieldsIn d)),
       )
 
-  pub delete-answer : (m : ℕ) → Seen s m → deleteAnswer (s .mst) (s .xrf) m ≡ deleteNumber (ledgerOf s) m
-  unfolding deleteAnswer deleteNumber
+  pub delete-answer : (m : ℕ) → Seen s m → deleteAnswer s m ≡ numberL (ledgerOf s) (delete m)
+  unfolding deleteAnswer numberL refusalsL
   delete-answer m (absent k) = rw (o .lengths, o .control, lengths-are s o, mfn-is s o m, k)
   delete-answer m (physically k e) = rw (o .lengths, o .control, lengths-are s o, mfn-is s o m, k, e, item-gone m k e)
   delete-answer m (present p k e f v) =
       rw
       (o .lengths, o .control, lengths-are s o, mfn-is s o m, k, e, f, item-at m p k e, settled-mark (s .mst) p (p .mark), room-is (needFor (currentFields (s .mst) p)))
 
-  pub settle-answer : (m : ℕ) → Seen s m → settleAnswer (s .mst) (s .xrf) m ≡ settleNumber (ledgerOf s) m
-  unfolding settleAnswer settleNumber
+  pub settle-answer : (m : ℕ) → Seen s m → settleAnswer s m ≡ numberL (ledgerOf s) (settle m)
+  unfolding settleAnswer numberL refusalsL
   settle-answer m (absent k) = rw (o .lengths, o .control, lengths-are s o, mfn-is s o m, k)
   settle-answer m (physically k e) = rw (o .lengths, o .control, lengths-are s o, mfn-is s o m, k, e, item-gone m k e)
   settle-answer m (present p k e f v) =
       rw (o .lengths, o .control, lengths-are s o, mfn-is s o m, k, e, f, item-at m p k e, settled-mark (s .mst) p (p .mark))
 
-  pub revert-answer : (m : ℕ) → Seen s m → revertAnswer (s .mst) (s .xrf) m ≡ revertNumber (ledgerOf s) m
-  unfolding revertAnswer revertNumber
+  pub revert-answer : (m : ℕ) → Seen s m → revertAnswer s m ≡ numberL (ledgerOf s) (revert m)
+  unfolding revertAnswer numberL refusalsL
   revert-answer m (absent k) = rw (o .lengths, o .control, lengths-are s o, mfn-is s o m, k)
   revert-answer m (physically k e) = rw (o .lengths, o .control, lengths-are s o, mfn-is s o m, k, e, item-gone m k e)
   revert-answer m (present p k e f v) =
@@ -142,22 +144,22 @@ module _ (s : Store) (o : Opened s) where
       (o .lengths, o .control, lengths-are s o, mfn-is s o m, k, e, f, v, item-at m p k e, settled-mark (s .mst) p (p .mark), new-mark (s .mst) p (p .mark))
 
   -- create, whose row 6 does not apply below the capacity
-  pub create-answer : (tags lens bytes : List ℕ)
+  pub create-answer : (d : Draft)
       → (eqb (nextOf (s .mst)) (capacityOf (length (s .xrf)) + 1) ≡ false → (headRight (s .xrf) (xrfBlock (nextOf (s .mst))) && slotFree (s .xrf) (nextOf (s .mst))) ≡ true)
-      → createAnswer (s .mst) (s .xrf) tags lens bytes ≡ createNumber (ledgerOf s) tags lens bytes
-  unfolding createAnswer createNumber
-  create-answer tags lens bytes free =
-      rw (o .lengths, o .control, lengths-are s o, room-is (needFor (draftFields tags lens bytes)), next-is s o, xrf-is)
+      → createAnswer s d ≡ numberL (ledgerOf s) (create d)
+  unfolding createAnswer numberL refusalsL
+  create-answer d free =
+      rw (o .lengths, o .control, lengths-are s o, room-is (needFor (fieldsIn d)), next-is s o, xrf-is)
       (go (eqb (nextOf (s .mst)) (capacityOf (length (s .xrf)) + 1)) free)
     where
       go : (full : Bool) → (full ≡ false → (headRight (s .xrf) (xrfBlock (nextOf (s .mst))) && slotFree (s .xrf) (nextOf (s .mst))) ≡ true)
-          → cond (not (draftRight tags lens bytes)) BadDraft
-          (cond full Full (cond (not (headRight (s .xrf) (xrfBlock (nextOf (s .mst))) && slotFree (s .xrf) (nextOf (s .mst)))) BadEntry
-          (cond (exceeds (s .mst) (needFor (draftFields tags lens bytes))) NoRoom Done)))
-          ≡ cond (not (draftRight tags lens bytes)) BadDraft (cond full Full (cond (exceeds (s .mst) (needFor (draftFields tags lens bytes))) NoRoom Done))
+          → cond (not (isRight d)) BadDraft
+          (cond full NoSlot (cond (not (headRight (s .xrf) (xrfBlock (nextOf (s .mst))) && slotFree (s .xrf) (nextOf (s .mst)))) BadEntry
+          (cond (exceeds (s .mst) (needFor (fieldsIn d))) NoRoom Done)))
+          ≡ cond (not (isRight d)) BadDraft (cond full NoSlot (cond (exceeds (s .mst) (needFor (fieldsIn d))) NoRoom Done))
       go true f = refl
       go false f = rw (f refl)
 
-  pub check-answer : bodySound (s .mst) (s .xrf) ≡ true → checkAnswer (s .mst) (s .xrf) ≡ checkNumber (ledgerOf s)
-  unfolding checkAnswer checkNumber
+  pub check-answer : bodySound s ≡ true → checkAnswer s ≡ numberL (ledgerOf s) check
+  unfolding checkAnswer numberL refusalsL
   check-answer b = rw (o .lengths, o .control, lengths-are s o, b)

@@ -4,7 +4,6 @@ use Prim.Native.Nat.{ℕ, suc, _+_, _-_, _≤_, _<_}
 use native.Mathlib.Omega.{arith}
 use mathlib.Core.Path.{_≡_, refl, ap, _∙_}
 use mathlib.Core.List.{List, [], _∷_, _++_}
-use lib.ListN.{length}
 use Rattle.layout.specs.Control.{nextOf}
 use Rattle.layout.specs.declared.entry.Mark.{Mark}
 use Rattle.layout.specs.declared.entry.Mark.the-variants.{Settled, Changed, New}
@@ -12,49 +11,51 @@ use Rattle.layout.specs.declared.entry.Place.{Place}
 use Rattle.layout.specs.declared.entry.Entry.the-variants.{At}
 use Rattle.record.specs.Fields.{Field}
 use Rattle.store.specs.Reading.{entryFor}
-use Rattle.soundness.proofs.Standing.{Sound, EntryStands, is-gone, is-at}
+use Rattle.soundness.proofs.SoundEntries.{Sound, EntryStands, is-gone, is-at}
 use Rattle.soundness.proofs.Moves.{SameReading}
-use Rattle.soundness.proofs.Writes.{Leaves}
-use Rattle.ledger.specs.Ledger.{Standing, settled, new, changed, Item, held, withItemAt}
-use Rattle.ledger.specs.LedgerOf.{standingAt, itemFor, itemAt, tabulate, ledgerOf}
+use Rattle.soundness.proofs.Leaving.{Leaves}
+use Rattle.store.specs.Store.{store}
+use Rattle.ledger.specs.Ledger.{Marking, settled, new, changed, Item, held}
+use Rattle.ledger.specs.LedgerSteps.{itemSet, itemAdded, applied}
+use Rattle.ledger.specs.LedgerOf.{markingAt, itemFor, itemAt, tabulate, ledgerOf}
 use Rattle.ledger.proofs.Items.{tabulate-same, tabulate-set}
 
 -- the mark with a record length and settled fields
-abbrev pub standingFor : Mark → ℕ → List Field → Standing
-standingFor Settled n old = settled
-standingFor Changed n old = changed n old
-standingFor New n old = new n
+abbrev pub markingFor : Mark → ℕ → List Field → Marking
+markingFor Settled n old = settled
+markingFor Changed n old = changed n old
+markingFor New n old = new n
 
 -- a mark that is read the same
-standing-same : (mst mst′ : List ℕ) (p : Place) → SameReading mst mst′ p → (k : Mark) → p .mark ≡ k → standingAt mst′ p k ≡ standingAt mst p k
-standing-same mst mst′ p r Settled e = refl
-standing-same mst mst′ p r Changed e = rw (r .settled e .fields, r .leader)
-standing-same mst mst′ p r New e = rw (r .leader)
+marking-same : (mst mst′ : List ℕ) (p : Place) → SameReading mst mst′ p → (k : Mark) → p .mark ≡ k → markingAt mst′ p k ≡ markingAt mst p k
+marking-same mst mst′ p r Settled e = refl
+marking-same mst mst′ p r Changed e = rw (r .settled e .fields, r .leader)
+marking-same mst mst′ p r New e = rw (r .leader)
 
 item-same : (mst mst′ : List ℕ) (p : Place) → SameReading mst mst′ p → itemFor mst′ (At p) ≡ itemFor mst (At p)
-item-same mst mst′ p r = rw (r .fields, standing-same mst mst′ p r (p .mark) refl)
+item-same mst mst′ p r = rw (r .fields, marking-same mst mst′ p r (p .mark) refl)
 
 module _ {mst xrf mst′ xrf′ : List ℕ} {m end next : ℕ} {p : Place} {mfrl : ℕ} {fs old : List Field} (s : Sound mst xrf)
     (l : Leaves mst xrf mst′ xrf′ m end next p mfrl fs old) where
-  item-kept : (o : ℕ) → (o ≡ m → ⊥) → 1 ≤ o → o < nextOf mst → itemAt mst′ xrf′ o ≡ itemAt mst xrf o
+  item-kept : (o : ℕ) → (o ≡ m → ⊥) → 1 ≤ o → o < nextOf mst → itemAt (store mst′ xrf′) o ≡ itemAt (store mst xrf) o
   item-kept o ne low high = ap (itemFor mst′) (l .others o ne low high) ∙ go (s .entries o low high)
     where
-      go : EntryStands mst xrf o → itemFor mst′ (entryFor mst xrf o) ≡ itemFor mst (entryFor mst xrf o)
+      go : EntryStands mst xrf o → itemFor mst′ (entryFor (store mst xrf) o) ≡ itemFor mst (entryFor (store mst xrf) o)
       go (is-gone e) = rw e
       go (is-at q e f) = rw e (item-same mst mst′ q (l .same o q ne low high e))
 
   -- the item of m
-  own-standing : (k : Mark) → p .mark ≡ k → standingAt mst′ p k ≡ standingFor k mfrl old
-  own-standing Settled e = refl
-  own-standing Changed e = rw (l .settled-fields e, l .record-length)
-  own-standing New e = rw (l .record-length)
+  own-marking : (k : Mark) → p .mark ≡ k → markingAt mst′ p k ≡ markingFor k mfrl old
+  own-marking Settled e = refl
+  own-marking Changed e = rw (l .settled-fields e, l .record-length)
+  own-marking New e = rw (l .record-length)
 
-  own-item : itemAt mst′ xrf′ m ≡ held fs (p .deleted) (standingFor (p .mark) mfrl old)
-  own-item = ap (itemFor mst′) (l .entry) ∙ rw (l .fields, own-standing (p .mark) refl)
+  own-item : itemAt (store mst′ xrf′) m ≡ held fs (p .deleted) (markingFor (p .mark) mfrl old)
+  own-item = ap (itemFor mst′) (l .entry) ∙ rw (l .fields, own-marking (p .mark) refl)
 
   -- an MFN that was there
   pub ledger-set : next ≡ nextOf mst → 1 ≤ m → m < nextOf mst
-      → ledgerOf (record { mst = mst′; xrf = xrf′ }) ≡ withItemAt (ledgerOf (record { mst = mst; xrf = xrf })) m (held fs (p .deleted) (standingFor (p .mark) mfrl old)) end
+      → ledgerOf (store mst′ xrf′) ≡ applied (ledgerOf (store mst xrf)) (itemSet m (held fs (p .deleted) (markingFor (p .mark) mfrl old)) end)
   unfolding ledgerOf
   ledger-set e low high =
       let same : nextOf mst′ ≡ nextOf mst = l .next-is ∙ e in
@@ -63,29 +64,24 @@ module _ {mst xrf mst′ xrf′ : List ℕ} {m end next : ℕ} {p : Place} {mfrl
         l .xrf-long,
         l .end-is,
         same,
-        tabulate-set (nextOf mst - 1) (itemAt mst xrf) (itemAt mst′ xrf′) m (held fs (p .deleted) (standingFor (p .mark) mfrl old)) low (omega arith) own-item
+        tabulate-set (nextOf mst - 1) (itemAt (store mst xrf)) (itemAt (store mst′ xrf′)) m (held fs (p .deleted) (markingFor (p .mark) mfrl old)) low (omega arith) own-item
             (λ k lo hi ne. item-kept k ne lo (omega arith)),
       )
 
   -- a new MFN
   items-more : 1 ≤ nextOf mst → nextOf mst′ ≡ nextOf mst + 1 → m ≡ nextOf mst
-      → tabulate (nextOf mst′ - 1) (itemAt mst′ xrf′) ≡ tabulate (nextOf mst - 1) (itemAt mst xrf) ++ (held fs (p .deleted) (standingFor (p .mark) mfrl old) ∷ [])
+      → tabulate (nextOf mst′ - 1) (itemAt (store mst′ xrf′)) ≡ tabulate (nextOf mst - 1) (itemAt (store mst xrf)) ++ (held fs (p .deleted) (markingFor (p .mark) mfrl old) ∷ [])
   unfolding tabulate
   items-more low e fresh =
       let k : nextOf mst′ - 1 ≡ suc (nextOf mst - 1) = omega arith in
       let q : suc (nextOf mst - 1) ≡ m = omega arith in
       rw k
-      (ap (λ (is : List Item). is ++ (itemAt mst′ xrf′ (suc (nextOf mst - 1)) ∷ []))
-      (tabulate-same (nextOf mst - 1) (itemAt mst′ xrf′) (itemAt mst xrf) (λ o lo hi. item-kept o (λ z. omega arith) lo (omega arith)))
-      ∙ ap (λ (j : Item). tabulate (nextOf mst - 1) (itemAt mst xrf) ++ (j ∷ [])) (ap (itemAt mst′ xrf′) q ∙ own-item))
+      (ap (λ (is : List Item). is ++ (itemAt (store mst′ xrf′) (suc (nextOf mst - 1)) ∷ []))
+      (tabulate-same (nextOf mst - 1) (itemAt (store mst′ xrf′)) (itemAt (store mst xrf)) (λ o lo hi. item-kept o (λ z. omega arith) lo (omega arith)))
+      ∙ ap (λ (j : Item). tabulate (nextOf mst - 1) (itemAt (store mst xrf)) ++ (j ∷ [])) (ap (itemAt (store mst′ xrf′)) q ∙ own-item))
 
   pub ledger-more : 1 ≤ nextOf mst → next ≡ nextOf mst + 1 → m ≡ nextOf mst
-      → ledgerOf (record { mst = mst′; xrf = xrf′ })
-      ≡ record {
-        mstLength = length mst;
-        xrfLength = length xrf;
-        end = end;
-        items = tabulate (nextOf mst - 1) (itemAt mst xrf) ++ (held fs (p .deleted) (standingFor (p .mark) mfrl old) ∷ []);
-      }
+      → ledgerOf (store mst′ xrf′)
+      ≡ applied (ledgerOf (store mst xrf)) (itemAdded (held fs (p .deleted) (markingFor (p .mark) mfrl old)) end)
   unfolding ledgerOf
   ledger-more low e fresh = rw (l .mst-long, l .xrf-long, l .end-is, items-more low (l .next-is ∙ e) fresh)

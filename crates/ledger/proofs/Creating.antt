@@ -1,54 +1,34 @@
--- Create on a sound store, beside the ledger's create.
-use Prim.Native.Nat.{ℕ, _+_, _≤_}
-use native.Mathlib.Omega.{arith}
-use mathlib.Core.Path.{_≡_, refl}
-use mathlib.Core.Bool.{Bool, true, false, not, _&&_, cond}
+-- A create that is done on a sound store, beside the ledger's create.
+use Prim.Native.Nat.{ℕ, _+_}
+use mathlib.Core.Path.{refl}
+use mathlib.Core.Bool.{false}
 use mathlib.Core.List.{List, []}
-use lib.Dec.{eqb}
-use lib.ListN.{length}
-use Rattle.layout.specs.Sizes.{capacityOf, endMoved}
-use Rattle.layout.specs.CrossReference.{xrfBlock, headRight, slotFree}
+use Rattle.layout.specs.Sizes.{endMoved}
 use Rattle.layout.specs.Control.{nextOf, endOf}
-use borrow.Author.Tests.{ltb-false}
 use Rattle.layout.specs.declared.entry.Mark.the-variants.{New}
-use Rattle.record.specs.Draft.{draftRight, draftFields}
 use Rattle.record.specs.Bytes.{needFor}
 use Rattle.record.proofs.Draftable.{draft-draftable}
-use Rattle.store.specs.Refusals.{exceeds, createAnswer}
-use Rattle.store.specs.Calls.{placeAtEnd, createdMst, createdXrf}
-use Rattle.store.specs.declared.answer.Answer.the-variants.{Done, BadDraft, Full, BadEntry, NoRoom}
-use Rattle.soundness.proofs.Standing.{Sound, below-capacity}
-use Rattle.soundness.proofs.Writes.{Leaves, created-leaves}
-use Rattle.ledger.specs.Ledger.{created}
+use Rattle.store.specs.Store.{store, Draft, fieldsIn}
+use Rattle.writing.specs.Calls.{placeAtEnd, createdMst, createdXrf}
+use Rattle.soundness.proofs.SoundEntries.{Sound, sound}
+use Rattle.soundness.proofs.Leaving.{Leaves}
+use Rattle.soundness.proofs.Writes.{created-leaves}
+use Rattle.soundness.proofs.Asked.{CreateAsked}
+use Rattle.ledger.specs.Call.{create}
+use Rattle.ledger.specs.LedgerSteps.{applied, effectOf}
 use Rattle.ledger.specs.LedgerOf.{ledgerOf}
 use Rattle.ledger.proofs.Changing.{ledger-more}
+use Rattle.ledger.proofs.Either.{Left}
 
--- what a create that is done was asked
-pub record CreateAsked (mst xrf tags lens bytes : List ℕ) : Type 0 where
-  pub draft : draftRight tags lens bytes ≡ true
-  pub below : nextOf mst ≤ capacityOf (length xrf)
-  pub room : endOf mst + needFor (draftFields tags lens bytes) ≤ length mst
+module _ (mst xrf : List ℕ) (d : Draft) (s : Sound mst xrf) (a : CreateAsked mst xrf d) where
+  create-leaves : Leaves mst xrf (createdMst mst (fieldsIn d)) (createdXrf mst xrf) (nextOf mst) (endMoved (endOf mst + needFor (fieldsIn d))) (nextOf mst + 1)
+      (placeAtEnd mst false New) (needFor (fieldsIn d)) (fieldsIn d) []
+  create-leaves = created-leaves s (fieldsIn d) (draft-draftable (d .tags) (d .lens) (d .bytes) (a .draft)) (a .below) (a .room)
 
-rows : (d f h r : Bool) → cond (not d) BadDraft (cond f Full (cond (not h) BadEntry (cond r NoRoom Done))) ≡ Done → (d ≡ true) × (f ≡ false) × (r ≡ false)
-rows true true h r e = let z : _≡_ {A = ℕ} 0 1 = cc in absurd (omega arith)
-rows true false true true e = let z : _≡_ {A = ℕ} 0 1 = cc in absurd (omega arith)
-rows true false true false e = (refl, refl, refl)
-rows true false false r e = let z : _≡_ {A = ℕ} 0 1 = cc in absurd (omega arith)
-rows false f h r e = let z : _≡_ {A = ℕ} 0 1 = cc in absurd (omega arith)
-
-module _ (mst xrf tags lens bytes : List ℕ) (s : Sound mst xrf) where
-  pub create-asked : createAnswer mst xrf tags lens bytes ≡ Done → CreateAsked mst xrf tags lens bytes
-  unfolding createAnswer exceeds
-  create-asked e =
-      let q =
-      rows (draftRight tags lens bytes) (eqb (nextOf mst) (capacityOf (length xrf) + 1)) (headRight xrf (xrfBlock (nextOf mst)) && slotFree xrf (nextOf mst))
-      (exceeds mst (needFor (draftFields tags lens bytes))) (rw (s .lengths, s .control) at e) in
-      record { draft = q .0; below = below-capacity s (q .1); room = ltb-false (length mst) (endOf mst + needFor (draftFields tags lens bytes)) (q .2) }
-
-  module _ (a : CreateAsked mst xrf tags lens bytes) where
-    pub create-leaves : Leaves mst xrf (createdMst mst (draftFields tags lens bytes)) (createdXrf mst xrf) (nextOf mst) (endMoved (endOf mst + needFor (draftFields tags lens bytes))) (nextOf mst + 1) (placeAtEnd mst false New) (needFor (draftFields tags lens bytes)) (draftFields tags lens bytes) []
-    create-leaves = created-leaves s (draftFields tags lens bytes) (draft-draftable tags lens bytes (a .draft)) (a .below) (a .room)
-
-    pub create-ledger : ledgerOf (record { mst = createdMst mst (draftFields tags lens bytes); xrf = createdXrf mst xrf }) ≡ created (ledgerOf (record { mst = mst; xrf = xrf })) (draftFields tags lens bytes)
-    unfolding created ledgerOf
-    create-ledger = ledger-more s create-leaves (s .numbers .next-low) refl refl
+  pub create-left : Left (store (createdMst mst (fieldsIn d)) (createdXrf mst xrf)) (applied (ledgerOf (store mst xrf)) (effectOf (ledgerOf (store mst xrf)) (create d)))
+  unfolding effectOf ledgerOf
+  create-left =
+      record {
+        ledger = ledger-more s create-leaves (s .numbers .next-low) refl refl;
+        sound = sound (createdMst mst (fieldsIn d)) (createdXrf mst xrf) (create-leaves .sound);
+      }

@@ -10,22 +10,23 @@ use Rattle.layout.specs.Control.{nextOf, endOf, formattedMst}
 use Rattle.layout.proofs.ControlRecord.{formatted-length, formatted-next, formatted-end}
 use Rattle.layout.proofs.CrossReference.{formatted-xrf-length}
 use Rattle.store.specs.Reading.{lengthsPermitted}
-use Rattle.store.specs.Refusals.{formatAnswer}
-use Rattle.store.specs.Calls.{formatMst, formatXrf}
+use Rattle.writing.specs.Refusals.{formatAnswer}
+use Rattle.writing.specs.Calls.{formatLeaves}
 use Rattle.store.specs.declared.answer.Answer.the-variants.{Done}
 use Rattle.store.proofs.Gates.{lengths-both, after-done}
-use Rattle.soundness.proofs.Standing.{sound}
+use Rattle.soundness.proofs.SoundEntries.{sound}
 use Rattle.soundness.proofs.Writes.{format-sound}
 use Rattle.ledger.specs.Call.{format}
 use Rattle.ledger.specs.Ledger.{empty}
-use Rattle.ledger.specs.StoreRun.{Store, nextS}
+use Rattle.store.specs.Store.{Store, store}
+use Rattle.ledger.specs.StoreRun.{nextS}
 use Rattle.ledger.specs.LedgerOf.{tabulate, ledgerOf, SoundStore}
 
 -- a store just formatted
 abbrev pub formatted : List ℕ → List ℕ → Store
-formatted mst xrf = record { mst = formattedMst (length mst); xrf = formattedXrf (length xrf) }
+formatted mst xrf = store (formattedMst (length mst)) (formattedXrf (length xrf))
 
-module _ (mst xrf : List ℕ) (h : lengthsPermitted mst xrf ≡ true) where
+module _ (mst xrf : List ℕ) (h : lengthsPermitted (store mst xrf) ≡ true) where
   mst-fits : mstPermitted (length mst) ≡ true
   mst-fits = lengths-both mst xrf h .0
 
@@ -51,15 +52,11 @@ module _ (mst xrf : List ℕ) (h : lengthsPermitted mst xrf ≡ true) where
   unfolding ledgerOf empty tabulate
   formatted-ledger = rw (first-next, first-end, mst-long, xrf-long)
 
-  pub format-done : formatAnswer mst xrf ≡ Done
+  pub format-done : formatAnswer (store mst xrf) ≡ Done
   unfolding formatAnswer
   format-done = rw h
 
   -- what a format that is done leaves
-  pub format-leaves : nextS (record { mst = mst; xrf = xrf }) format ≡ formatted mst xrf
-  unfolding nextS formatMst formatXrf
-  format-leaves =
-      rw (
-        after-done (formatAnswer mst xrf) (formattedMst (length mst)) mst format-done,
-        after-done (formatAnswer mst xrf) (formattedXrf (length xrf)) xrf format-done,
-      )
+  pub format-leaves : nextS (store mst xrf) format ≡ formatted mst xrf
+  unfolding nextS formatLeaves
+  format-leaves = after-done (formatAnswer (store mst xrf)) (formatted mst xrf) (store mst xrf) format-done

@@ -3,8 +3,11 @@
 use mathlib.Core.Path.{_≡_, refl, ap, _∙_}
 use mathlib.Core.List.{List, [], _∷_}
 use Rattle.ledger.specs.Call.{Call}
-use Rattle.ledger.specs.Ledger.{Ledger, answerL, nextL, answersL, afterL}
-use Rattle.ledger.specs.StoreRun.{Store, answerS, nextS, answersS, afterS}
+use Rattle.ledger.specs.Ledger.{Ledger}
+use Rattle.ledger.specs.LedgerAnswers.{answerL}
+use Rattle.ledger.specs.LedgerSteps.{nextL, answersL, afterL}
+use Rattle.store.specs.Store.{Store}
+use Rattle.ledger.specs.StoreRun.{answerS, nextS, answersS, afterS}
 use Rattle.ledger.specs.LedgerOf.{ledgerOf, SoundStore}
 
 -- one call on a sound store: its answer is the ledger's, its bytes say the ledger's next state, and they are sound

@@ -7,42 +7,42 @@ use native.Mathlib.Omega.{arith}
 use Rattle.layout.specs.Control.{nextOf}
 use Rattle.layout.specs.declared.entry.Place.{Place}
 use Rattle.layout.specs.declared.entry.Entry.the-variants.{Gone, At}
-use Rattle.store.specs.Reading.{lengthsPermitted, controlFine, mfnKnown, entryFor, recordFine, versionFine}
+use Rattle.store.specs.Reading.{lengthsPermitted, controlFine, mfnInRange, entryFor, recordFine, versionFine}
 use Rattle.store.proofs.Gates.{mfn-facts}
 use Rattle.ledger.specs.Ledger.{nextMfn, itemOf, lengthsFine, mfnIn}
-use Rattle.ledger.specs.StoreRun.{Store}
+use Rattle.store.specs.Store.{Store}
 use Rattle.ledger.specs.LedgerOf.{itemAt, ledgerOf}
 use Rattle.ledger.proofs.Items.{tabulate-length, tabulate-at}
 
 -- lengths and control record are right
 pub record Opened (s : Store) : Type 0 where
-  pub lengths : lengthsPermitted (s .mst) (s .xrf) ≡ true
-  pub control : controlFine (s .mst) (s .xrf) ≡ true
+  pub lengths : lengthsPermitted s ≡ true
+  pub control : controlFine s ≡ true
   pub next-low : 1 ≤ nextOf (s .mst)
 
 -- what is found of an MFN
 pub data Seen (s : Store) (m : ℕ) : Type 0 where
-  absent : mfnKnown (s .mst) m ≡ false → Seen s m
-  physically : mfnKnown (s .mst) m ≡ true → entryFor (s .mst) (s .xrf) m ≡ Gone → Seen s m
-  present : (p : Place) → mfnKnown (s .mst) m ≡ true → entryFor (s .mst) (s .xrf) m ≡ At p → recordFine (s .mst) m p ≡ true → versionFine (s .mst) m p ≡ true → Seen s m
+  absent : mfnInRange (s .mst) m ≡ false → Seen s m
+  physically : mfnInRange (s .mst) m ≡ true → entryFor s m ≡ Gone → Seen s m
+  present : (p : Place) → mfnInRange (s .mst) m ≡ true → entryFor s m ≡ At p → recordFine (s .mst) m p ≡ true → versionFine (s .mst) m p ≡ true → Seen s m
 
 module _ (s : Store) (o : Opened s) where
   -- what the ledger keeps is what the bytes say
   pub next-is : nextMfn (ledgerOf s) ≡ nextOf (s .mst)
   unfolding ledgerOf
-  next-is = omega (arith, o .next-low, tabulate-length (nextOf (s .mst) - 1) (itemAt (s .mst) (s .xrf)))
+  next-is = omega (arith, o .next-low, tabulate-length (nextOf (s .mst) - 1) (itemAt s))
 
   pub lengths-are : lengthsFine (ledgerOf s) ≡ true
   unfolding ledgerOf lengthsFine lengthsPermitted
   lengths-are = o .lengths
 
-  pub mfn-is : (m : ℕ) → mfnIn (ledgerOf s) m ≡ mfnKnown (s .mst) m
-  unfolding mfnIn mfnKnown
+  pub mfn-is : (m : ℕ) → mfnIn (ledgerOf s) m ≡ mfnInRange (s .mst) m
+  unfolding mfnIn mfnInRange
   mfn-is m = rw next-is
 
-  pub item-is : (m : ℕ) → mfnKnown (s .mst) m ≡ true → itemOf (ledgerOf s) m ≡ itemAt (s .mst) (s .xrf) m
+  pub item-is : (m : ℕ) → mfnInRange (s .mst) m ≡ true → itemOf (ledgerOf s) m ≡ itemAt s m
   unfolding ledgerOf
   item-is m k =
       let r = mfn-facts (s .mst) m k in
       let e : suc (m - 1) ≡ m = omega arith in
-      tabulate-at (nextOf (s .mst) - 1) (itemAt (s .mst) (s .xrf)) (m - 1) (omega arith) ∙ ap (itemAt (s .mst) (s .xrf)) e
+      tabulate-at (nextOf (s .mst) - 1) (itemAt s) (m - 1) (omega arith) ∙ ap (itemAt s) e

@@ -11,9 +11,8 @@ use Rattle.record.specs.declared.fields.Found.the-variants.{At, Missing}
 use Rattle.record.proofs.Local.{ReadsAs}
 use Rattle.record.proofs.Search.{find-field-is}
 use Rattle.record.proofs.Find.{reads-found, reads-missing}
-use Rattle.store.specs.Refusals.{isMissing}
-use Rattle.store.specs.Calls.{foundStart, foundLength}
-use Rattle.ledger.specs.Ledger.{isNone, bytesOf}
+use Rattle.views.specs.Views.{isMissing, foundStart, foundLength}
+use Rattle.ledger.specs.LedgerAnswers.{isNone, bytesOf}
 
 missing-found : (rec : List ℕ) (f : Found) → isMissing f ≡ isNone (foundBytes rec f)
 missing-found rec (At start len) = refl

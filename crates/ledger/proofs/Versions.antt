@@ -1,123 +1,149 @@
 -- Update, delete, settle and revert that are done on a sound store, beside the ledger's steps.
 use Prim.Native.Nat.{ℕ, _+_, _≤_}
 use native.Mathlib.Omega.{arith}
-use mathlib.Core.Path.{_≡_, refl, _∙_}
-use mathlib.Core.Bool.{Bool, true, false, cond}
+use mathlib.Core.Path.{_≡_, refl, sym, ap, _∙_}
+use mathlib.Core.Bool.{Bool, true, false, _||_, cond}
 use mathlib.Core.List.{List}
+use lib.Dec.{ltb}
 use lib.ListN.{length}
 use Rattle.layout.specs.Control.{nextOf, endOf}
 use Rattle.layout.specs.declared.entry.Mark.{Mark}
 use Rattle.layout.specs.declared.entry.Mark.the-variants.{Settled, Changed, New}
 use Rattle.layout.specs.declared.entry.Place.{Place}
+use Rattle.layout.specs.declared.leader.Leader.{Leader}
+use Rattle.layout.proofs.Tests.{false-true}
 use Rattle.record.specs.Fields.{Field, fieldsOf}
 use Rattle.record.specs.Bytes.{needFor}
 use Rattle.record.proofs.Draftable.{Draftable}
 use Rattle.store.specs.Reading.{placeFor, isSettled, isChanged, recordAt, leaderAt, settledRecord, currentFields}
-use Rattle.store.specs.Refusals.{updateAppends}
-use Rattle.store.specs.Calls.{pendingMark, updatedMst, updatedXrf, deletedMst, deletedXrf, settledMst, settledXrf, revertedXrf}
+use Rattle.writing.specs.Refusals.{updateAppends}
+use Rattle.writing.specs.Calls.{pendingMark, updatedMst, updatedXrf, deletedMst, deletedXrf, settledMst, settledXrf, revertedXrf}
 use Rattle.store.proofs.Gates.{MfnFacts, mfn-facts}
-use Rattle.soundness.proofs.Standing.{Sound, sound}
-use Rattle.soundness.proofs.Writes.{Leaves, update-appends, update-stays, delete-appends, delete-stays, settled-leaves, reverted-leaves}
-use Rattle.ledger.specs.Ledger.{held, Ledger, itemOf, settledFields, appends, changedMark, withItem, withItemAt, updated, deleted, settledItem, revertedItem}
-use Rattle.ledger.specs.StoreRun.{store}
-use Rattle.ledger.specs.LedgerOf.{standingAt, ledgerOf}
+use Rattle.soundness.proofs.SoundEntries.{Sound, sound}
+use Rattle.soundness.proofs.Leaving.{Leaves}
+use Rattle.soundness.proofs.Asked.{There}
+use Rattle.soundness.proofs.Writes.{update-appends, update-stays, delete-appends, delete-stays, settled-leaves, reverted-leaves}
+use Rattle.ledger.specs.Call.{update, delete, settle, revert}
+use Rattle.ledger.specs.Ledger.{settled, changed, held, Ledger, itemOf, keptLength, settledOr, settledFields}
+use Rattle.ledger.specs.LedgerAnswers.{appends}
+use Rattle.ledger.specs.LedgerSteps.{Effect, itemSet, applied, versionMark, effectOf}
+use Rattle.store.specs.Store.{store, Draft, fieldsIn}
+use Rattle.ledger.specs.LedgerOf.{markingAt, ledgerOf}
 use Rattle.ledger.proofs.Reading.{Opened}
 use Rattle.ledger.proofs.Answering.{settled-mark, appends-is, item-at}
-use Rattle.ledger.proofs.Changing.{standingFor, ledger-set}
+use Rattle.ledger.proofs.Changing.{markingFor, ledger-set}
 use Rattle.ledger.proofs.Either.{Left}
-use Rattle.ledger.proofs.Asked.{There}
 
 -- the mark of a new version at the end, and of one in place
-changed-standing : (mst : List ℕ) (p : Place) (k : Mark) (need : ℕ)
-    → standingFor (pendingMark k) need (fieldsOf (cond (isChanged k) (settledRecord mst p) (recordAt mst p))) ≡ changedMark (currentFields mst p) (standingAt mst p k) need
-changed-standing mst p Settled need = refl
-changed-standing mst p Changed need = refl
-changed-standing mst p New need = refl
+changed-marking : (mst : List ℕ) (p : Place) (k : Mark) (need : ℕ)
+    → markingFor (pendingMark k) need (fieldsOf (cond (isChanged k) (settledRecord mst p) (recordAt mst p))) ≡ versionMark (currentFields mst p) (markingAt mst p k) need
+changed-marking mst p Settled need = refl
+changed-marking mst p Changed need = refl
+changed-marking mst p New need = refl
 
-kept-standing : (mst : List ℕ) (p : Place) (k : Mark) → standingFor k (leaderAt mst p .mfrl) (fieldsOf (settledRecord mst p)) ≡ standingAt mst p k
-kept-standing mst p Settled = refl
-kept-standing mst p Changed = refl
-kept-standing mst p New = refl
+-- in place the record length stays
+kept-marking : (mst : List ℕ) (p : Place) (k : Mark) → isSettled k ≡ false
+    → markingFor k (leaderAt mst p .mfrl) (fieldsOf (settledRecord mst p)) ≡ versionMark (currentFields mst p) (markingAt mst p k) (keptLength (markingAt mst p k))
+kept-marking mst p Settled e = absurd (false-true (sym e))
+kept-marking mst p Changed e = refl
+kept-marking mst p New e = refl
+
+-- a settled record's fields become the settled fields
+settled-version : (mst : List ℕ) (p : Place) (k : Mark) (need : ℕ) → isSettled k ≡ true
+    → changed need (currentFields mst p) ≡ versionMark (currentFields mst p) (markingAt mst p k) need
+settled-version mst p Settled need e = refl
+settled-version mst p Changed need e = absurd (false-true e)
+settled-version mst p New need e = absurd (false-true e)
+
+-- a record that is updated in place is pending
+in-place : (p : Place) (l : Leader) (need : ℕ) → updateAppends p l need ≡ false → isSettled (p .mark) ≡ false
+unfolding updateAppends
+in-place p l need e = go (isSettled (p .mark)) (ltb (l .mfrl) need) e
+  where
+    go : (a b : Bool) → (a || b) ≡ false → a ≡ false
+    go true b h = absurd (false-true (sym h))
+    go false b h = refl
 
 module _ (mst xrf : List ℕ) (s : Sound mst xrf) (m : ℕ) (o : Opened (store mst xrf)) (t : There mst xrf m) where
   abbrev p : Place
-  p = placeFor mst xrf m
+  p = placeFor (store mst xrf) m
 
   range : MfnFacts mst m
   range = mfn-facts mst m (t .known)
 
-  item : itemOf (ledgerOf (store mst xrf)) m ≡ held (currentFields mst p) (p .deleted) (standingAt mst p (p .mark))
+  item : itemOf (ledgerOf (store mst xrf)) m ≡ held (currentFields mst p) (p .deleted) (markingAt mst p (p .mark))
   item = item-at (store mst xrf) o m p (t .known) (t .entry)
+
+  abbrev L : Ledger
+  L = ledgerOf (store mst xrf)
 
   -- what a call leaves, with the item of m
   left-set : {mst′ xrf′ : List ℕ} {end mfrl : ℕ} {q : Place} {fs old : List Field} → Leaves mst xrf mst′ xrf′ m end (nextOf mst) q mfrl fs old
-      → (L′ : Ledger) → withItemAt (ledgerOf (store mst xrf)) m (held fs (q .deleted) (standingFor (q .mark) mfrl old)) end ≡ L′ → Left (store mst′ xrf′) L′
-  left-set {mst′} {xrf′} l L′ e =
-      record { ledger = ledger-set s l refl (range .low) (range .high) ∙ e; sound = sound mst′ xrf′ (l .sound) }
+      → (e : Effect) → itemSet m (held fs (q .deleted) (markingFor (q .mark) mfrl old)) end ≡ e → Left (store mst′ xrf′) (applied L e)
+  left-set {mst′} {xrf′} l e same =
+      record { ledger = ledger-set s l refl (range .low) (range .high) ∙ ap (applied L) same; sound = sound mst′ xrf′ (l .sound) }
 
-  end-is : ledgerOf (store mst xrf) .end ≡ endOf mst
+  end-is : L .end ≡ endOf mst
   unfolding ledgerOf
   end-is = refl
 
   -- ---- update, by whether it is appended
 
-  module _ (fs : List Field) (d : Draftable fs) (live : p .deleted ≡ false) where
-    appends-same : appends (standingAt mst p (p .mark)) (needFor fs) ≡ updateAppends p (leaderAt mst p) (needFor fs)
+  module _ (d : Draft) (fits : Draftable (fieldsIn d)) (live : p .deleted ≡ false) where
+    appends-same : appends (markingAt mst p (p .mark)) (needFor (fieldsIn d)) ≡ updateAppends p (leaderAt mst p) (needFor (fieldsIn d))
     unfolding updateAppends
-    appends-same = appends-is mst p (p .mark) (needFor fs)
+    appends-same = appends-is mst p (p .mark) (needFor (fieldsIn d))
 
-    pub update-left : (updateAppends p (leaderAt mst p) (needFor fs) ≡ true → endOf mst + needFor fs ≤ length mst)
-        → Left (store (updatedMst mst m p fs) (updatedXrf mst xrf m p fs)) (updated (ledgerOf (store mst xrf)) m fs (itemOf (ledgerOf (store mst xrf)) m))
-    unfolding updated
-    update-left room = go (updateAppends p (leaderAt mst p) (needFor fs)) refl
+    pub update-left : (updateAppends p (leaderAt mst p) (needFor (fieldsIn d)) ≡ true → endOf mst + needFor (fieldsIn d) ≤ length mst)
+        → Left (store (updatedMst mst m p (fieldsIn d)) (updatedXrf mst xrf m p (fieldsIn d))) (applied L (effectOf L (update m d)))
+    unfolding effectOf
+    update-left room = go (updateAppends p (leaderAt mst p) (needFor (fieldsIn d))) refl
       where
-        L′ : Ledger
-        L′ = updated (ledgerOf (store mst xrf)) m fs (itemOf (ledgerOf (store mst xrf)) m)
-
-        go : (b : Bool) → updateAppends p (leaderAt mst p) (needFor fs) ≡ b → Left (store (updatedMst mst m p fs) (updatedXrf mst xrf m p fs)) L′
+        go : (b : Bool) → updateAppends p (leaderAt mst p) (needFor (fieldsIn d)) ≡ b
+            → Left (store (updatedMst mst m p (fieldsIn d)) (updatedXrf mst xrf m p (fieldsIn d))) (applied L (effectOf L (update m d)))
         go true e =
-            left-set (update-appends s m p (range .low) (range .high) (t .entry) live fs d e (room e)) L′
-            (rw (item, appends-same ∙ e, live, end-is, changed-standing mst p (p .mark) (needFor fs)))
+            left-set (update-appends s m p (range .low) (range .high) (t .entry) live (fieldsIn d) fits e (room e)) (effectOf L (update m d))
+            (rw (item, appends-same ∙ e, live, end-is, changed-marking mst p (p .mark) (needFor (fieldsIn d))))
         go false e =
-            left-set (update-stays s m p (range .low) (range .high) (t .entry) live fs d e) L′
-            (rw (item, appends-same ∙ e, live, end-is, kept-standing mst p (p .mark)))
+            left-set (update-stays s m p (range .low) (range .high) (t .entry) live (fieldsIn d) fits e) (effectOf L (update m d))
+            (rw (item, appends-same ∙ e, live, end-is, kept-marking mst p (p .mark) (in-place p (leaderAt mst p) (needFor (fieldsIn d)) e)))
 
   -- ---- delete, by whether the record is settled
 
   module _ (live : p .deleted ≡ false) where
     pub delete-left : (isSettled (p .mark) ≡ true → endOf mst + needFor (currentFields mst p) ≤ length mst)
-        → Left (store (deletedMst mst m p (currentFields mst p)) (deletedXrf mst xrf m p)) (deleted (ledgerOf (store mst xrf)) m (itemOf (ledgerOf (store mst xrf)) m))
-    unfolding deleted
+        → Left (store (deletedMst mst m p (currentFields mst p)) (deletedXrf mst xrf m p)) (applied L (effectOf L (delete m)))
+    unfolding effectOf
     delete-left room = go (isSettled (p .mark)) refl
       where
-        L′ : Ledger
-        L′ = deleted (ledgerOf (store mst xrf)) m (itemOf (ledgerOf (store mst xrf)) m)
-
-        go : (b : Bool) → isSettled (p .mark) ≡ b → Left (store (deletedMst mst m p (currentFields mst p)) (deletedXrf mst xrf m p)) L′
+        go : (b : Bool) → isSettled (p .mark) ≡ b
+            → Left (store (deletedMst mst m p (currentFields mst p)) (deletedXrf mst xrf m p)) (applied L (effectOf L (delete m)))
         go true e =
-            left-set (delete-appends s m p (range .low) (range .high) (t .entry) live e (room e)) L′ (rw (item, settled-mark mst p (p .mark), e, end-is))
+            left-set (delete-appends s m p (range .low) (range .high) (t .entry) live e (room e)) (effectOf L (delete m))
+            (rw (item, settled-mark mst p (p .mark), e, end-is, settled-version mst p (p .mark) (needFor (currentFields mst p)) e))
         go false e =
-            left-set (delete-stays s m p (range .low) (range .high) (t .entry) live e) L′
-            (rw (item, settled-mark mst p (p .mark), e, end-is, kept-standing mst p (p .mark)))
+            left-set (delete-stays s m p (range .low) (range .high) (t .entry) live e) (effectOf L (delete m))
+            (rw (item, settled-mark mst p (p .mark), e, end-is, kept-marking mst p (p .mark) e))
 
   -- ---- settle and revert
 
-  pub settle-left : Left (store (settledMst mst p) (settledXrf xrf m p)) (withItem (ledgerOf (store mst xrf)) m (settledItem (itemOf (ledgerOf (store mst xrf)) m)))
-  unfolding settledItem
-  settle-left =
-      left-set (settled-leaves s m p (range .low) (range .high) (t .entry))
-      (withItem (ledgerOf (store mst xrf)) m (settledItem (itemOf (ledgerOf (store mst xrf)) m)))
-      (rw (item, end-is))
+  pub settle-left : Left (store (settledMst mst p) (settledXrf xrf m p)) (applied L (effectOf L (settle m)))
+  unfolding effectOf
+  settle-left = left-set (settled-leaves s m p (range .low) (range .high) (t .entry)) (effectOf L (settle m)) (rw (item, end-is))
 
-  changed-fields : (k : Mark) → k ≡ Changed → settledFields (currentFields mst p) (standingAt mst p k) ≡ fieldsOf (settledRecord mst p)
+  abbrev settledEnd : List Field → ℕ → Effect
+  settledEnd fs end = itemSet m (held fs false settled) end
+
+  changed-fields : (k : Mark) → k ≡ Changed → settledOr (currentFields mst p) (markingAt mst p k) ≡ fieldsOf (settledRecord mst p)
   changed-fields Settled e = let z : _≡_ {A = ℕ} 0 1 = cc in absurd (omega arith)
   changed-fields Changed e = refl
   changed-fields New e = let z : _≡_ {A = ℕ} 0 1 = cc in absurd (omega arith)
 
-  pub revert-left : p .mark ≡ Changed
-      → Left (store mst (revertedXrf mst xrf m p)) (withItem (ledgerOf (store mst xrf)) m (revertedItem (itemOf (ledgerOf (store mst xrf)) m)))
-  unfolding revertedItem
+  reverted-fields : p .mark ≡ Changed → fieldsOf (settledRecord mst p) ≡ settledFields (itemOf L m)
+  reverted-fields c = rw item (sym (changed-fields (p .mark) c))
+
+  pub revert-left : p .mark ≡ Changed → Left (store mst (revertedXrf mst xrf m p)) (applied L (effectOf L (revert m)))
+  unfolding effectOf
   revert-left c =
-      left-set (reverted-leaves s m p (range .low) (range .high) (t .entry) c)
-      (withItem (ledgerOf (store mst xrf)) m (revertedItem (itemOf (ledgerOf (store mst xrf)) m)))
-      (rw (item, end-is, changed-fields (p .mark) c))
+      left-set (reverted-leaves s m p (range .low) (range .high) (t .entry) c) (effectOf L (revert m))
+      (ap (λ (fs : List Field). settledEnd fs (endOf mst)) (reverted-fields c) ∙ ap (settledEnd (settledFields (itemOf L m))) (sym end-is))

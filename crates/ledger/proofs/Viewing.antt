@@ -16,15 +16,16 @@ use Rattle.layout.proofs.Tests.{cond-holds}
 use Rattle.record.specs.Fields.{fieldsOf, fieldNamed, findOf}
 use Rattle.record.specs.declared.fields.Found.{Found}
 use Rattle.store.specs.Answer.{after, numberOf}
-use Rattle.store.specs.Reading.{mfnKnown, entryFor, placeFor, isChanged, recordAt, leaderAt, backAddress, recordFine, settledRecord, settledFine, versionFine, shownSettled}
-use Rattle.store.specs.Refusals.{viewAnswer, settledViewAnswer}
-use Rattle.store.specs.Calls.{foundStart, foundLength, shownAt, viewOf, settledAddress, settledViewOf, shownBytes}
+use Rattle.store.specs.Reading.{mfnInRange, entryFor, placeFor, isChanged, recordAt, leaderAt, backAddress, recordFine, settledRecord, settledFine, versionFine, shownSettled}
+use Rattle.views.specs.Views.{viewAnswer, settledViewAnswer, foundStart, foundLength, shownAt, viewOf, settledAddress, settledViewOf, shownBytes}
 use Rattle.store.specs.declared.answer.Answer.{Answer}
-use Rattle.store.specs.declared.answer.Answer.the-variants.{NoSuchMfn, PhysicallyDeleted}
+use Rattle.store.specs.declared.answer.Answer.the-variants.{NoMfn, Gone as GoneAnswer}
 use Rattle.store.proofs.Gates.{Refusing, after-refused, fine-reads, settled-fine-reads}
-use Rattle.ledger.specs.Call.{Outcome, view, viewSettled}
-use Rattle.ledger.specs.Ledger.{itemOf, fieldsIn, standingIn, settledFields, bytesOf, answerL}
-use Rattle.ledger.specs.StoreRun.{Store, answerS}
+use Rattle.ledger.specs.Call.{outcome, view, viewSettled}
+use Rattle.ledger.specs.Ledger.{itemOf, keptFields, settledFields}
+use Rattle.ledger.specs.LedgerAnswers.{bytesOf, givesL, answerL}
+use Rattle.store.specs.Store.{Store}
+use Rattle.ledger.specs.StoreRun.{answerS}
 use Rattle.ledger.specs.LedgerOf.{ledgerOf}
 use Rattle.ledger.proofs.Reading.{Opened, Seen, absent, physically, present}
 use Rattle.ledger.proofs.Showing.{shown-done}
@@ -44,45 +45,45 @@ shown-none : (d : List ℕ) (a : Answer) (at : ℕ) (f : Found) (b : List ℕ) �
 shown-none d a at f b h =
     shown-after d a at f ∙ after-refused a (part d (at + foundStart f) (foundLength f)) [] h ∙ sym (after-refused a b [] h)
 
-refusing-absent : (a : Answer) → a ≡ NoSuchMfn → Refusing a
+refusing-absent : (a : Answer) → a ≡ NoMfn → Refusing a
 unfolding numberOf
 refusing-absent a e z = let y : _≡_ {A = ℕ} 4 0 = sym (ap numberOf e) ∙ z in omega arith
 
-refusing-gone : (a : Answer) → a ≡ PhysicallyDeleted → Refusing a
+refusing-gone : (a : Answer) → a ≡ GoneAnswer → Refusing a
 unfolding numberOf
 refusing-gone a e z = let y : _≡_ {A = ℕ} 7 0 = sym (ap numberOf e) ∙ z in omega arith
 
 -- two outcomes are equal by their parts
-same-outcome : (a b : Answer) (x y : List ℕ) → a ≡ b → x ≡ y → _≡_ {A = Outcome} (record { answer = a; mfn = 0; shown = x }) (record { answer = b; mfn = 0; shown = y })
+same-outcome : (a b : Answer) (x y : List ℕ) → a ≡ b → x ≡ y → outcome a 0 x ≡ outcome b 0 y
 same-outcome a b x y p q = rw (p, q)
 
 module _ (s : Store) (o : Opened s) where
-  view-absent : (m tag occ : ℕ) → mfnKnown (s .mst) m ≡ false → viewAnswer (s .mst) (s .xrf) m tag occ ≡ NoSuchMfn
+  view-absent : (m tag occ : ℕ) → mfnInRange (s .mst) m ≡ false → viewAnswer s m tag occ ≡ NoMfn
   unfolding viewAnswer
   view-absent m tag occ k = rw (o .lengths, o .control, k)
 
-  view-gone : (m tag occ : ℕ) → mfnKnown (s .mst) m ≡ true → entryFor (s .mst) (s .xrf) m ≡ Gone → viewAnswer (s .mst) (s .xrf) m tag occ ≡ PhysicallyDeleted
+  view-gone : (m tag occ : ℕ) → mfnInRange (s .mst) m ≡ true → entryFor s m ≡ Gone → viewAnswer s m tag occ ≡ GoneAnswer
   unfolding viewAnswer
   view-gone m tag occ k e = rw (o .lengths, o .control, k, e)
 
   view-shown : (m tag occ : ℕ) → Seen s m
-      → shownBytes (s .mst) (viewOf (s .mst) (s .xrf) m tag occ) ≡ after (viewAnswer (s .mst) (s .xrf) m tag occ) (bytesOf (fieldNamed (fieldsIn (itemOf (ledgerOf s) m)) tag occ)) []
+      → shownBytes (s .mst) (viewOf s m tag occ) ≡ after (viewAnswer s m tag occ) (bytesOf (fieldNamed (keptFields (itemOf (ledgerOf s) m)) tag occ)) []
   unfolding viewOf
-  view-shown m tag occ (absent k) = shown-none (s .mst) (viewAnswer (s .mst) (s .xrf) m tag occ) _ _ _ (refusing-absent _ (view-absent m tag occ k))
-  view-shown m tag occ (physically k e) = shown-none (s .mst) (viewAnswer (s .mst) (s .xrf) m tag occ) _ _ _ (refusing-gone _ (view-gone m tag occ k e))
+  view-shown m tag occ (absent k) = shown-none (s .mst) (viewAnswer s m tag occ) _ _ _ (refusing-absent _ (view-absent m tag occ k))
+  view-shown m tag occ (physically k e) = shown-none (s .mst) (viewAnswer s m tag occ) _ _ _ (refusing-gone _ (view-gone m tag occ k e))
   view-shown m tag occ (present p k e f v) =
       rw (
-        shown-after (s .mst) (viewAnswer (s .mst) (s .xrf) m tag occ) (placeAddress (placeFor (s .mst) (s .xrf) m)) (findOf (recordAt (s .mst) (placeFor (s .mst) (s .xrf) m)) tag occ),
+        shown-after (s .mst) (viewAnswer s m tag occ) (placeAddress (placeFor s m)) (findOf (recordAt (s .mst) (placeFor s m)) tag occ),
         e,
         item-at s o m p k e,
         shown-done (s .mst) (placeAddress p) (endOf (s .mst) - placeAddress p) (fine-reads (s .mst) m p f) tag occ,
       )
 
   pub view-outcome : (m tag occ : ℕ) → Seen s m → answerS s (view m tag occ) ≡ answerL (ledgerOf s) (view m tag occ)
-  unfolding answerS answerL viewOf shownAt
+  unfolding answerS answerL givesL viewOf shownAt
   view-outcome m tag occ w =
       same-outcome _ _ _ _ (view-answer s o m tag occ w)
-      (view-shown m tag occ w ∙ ap (λ (a : Answer). after a (bytesOf (fieldNamed (fieldsIn (itemOf (ledgerOf s) m)) tag occ)) []) (view-answer s o m tag occ w))
+      (view-shown m tag occ w ∙ ap (λ (a : Answer). after a (bytesOf (fieldNamed (keptFields (itemOf (ledgerOf s) m)) tag occ)) []) (view-answer s o m tag occ w))
 
   -- the record of the settled view, by the mark
   version-shown : (m tag occ : ℕ) (p : Place) → recordFine (s .mst) m p ≡ true → versionFine (s .mst) m p ≡ true → (k : Mark) → p .mark ≡ k
@@ -95,23 +96,23 @@ module _ (s : Store) (o : Opened s) where
       shown-done (s .mst) (backAddress (leaderAt (s .mst) p)) (endOf (s .mst) - backAddress (leaderAt (s .mst) p)) (settled-fine-reads (s .mst) m p (cond-holds (isChanged (p .mark)) (settledFine (s .mst) m p) v (ap isChanged q))) tag occ
   version-shown m tag occ p f v New q = shown-done (s .mst) (placeAddress p) (endOf (s .mst) - placeAddress p) (fine-reads (s .mst) m p f) tag occ
 
-  settled-absent : (m tag occ : ℕ) → mfnKnown (s .mst) m ≡ false → settledViewAnswer (s .mst) (s .xrf) m tag occ ≡ NoSuchMfn
+  settled-absent : (m tag occ : ℕ) → mfnInRange (s .mst) m ≡ false → settledViewAnswer s m tag occ ≡ NoMfn
   unfolding settledViewAnswer
   settled-absent m tag occ k = rw (o .lengths, o .control, k)
 
-  settled-gone : (m tag occ : ℕ) → mfnKnown (s .mst) m ≡ true → entryFor (s .mst) (s .xrf) m ≡ Gone → settledViewAnswer (s .mst) (s .xrf) m tag occ ≡ PhysicallyDeleted
+  settled-gone : (m tag occ : ℕ) → mfnInRange (s .mst) m ≡ true → entryFor s m ≡ Gone → settledViewAnswer s m tag occ ≡ GoneAnswer
   unfolding settledViewAnswer
   settled-gone m tag occ k e = rw (o .lengths, o .control, k, e)
 
   settled-shown : (m tag occ : ℕ) → Seen s m
-      → shownBytes (s .mst) (settledViewOf (s .mst) (s .xrf) m tag occ)
-      ≡ after (settledViewAnswer (s .mst) (s .xrf) m tag occ) (bytesOf (fieldNamed (settledFields (fieldsIn (itemOf (ledgerOf s) m)) (standingIn (itemOf (ledgerOf s) m))) tag occ)) []
+      → shownBytes (s .mst) (settledViewOf s m tag occ)
+      ≡ after (settledViewAnswer s m tag occ) (bytesOf (fieldNamed (settledFields (itemOf (ledgerOf s) m)) tag occ)) []
   unfolding settledViewOf
-  settled-shown m tag occ (absent k) = shown-none (s .mst) (settledViewAnswer (s .mst) (s .xrf) m tag occ) _ _ _ (refusing-absent _ (settled-absent m tag occ k))
-  settled-shown m tag occ (physically k e) = shown-none (s .mst) (settledViewAnswer (s .mst) (s .xrf) m tag occ) _ _ _ (refusing-gone _ (settled-gone m tag occ k e))
+  settled-shown m tag occ (absent k) = shown-none (s .mst) (settledViewAnswer s m tag occ) _ _ _ (refusing-absent _ (settled-absent m tag occ k))
+  settled-shown m tag occ (physically k e) = shown-none (s .mst) (settledViewAnswer s m tag occ) _ _ _ (refusing-gone _ (settled-gone m tag occ k e))
   settled-shown m tag occ (present p k e f v) =
       rw (
-        shown-after (s .mst) (settledViewAnswer (s .mst) (s .xrf) m tag occ) (settledAddress (s .mst) (placeFor (s .mst) (s .xrf) m)) (findOf (shownSettled (s .mst) (placeFor (s .mst) (s .xrf) m)) tag occ),
+        shown-after (s .mst) (settledViewAnswer s m tag occ) (settledAddress (s .mst) (placeFor s m)) (findOf (shownSettled (s .mst) (placeFor s m)) tag occ),
         e,
         item-at s o m p k e,
         settled-fields (s .mst) p (p .mark),
@@ -119,9 +120,9 @@ module _ (s : Store) (o : Opened s) where
       )
 
   pub settled-view-outcome : (m tag occ : ℕ) → Seen s m → answerS s (viewSettled m tag occ) ≡ answerL (ledgerOf s) (viewSettled m tag occ)
-  unfolding answerS answerL settledViewOf shownAt
+  unfolding answerS answerL givesL settledViewOf shownAt
   settled-view-outcome m tag occ w =
       same-outcome _ _ _ _ (settled-view-answer s o m tag occ w)
       (settled-shown m tag occ w
-      ∙ ap (λ (a : Answer). after a (bytesOf (fieldNamed (settledFields (fieldsIn (itemOf (ledgerOf s) m)) (standingIn (itemOf (ledgerOf s) m))) tag occ)) [])
+      ∙ ap (λ (a : Answer). after a (bytesOf (fieldNamed (settledFields (itemOf (ledgerOf s) m)) tag occ)) [])
       (settled-view-answer s o m tag occ w))

@@ -2,26 +2,35 @@
 use Prim.Native.Nat.{ℕ}
 use mathlib.Core.List.{List, []}
 use Rattle.store.specs.declared.answer.Answer.{Answer}
+use Rattle.store.specs.Store.{Draft}
 
 pub data Call : Type 0 where
   format : Call
   -- MFN, tag, occurrence
   view : ℕ → ℕ → ℕ → Call
   viewSettled : ℕ → ℕ → ℕ → Call
-  -- the draft: tags, lengths, data
-  create : List ℕ → List ℕ → List ℕ → Call
-  -- MFN and draft
-  update : ℕ → List ℕ → List ℕ → List ℕ → Call
+  create : Draft → Call
+  update : ℕ → Draft → Call
   delete : ℕ → Call
   settle : ℕ → Call
   revert : ℕ → Call
   check : Call
 
--- the answer, the MFN returned (0 but from a create that is done) and the field shown (empty but from a view that is done)
+-- what a call answers
 pub record Outcome : Type 0 where
   pub answer : Answer
+  -- the MFN returned: 0 but from a create that is done
   pub mfn : ℕ
+  -- the field shown: empty but from a view that is done
   pub shown : List ℕ
+  -- how many: 0 from a call that counts nothing
+  pub count : ℕ
+  -- the answers of the calls that it is made of: empty from a call that is one
+  pub answers : List Answer
+
+-- an answer with an MFN and a field, and one with neither
+abbrev pub outcome : Answer → ℕ → List ℕ → Outcome
+outcome a m bytes = record { answer = a; mfn = m; shown = bytes; count = 0; answers = [] }
 
 abbrev pub plain : Answer → Outcome
-plain a = record { answer = a; mfn = 0; shown = [] }
+plain a = outcome a 0 []

@@ -13,24 +13,24 @@ use Rattle.layout.specs.declared.entry.Entry.the-variants.{Gone, Malformed, At}
 use Rattle.record.specs.Fields.{fieldsOf}
 use Rattle.store.specs.Reading.{entryFor, leaderAt, settledRecord, currentFields}
 use Rattle.soundness.specs.Sound.{soundOf}
-use Rattle.ledger.specs.Ledger.{Standing, settled, new, changed, Item, gone, held, Ledger}
-use Rattle.ledger.specs.StoreRun.{Store}
+use Rattle.ledger.specs.Ledger.{Marking, settled, new, changed, Item, gone, held, Ledger}
+use Rattle.store.specs.Store.{Store}
 
 -- the mark of the record at a place, with the record length under new and changed, and under changed the settled version's fields
-abbrev pub standingAt : List ℕ → Place → Mark → Standing
-standingAt mst p Settled = settled
-standingAt mst p New = new (leaderAt mst p .mfrl)
-standingAt mst p Changed = changed (leaderAt mst p .mfrl) (fieldsOf (settledRecord mst p))
+abbrev pub markingAt : List ℕ → Place → Mark → Marking
+markingAt mst p Settled = settled
+markingAt mst p New = new (leaderAt mst p .mfrl)
+markingAt mst p Changed = changed (leaderAt mst p .mfrl) (fieldsOf (settledRecord mst p))
 
 -- the item of an entry
 abbrev pub itemFor : List ℕ → Entry → Item
 itemFor mst Gone = gone
 itemFor mst Malformed = gone
-itemFor mst (At p) = held (currentFields mst p) (p .deleted) (standingAt mst p (p .mark))
+itemFor mst (At p) = held (currentFields mst p) (p .deleted) (markingAt mst p (p .mark))
 
 -- the item of MFN m
-abbrev pub itemAt : List ℕ → List ℕ → ℕ → Item
-itemAt mst xrf m = itemFor mst (entryFor mst xrf m)
+abbrev pub itemAt : Store → ℕ → Item
+itemAt s m = itemFor (s .mst) (entryFor s m)
 
 -- f of 1 to n
 unfoldable pub tabulate : ℕ → (ℕ → Item) → List Item
@@ -43,9 +43,9 @@ ledgerOf s =
       mstLength = length (s .mst);
       xrfLength = length (s .xrf);
       end = endOf (s .mst);
-      items = tabulate (nextOf (s .mst) - 1) (itemAt (s .mst) (s .xrf));
+      items = tabulate (nextOf (s .mst) - 1) (itemAt s);
     }
 
 -- the store is sound
 abbrev pub SoundStore : Store → Type 0
-SoundStore s = soundOf (s .mst) (s .xrf) ≡ true
+SoundStore s = soundOf s ≡ true

@@ -1,6 +1,8 @@
 pub mod Call
 pub mod Ledger
+pub mod LedgerAnswers
+pub mod LedgerSteps
 pub mod StoreRun
 pub mod LedgerOf
-pub mod Replay
-pub mod Turns
+pub mod Demand3
+pub mod History

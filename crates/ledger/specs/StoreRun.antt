@@ -2,56 +2,42 @@
 -- the calls cite.
 use Prim.Native.Nat.{ℕ}
 use mathlib.Core.List.{List, [], _∷_}
-use Rattle.store.specs.Refusals.{formatAnswer, updateAnswer, deleteAnswer, settleAnswer, revertAnswer}
-use Rattle.store.specs.Calls.{formatMst, formatXrf, viewOf, settledViewOf, shownBytes, createOf, createMst, createXrf, updateMst, updateXrf, deleteMst, deleteXrf, settleMst, settleXrf, revertXrf}
+use Rattle.writing.specs.Refusals.{formatAnswer, updateAnswer, deleteAnswer, settleAnswer, revertAnswer}
+use Rattle.writing.specs.Calls.{formatLeaves, createOf, createLeaves, updateLeaves, deleteLeaves, settleLeaves, revertLeaves}
+use Rattle.views.specs.Views.{viewOf, settledViewOf, shownBytes}
+use Rattle.writing.specs.declared.create.Created.{Created}
+use Rattle.views.specs.declared.views.Shown.{Shown}
 use Rattle.soundness.specs.Sound.{checkAnswer}
-use Rattle.ledger.specs.Call.{Call, format, view, viewSettled, create, update, delete, settle, revert, check, Outcome, plain}
+use Rattle.store.specs.Store.{Store}
+use Rattle.ledger.specs.Call.{Call, format, view, viewSettled, create, update, delete, settle, revert, check, Outcome, outcome, plain}
 
--- the two buffers
-pub record Store : Type 0 where
-  pub mst : List ℕ
-  pub xrf : List ℕ
+-- what a view shows, and what a create returns
+abbrev pub shownOutcome : List ℕ → Shown → Outcome
+shownOutcome mst r = outcome (r .answer) 0 (shownBytes mst r)
 
-abbrev pub store : List ℕ → List ℕ → Store
-store mst xrf = record { mst = mst; xrf = xrf }
+abbrev pub createdOutcome : Created → Outcome
+createdOutcome r = outcome (r .answer) (r .mfn .0) []
 
 unfoldable pub answerS : Store → Call → Outcome
-answerS s format = plain (formatAnswer (s .mst) (s .xrf))
-answerS s (view m tag occ) =
-    record {
-      answer = viewOf (s .mst) (s .xrf) m tag occ .answer;
-      mfn = 0;
-      shown = shownBytes (s .mst) (viewOf (s .mst) (s .xrf) m tag occ);
-    }
-answerS s (viewSettled m tag occ) =
-    record {
-      answer = settledViewOf (s .mst) (s .xrf) m tag occ .answer;
-      mfn = 0;
-      shown = shownBytes (s .mst) (settledViewOf (s .mst) (s .xrf) m tag occ);
-    }
-answerS s (create tags lens bytes) =
-    record {
-      answer = createOf (s .mst) (s .xrf) tags lens bytes .answer;
-      mfn = createOf (s .mst) (s .xrf) tags lens bytes .mfn .0;
-      shown = [];
-    }
-answerS s (update m tags lens bytes) = plain (updateAnswer (s .mst) (s .xrf) m tags lens bytes)
-answerS s (delete m) = plain (deleteAnswer (s .mst) (s .xrf) m)
-answerS s (settle m) = plain (settleAnswer (s .mst) (s .xrf) m)
-answerS s (revert m) = plain (revertAnswer (s .mst) (s .xrf) m)
-answerS s check = plain (checkAnswer (s .mst) (s .xrf))
+answerS s format = plain (formatAnswer s)
+answerS s (view m tag occ) = shownOutcome (s .mst) (viewOf s m tag occ)
+answerS s (viewSettled m tag occ) = shownOutcome (s .mst) (settledViewOf s m tag occ)
+answerS s (create d) = createdOutcome (createOf s d)
+answerS s (update m d) = plain (updateAnswer s m d)
+answerS s (delete m) = plain (deleteAnswer s m)
+answerS s (settle m) = plain (settleAnswer s m)
+answerS s (revert m) = plain (revertAnswer s m)
+answerS s check = plain (checkAnswer s)
 
 unfoldable pub nextS : Store → Call → Store
-nextS s format = record { mst = formatMst (s .mst) (s .xrf); xrf = formatXrf (s .mst) (s .xrf) }
+nextS s format = formatLeaves s
 nextS s (view m tag occ) = s
 nextS s (viewSettled m tag occ) = s
-nextS s (create tags lens bytes) =
-    record { mst = createMst (s .mst) (s .xrf) tags lens bytes; xrf = createXrf (s .mst) (s .xrf) tags lens bytes }
-nextS s (update m tags lens bytes) =
-    record { mst = updateMst (s .mst) (s .xrf) m tags lens bytes; xrf = updateXrf (s .mst) (s .xrf) m tags lens bytes }
-nextS s (delete m) = record { mst = deleteMst (s .mst) (s .xrf) m; xrf = deleteXrf (s .mst) (s .xrf) m }
-nextS s (settle m) = record { mst = settleMst (s .mst) (s .xrf) m; xrf = settleXrf (s .mst) (s .xrf) m }
-nextS s (revert m) = record { mst = s .mst; xrf = revertXrf (s .mst) (s .xrf) m }
+nextS s (create d) = createLeaves s d
+nextS s (update m d) = updateLeaves s m d
+nextS s (delete m) = deleteLeaves s m
+nextS s (settle m) = settleLeaves s m
+nextS s (revert m) = revertLeaves s m
 nextS s check = s
 
 -- the answers to a list of calls, in order, and the buffers after them

@@ -1,2 +1,1 @@
-// The ledger of demand 3 and the theorem about every list of calls; `replay` is the theorem in running code.
-pub mod replay;
+// The ledger of demand 3 and the theorem about every list of calls. There is no code here: crate `replay` is the theorem in running code.

@@ -2,18 +2,19 @@
 -- read the records and never the tests.
 use Prim.Native.Nat.{ℕ, suc, _+_, _*_, _-_, _%_, _≤_}
 use native.Mathlib.Omega.{arith}
-use mathlib.Core.Path.{_≡_, refl}
+use mathlib.Core.Path.{_≡_, refl, ap}
 use mathlib.Core.Bool.{Bool, true, false, _&&_, cond, and-true, and-false}
 use mathlib.Core.List.{List}
 use lib.ListN.{length}
 use Rattle.layout.specs.Sizes.{recordMost, recordLength, tagPermitted}
 use Rattle.layout.specs.Leader.{leaderOf}
+use Rattle.layout.specs.declared.entry.Place.{Place}
 use Rattle.layout.specs.declared.leader.Leader.{Leader}
 use Rattle.layout.proofs.Tests.{tests}
 use Rattle.layout.proofs.Facts.{record-length-facts}
 use Rattle.record.specs.Directory.{tagAt, posAt, lenAt, entryRight, entriesRight, directoryRight}
-use Rattle.record.specs.Record.{extentRight, baseRight, fieldsRight, statusFor, statusRight, recordRight, noBack, Readable}
-use Rattle.record.specs.Inner.{leaderRight, testOf}
+use Rattle.record.specs.Record.{leaderRight, extentRight, baseRight, fieldsRight, statusFor, statusRight, backFine, wellFormed, recordRight, noBack, Readable}
+use Rattle.record.specs.Inner.{testOf}
 use Rattle.record.specs.Draft.{sum, tagsPermitted, needOf, draftRight}
 use Rattle.record.specs.declared.test.Tested.the-variants.{WellFormed, Broken}
 
@@ -79,28 +80,31 @@ pub record RightFacts (rec : List ℕ) (m : ℕ) (deleted : Bool) : Type 0 where
   pub leader : LeaderFacts m deleted (length rec) (leaderOf rec)
   pub directory : directoryRight rec (leaderOf rec .mfrl - leaderOf rec .base) (leaderOf rec .nvf) 0 0 ≡ true
 
--- the last of three tests, before a fourth or after it
+-- the third of four tests may be the last
 and-last : (a b c d : Bool) → (a && b && c && d) ≡ (a && b && d && c)
 and-last false b c d = refl
 and-last true false c d = refl
 and-last true true false d = rw (and-false d)
 and-last true true true d = rw (and-true d)
 
-module _ (rec : List ℕ) (m : ℕ) (deleted : Bool) where
-  -- the leader can be tested first
-  pub leader-first : recordRight rec m deleted ≡ (leaderRight m deleted (length rec) (leaderOf rec) && fieldsRight rec (leaderOf rec))
-  unfolding recordRight leaderRight
-  leader-first =
-      and-last (extentRight m (length rec) (leaderOf rec)) (baseRight (leaderOf rec)) (fieldsRight rec (leaderOf rec)) (statusRight deleted (leaderOf rec))
+-- a record is well formed if it is right and its back pointer is
+pub well-formed-both : (rec : List ℕ) (end m : ℕ) (p : Place) → wellFormed rec end m p ≡ (recordRight rec m (p .deleted) && backFine end p (leaderOf rec))
+unfolding wellFormed recordRight leaderRight
+well-formed-both rec end m p =
+    ap (λ (x : Bool). x && backFine end p (leaderOf rec))
+    (and-last (extentRight m (length rec) (leaderOf rec)) (baseRight (leaderOf rec)) (fieldsRight rec (leaderOf rec)) (statusRight (p .deleted) (leaderOf rec)))
 
+module _ (rec : List ℕ) (m : ℕ) (deleted : Bool) where
   pub right-facts : recordRight rec m deleted ≡ true → RightFacts rec m deleted
+  unfolding recordRight
   right-facts e =
-      let q = simp tests at (rw leader-first at e) in
+      let q = simp tests at e in
       record { leader = leader-facts m deleted (length rec) (leaderOf rec) (q .0); directory = q .1 }
 
   pub right-from : leaderRight m deleted (length rec) (leaderOf rec) ≡ true
       → directoryRight rec (leaderOf rec .mfrl - leaderOf rec .base) (leaderOf rec .nvf) 0 0 ≡ true → recordRight rec m deleted ≡ true
-  right-from a b = rw (leader-first, a, b)
+  unfolding recordRight
+  right-from a b = simp tests (a, b)
 
   pub right-readable : recordRight rec m deleted ≡ true → Readable rec
   right-readable e =

@@ -10,5 +10,8 @@ pub mod Trip
 pub mod DraftFields
 pub mod Writing
 pub mod Walking
+mod Again
+mod Asking
+mod Locals
 pub mod Held
 pub mod TakenApart

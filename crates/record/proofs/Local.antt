@@ -20,8 +20,7 @@ use Rattle.layout.specs.declared.leader.Leader.{Leader}
 use Rattle.layout.proofs.LeaderBytes.{leader-is, leader-front}
 use Rattle.record.specs.Directory.{tagAt, posAt, lenAt, entryRight, entriesRight, directoryRight}
 use Rattle.record.specs.Fields.{Field, fieldsFrom, fieldsOf}
-use Rattle.record.specs.Record.{statusFor, recordRight}
-use Rattle.record.specs.Inner.{leaderRight}
+use Rattle.record.specs.Record.{leaderRight, statusFor, recordRight}
 use Rattle.record.proofs.Facts.{EntryFacts, entry-facts, LeaderFacts, leader-from, right-facts, right-from}
 
 -- what is read of a record that is right for MFN m and deleted or not: its leader and its fields

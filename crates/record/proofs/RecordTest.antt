@@ -15,10 +15,10 @@ use Rattle.layout.specs.declared.entry.Mark.{Mark}
 use Rattle.layout.specs.declared.entry.Mark.the-variants.{Settled, Changed, New}
 use Rattle.layout.specs.declared.leader.Leader.{Leader}
 use Rattle.record.specs.Directory.{directoryRight}
-use Rattle.record.specs.Record.{extentRight, baseRight, statusFor, statusRight, recordRight, noBack, backRight, Readable}
-use Rattle.record.specs.Inner.{leaderRight, testOf}
+use Rattle.record.specs.Record.{leaderRight, extentRight, baseRight, statusFor, statusRight, recordRight, noBack, backRight, Readable}
+use Rattle.record.specs.Inner.{testOf}
 use Rattle.record.specs.declared.test.Tested.the-variants.{WellFormed, Broken}
-use Rattle.record.proofs.Facts.{leader-facts, leader-first, right-facts, test-right, right-readable}
+use Rattle.record.proofs.Facts.{leader-facts, right-facts, test-right, right-readable}
 
 -- ---- the leader
 
@@ -71,8 +71,8 @@ module _ (rec : List ℕ) (m : ℕ) (deleted : Bool) where
 
   module _ (l : Leader) (b : Bool) (e : l ≡ leaderOf rec) (p : b ≡ leaderRight m deleted (length rec) l) where
     pub answer-leader : not b ≡ true → Broken ≡ testOf rec m deleted
-    unfolding testOf
-    answer-leader h = rw (leader-first rec m deleted, ← e, ← p, not-true b h)
+    unfolding testOf recordRight
+    answer-leader h = rw (← e, ← p, not-true b h)
 
     module _ (h : not b ≡ false) where
       pub need-room : l .base ≤ l .mfrl
@@ -83,12 +83,12 @@ module _ (rec : List ℕ) (m : ℕ) (deleted : Bool) where
 
       module _ (d : Bool) (q : d ≡ directoryRight rec (l .mfrl - l .base) (l .nvf) 0 0) where
         pub answer-right : d ≡ true → WellFormed l ≡ testOf rec m deleted
-        unfolding testOf
-        answer-right k = rw (leader-first rec m deleted, ← e, ← p, ← q, not-false b h, k)
+        unfolding testOf recordRight
+        answer-right k = rw (← e, ← p, ← q, not-false b h, k)
 
         pub answer-wrong : d ≡ false → Broken ≡ testOf rec m deleted
-        unfolding testOf
-        answer-wrong k = rw (leader-first rec m deleted, ← e, ← p, ← q, not-false b h, k)
+        unfolding testOf recordRight
+        answer-wrong k = rw (← e, ← p, ← q, not-false b h, k)
 
 -- ---- the back pointer
 

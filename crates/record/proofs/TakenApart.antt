@@ -40,6 +40,7 @@ use denote.Exit.{yes}
 use Rattle.record.specs.declared.walker.FieldWalker.{FieldWalker}
 use Rattle.record.proofs.walker.FieldWalker as T
 use Rattle.record.proofs.walker.FieldWalker.Laws as T′
+use Rattle.record.proofs.Asking as asking
 use Rattle.record.proofs.Held.{B, passed, Passed, Own, parts}
 
 -- the function's MIR, at the result's MIR type and the step's name
@@ -69,10 +70,17 @@ module _ (R : Slot 1) (asks wants : List ℕ → ℕ → Type 0) (gives : (κs :
         kept = (yes, (yes, tt));
       }
 
-  abbrev pub over : Ended
-  over = record { signature = record { lifetimes = 1; outlives = []; params = plain B ∷ []; result = R }; kept = (yes, tt) }
+  -- the function's own contract, over the walker
+  abbrev asked : FieldWalker → Type 0
+  asked d = asks (now (d .rec)) (d .index)
 
-  abbrev stayed : Stays (over .signature .params) (over .kept)
+  abbrev given-back : (κs : Lfts 1) → FieldWalker → R .row κs .Denot → Type 0
+  given-back κs d r = gives κs (now (d .rec)) (d .index) r
+
+  abbrev Func : Ended
+  Func = asking.over R asked given-back
+
+  abbrev stayed : Stays (Func .signature .params) (Func .kept)
   stayed = (stay-none B yes, tt)
 
   module _ {M : Type 1} (𝓤 : URA M) where
@@ -84,21 +92,13 @@ module _ (R : Slot 1) (asks wants : List ℕ → ℕ → Type 0) (gives : (κs :
           ensures = λ g r e. fact 𝓤 (gives κs (now (a .0)) (a .1 .0) r);
         }
 
-    abbrev pub over-clauses : Clauses 𝓤 over
-    over-clauses κs a =
-        record {
-          ghost = Unit {0};
-          requires = λ g. fact 𝓤 (asks (now (a .0 .rec)) (a .0 .index));
-          ensures = λ g r e. fact 𝓤 (gives κs (now (a .0 .rec)) (a .0 .index) r);
-        }
-
   module _ {M : Type 1} (𝓤 : URA M) (H : Heap 𝓤) (A : Atoms 𝓤) where
     -- the step's contract, and the function's
     abbrev pub Step : Contract 𝓤
     Step = tripleOf 𝓤 H A (step .signature) (closing 𝓤 H A step (step-clauses 𝓤))
 
     abbrev pub Over : Contract 𝓤
-    Over = tripleOf 𝓤 H A (over .signature) (closing 𝓤 H A over (over-clauses 𝓤))
+    Over = asking.Over R asked given-back 𝓤 H A
 
   -- τ is the MIR type of R's values, f the step's name
   module _ {M : Type 1} (𝓤 : URA M) (H : Heap 𝓤) (A : Atoms 𝓤) (W : Given 𝓤 H A) (τ : Ty) (f : Name) (enough : (rec : List ℕ) (i : ℕ) → asks rec i → wants rec i)
@@ -114,14 +114,14 @@ module _ (R : Slot 1) (asks wants : List ℕ → ℕ → Type 0) (gives : (κs :
       Given-back r = gives (κ, tt) (now (d .rec)) (d .index) r
 
       abbrev Post : Val → SProp 𝓤
-      Post = walkOf 𝓤 H A over stayed (over-clauses 𝓤) .post (((κ, tt), (q, tt), tt, (d, tt), (mach ∷ [], tt)), tt)
+      Post = walkOf 𝓤 H A Func stayed (asking.over-clauses R asked given-back 𝓤) .post (((κ, tt), (q, tt), tt, (d, tt), (mach ∷ [], tt)), tt)
 
       abbrev to : Step 𝓤 H A .Ghost
       to = (((κ, tt), (q, tt), tt, (d .rec, (d .index, tt)), passed (d .rec) (d .index)), tt)
 
       -- what the walker owns gives what the step asks, and is kept
       goes : d .index < 2 ^ 64 → asks (now (d .rec)) (d .index)
-          → ent 𝓤 (onEntry 𝓤 H A (over .signature) (κ, tt) (q, tt) (d, tt) (mach ∷ [], tt)) (sep 𝓤 (Step 𝓤 H A .pre to) (sem 𝓤 H A (Own κ d)))
+          → ent 𝓤 (onEntry 𝓤 H A (Func .signature) (κ, tt) (q, tt) (d, tt) (mach ∷ [], tt)) (sep 𝓤 (Step 𝓤 H A .pre to) (sem 𝓤 H A (Own κ d)))
       goes fits ok =
           qed W ((‵ (flft κ q) ⊛ ‵ ftrue) ∷ ‵ (owns (B (κ, tt) ∷ []) (d, tt) (mach ∷ [], tt)) ∷ []) ∵ move ! (1 ∷ []) $ fsplit ! $ move ! (1 ∷ []) $ drop ! $
           use1 W (‵ (Passed κ (d .rec) (d .index)) ⊛ ‵ (Own κ d)) (parts 𝓤 H A W κ d fits) $ split ! $
@@ -135,14 +135,14 @@ module _ (R : Slot 1) (asks wants : List ℕ → ℕ → Type 0) (gives : (κs :
       exits : (r : Res .Denot) (u : Val) → Given-back r → ent 𝓤 (⋆ 𝓤 H A (‵ (Res .own r (u ∷ [])) ∷ (‵ (flft κ q) ⊛ ‵ ftrue) ∷ ‵ (Own κ d) ∷ [])) (Post u)
       exits r u e =
           qed W (‵ (Res .own r (u ∷ [])) ∷ (‵ (flft κ q) ⊛ ‵ ftrue) ∷ ‵ (Own κ d) ∷ []) ∵
-          suffices ! _ (ends-at 𝓤 H A over stayed (over-clauses 𝓤) W (((κ, tt), (q, tt), tt, (d, tt), (mach ∷ [], tt)), tt) u r (tt, tt) (tt, tt)) $ says ! e $
+          suffices ! _ (ends-at 𝓤 H A Func stayed (asking.over-clauses R asked given-back 𝓤) W (((κ, tt), (q, tt), tt, (d, tt), (mach ∷ [], tt)), tt) u r (tt, tt) (tt, tt)) $ says ! e $
           move ! (1 ∷ []) $ frame ! $ nothing ! $ move ! (2 ∷ 0 ∷ []) $ fjoin ! $ frame ! $ done !
 
       module _ (C : Calls 𝓤 H) (Λ : Loops 𝓤 H) (fm : FmC 𝓤 H (W .laws) C) (known : Triple 𝓤 (C f) (Step 𝓤 H A)) where
         walk : Holds (hasTy (T′.mir (named 0)) mach) × WT mach → asks (now (d .rec)) (d .index)
-            → ent 𝓤 (onEntry 𝓤 H A (over .signature) (κ, tt) (q, tt) (d, tt) (mach ∷ [], tt)) (WpFn 𝓤 H C Λ (code τ f) (mach ∷ []) Post)
+            → ent 𝓤 (onEntry 𝓤 H A (Func .signature) (κ, tt) (q, tt) (d, tt) (mach ∷ [], tt)) (WpFn 𝓤 H C Λ (code τ f) (mach ∷ []) Post)
         walk wt ok =
-            qed W (raw (onEntry 𝓤 H A (over .signature) (κ, tt) (q, tt) (d, tt) (mach ∷ [], tt)) ∷ []) ∵ enter ! C Λ (code τ f) (mach ∷ []) _ $
+            qed W (raw (onEntry 𝓤 H A (Func .signature) (κ, tt) (q, tt) (d, tt) (mach ∷ [], tt)) ∷ []) ∵ enter ! C Λ (code τ f) (mach ∷ []) _ $
             alloc1 ! (λ l₀. alloc1 ! (λ l₁. alloc1 ! (λ l₂. alloc1 ! (λ l₃. alloc0 ! $ params1 ! $ pass1 ! (init ! 4 refl wt) $ pass0 ! $
             assigns ! (of-opd ! (load ! (from ! (fld ! refl (stop !))) (look-in ! 4 (sub ! 0 refl (whole !))))) (from ! (stop !)) (init ! 2 refl (tt, wt .1 .0)) $
             assigns ! (of-opd ! (load ! (from ! (fld ! refl (stop !))) (look-in ! 4 (sub ! 1 refl (whole !))))) (from ! (stop !)) (init ! 0 refl (tt, wt .1 .1 .0)) $
@@ -156,9 +156,9 @@ module _ (R : Slot 1) (asks wants : List ℕ → ℕ → Type 0) (gives : (κs :
             returns ! (look ! 9 refl) $ forget ! 3 refl $ forget ! 5 refl $ forget ! 7 refl $ forget ! 9 refl $
             move ! (9 ∷ 10 ∷ []) $ free1 ! $ move ! (7 ∷ 8 ∷ []) $ free1 ! $ move ! (5 ∷ 6 ∷ []) $ free1 ! $ move ! (3 ∷ 4 ∷ []) $ free1 ! $ free0 ! $ by ! (exits r u e)))))))))
 
-    walks : (C : Calls 𝓤 H) (Λ : Loops 𝓤 H) → FmC 𝓤 H (W .laws) C → Triple 𝓤 (C f) (Step 𝓤 H A) → Walks 𝓤 H A over stayed (WpFn 𝓤 H C Λ (code τ f)) (over-clauses 𝓤)
+    walks : (C : Calls 𝓤 H) (Λ : Loops 𝓤 H) → FmC 𝓤 H (W .laws) C → Triple 𝓤 (C f) (Step 𝓤 H A) → Walks 𝓤 H A Func stayed (WpFn 𝓤 H C Λ (code τ f)) (asking.over-clauses R asked given-back 𝓤)
     walks C Λ fm known =
-        walked 𝓤 H A over stayed (over-clauses 𝓤) (WpFn 𝓤 H C Λ (code τ f))
+        walked 𝓤 H A Func stayed (asking.over-clauses R asked given-back 𝓤) (WpFn 𝓤 H C Λ (code τ f))
         (λ κs. (LL.vals (T.the-type (namedLft 1 0 tt κs)) (T′.the-laws (namedLft 1 0 tt κs)), tt))
         (λ κs. (LL.tells (T.the-type (namedLft 1 0 tt κs)) (T′.the-laws (namedLft 1 0 tt κs)), tt))
         (λ κs qs bounds a g are. needs 𝓤 _ _ (λ ok.
@@ -166,7 +166,7 @@ module _ (R : Slot 1) (asks wants : List ℕ → ℕ → Type 0) (gives : (κs :
 
     meets : (𝓣 : Tables 𝓤 H) → Triple 𝓤 (𝓣 .C f) (Step 𝓤 H A) → Triple 𝓤 (WpFn 𝓤 H (𝓣 .C) (𝓣 .Λ) (code τ f)) (Over 𝓤 H A)
     meets 𝓣 known =
-        walk-meets 𝓤 H A over stayed W (goes-none 𝓤 H A W 1 B yes (λ κs x f. refl), tt) (over-clauses 𝓤) (WpFn 𝓤 H (𝓣 .C) (𝓣 .Λ) (code τ f))
+        walk-meets 𝓤 H A Func stayed W (goes-none 𝓤 H A W 1 B yes (λ κs x f. refl), tt) (asking.over-clauses R asked given-back 𝓤) (WpFn 𝓤 H (𝓣 .C) (𝓣 .Λ) (code τ f))
         (WpFn-mono 𝓤 H (W .laws) 𝓣 (code τ f)) (walks (𝓣 .C) (𝓣 .Λ) (fmOf 𝓤 H (W .laws) 𝓣) known)
 
   -- the function has the name k in the environment γ, and the step is the routine s: what is known of the step gives the function's theorem

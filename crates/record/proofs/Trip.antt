@@ -21,7 +21,7 @@ use Rattle.layout.proofs.Facts.{tag-facts, RecordLengthFacts, record-length-fac
 use Rattle.layout.proofs.LeaderBytes.{leader-length, Ranged, leader-of-bytes}
 use Rattle.record.specs.Directory.{tagAt, posAt, lenAt, entriesRight, directoryRight}
 use Rattle.record.specs.Fields.{Field, fieldsFrom}
-use Rattle.record.specs.Inner.{leaderRight}
+use Rattle.record.specs.Record.{leaderRight}
 use Rattle.record.specs.Draft.{tagsPermitted}
 use Rattle.record.specs.Bytes.{dataOf, entryBytes, directoryBytes, usedBy, needFor, recordBytes, leaderFor}
 use Rattle.record.proofs.Facts.{entry-from, leader-from}

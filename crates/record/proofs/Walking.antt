@@ -1,45 +1,69 @@
--- The walk over a record's fields. A walk from the start hands out the record's fields, in directory order, and no more; what stands at an
--- index is the field of that number, or nothing; and it lies in the record. Then the laws that the steps' own proofs are made of.
+-- The walk over a record's fields. A walk hands out the record's fields, in directory order, and no more; what stands at an index is the
+-- field of that number, or nothing; and it lies in the record. Then the laws that the steps' own proofs are made of.
 use Prim.Native.Nat.{ℕ, zero, suc, _+_, _*_, _-_, _<_, _≤_, _^_}
-use native.Mathlib.Nat.{add-zero, zero-add}
+use native.Mathlib.Nat.{add-zero, zero-add, le-refl}
+use native.Mathlib.Numerals.{add-one}
 use native.Mathlib.Omega.{arith}
 use mathlib.Core.Path.{_≡_, refl, sym, _∙_}
 use mathlib.Core.Bool.{Bool, true, false, cond}
-use mathlib.Core.List.{List, []}
+use mathlib.Core.List.{List, [], _∷_, _++_, map}
 use lib.Dec.{leb}
-use lib.ListN.{length, take, drop}
+use lib.ListN.{length, take, drop, set, length-map, length-append}
 use lib.Seq.{drop-nil}
 use borrow.Author.Tests.{le-leb, lt-leb, leb-false}
 use Rattle.word.specs.Integer.{u16At}
-use Rattle.word.specs.Overwrite.{part}
+use Rattle.word.specs.Overwrite.{overwrite}
+use Rattle.word.proofs.Overwrite.{overwrite-none, overwrite-more, overwrite-length}
 use Rattle.layout.specs.Leader.{leaderOf}
 use Rattle.layout.specs.declared.sizes.Tag.{Tag}
 use Rattle.record.specs.Directory.{tagAt, posAt, lenAt, directoryRight}
-use Rattle.record.specs.Fields.{fieldsFrom, fieldsOf}
+use Rattle.record.specs.Fields.{fieldAt, fieldsFrom, fieldsOf}
 use Rattle.record.specs.Record.{Readable}
-use Rattle.record.specs.Walker.{atEnd, Standing, fieldHere, walkedAt, walkedFields, walkFrom}
+use Rattle.record.specs.Walker.{atEnd, AtField, spotAt, fieldIn, spotsBefore, spotsOf, walkedAt, walkedFields}
+use Rattle.record.specs.declared.walker.Spot.{Spot}
 use Rattle.record.specs.declared.walker.Walked.the-variants.{Field as FieldHere, End}
 use Rattle.record.proofs.Facts.{entry-facts}
 
--- ---- the walk hands out the record's fields
+-- ---- a walk hands out the record's fields
 
-walk-past : (rec : List ℕ) (k i : ℕ) → leaderOf rec .nvf ≤ i → walkFrom rec k i ≡ []
-unfolding walkFrom
-walk-past rec zero i h = refl
-walk-past rec (suc k) i h = rw (le-leb _ _ h)
+fields-more : (rec : List ℕ) (base k i : ℕ) → fieldsFrom rec base (suc k) i ≡ fieldsFrom rec base k i ++ (fieldAt rec base (i + k) ∷ [])
+unfolding fieldsFrom
+fields-more rec base zero i = rw (add-zero i)
+fields-more rec base (suc k) i =
+    let e : i + suc k ≡ i + 1 + k = omega arith in
+    rw (e, ← fields-more rec base k (i + 1))
 
-walk-from : (rec : List ℕ) (k i more : ℕ) → i + k ≡ leaderOf rec .nvf → walkFrom rec (k + more) i ≡ fieldsFrom rec (leaderOf rec .base) k i
-unfolding walkFrom fieldsFrom
-walk-from rec zero i more e = rw (zero-add more) (walk-past rec more i (omega arith))
-walk-from rec (suc k) i more e =
-    let z : suc k + more ≡ suc (k + more) = omega arith in
-    let h : i < leaderOf rec .nvf = omega arith in
-    rw (z, lt-leb _ _ h, walk-from rec k (i + 1) more (omega arith))
+map-snoc : {A B : Type 0} (f : A → B) (xs : List A) (x : A) → map f (xs ++ (x ∷ [])) ≡ map f xs ++ (f x ∷ [])
+map-snoc f [] x = refl
+map-snoc f (y ∷ xs) x = rw (map-snoc f xs x)
 
--- a walk from the start hands out the record's fields, in directory order; further steps hand out nothing
-pub walk-is : (rec : List ℕ) (more : ℕ) → walkFrom rec (leaderOf rec .nvf + more) 0 ≡ fieldsOf rec
+none : (rec : List ℕ) (base : ℕ) → [] ≡ fieldsFrom rec base 0 0
+unfolding fieldsFrom
+none rec base = refl
+
+spots-before : (rec : List ℕ) (k : ℕ) → map (fieldIn rec) (spotsBefore rec k) ≡ fieldsFrom rec (leaderOf rec .base) k 0
+unfolding spotsBefore
+spots-before rec zero = none rec (leaderOf rec .base)
+spots-before rec (suc k) =
+    rw (map-snoc (fieldIn rec) (spotsBefore rec k) (spotAt rec k), spots-before rec k, fields-more rec (leaderOf rec .base) k 0, zero-add k)
+
+-- they are the record's fields, in directory order: each by its tag and by the bytes that lie there
+pub spots-are : (rec : List ℕ) → map (fieldIn rec) (spotsOf rec) ≡ fieldsOf rec
 unfolding fieldsOf
-walk-is rec more = walk-from rec (leaderOf rec .nvf) 0 more (zero-add _)
+spots-are rec = spots-before rec (leaderOf rec .nvf)
+
+before-length : (rec : List ℕ) (k : ℕ) → length (spotsBefore rec k) ≡ k
+unfolding spotsBefore
+before-length rec zero = refl
+before-length rec (suc k) = rw (length-append, before-length rec k) (add-one k)
+
+before-more : (rec : List ℕ) (k : ℕ) → spotsBefore rec k ++ (spotAt rec k ∷ []) ≡ spotsBefore rec (k + 1)
+unfolding spotsBefore
+before-more rec k = rw (add-one k)
+
+-- and as many as the leader says
+pub spots-length : (rec : List ℕ) → length (spotsOf rec) ≡ leaderOf rec .nvf
+spots-length rec = before-length rec (leaderOf rec .nvf)
 
 -- ---- what stands at an index
 
@@ -76,7 +100,7 @@ entry-in rec room (suc k) i pos (suc j) d h =
     let e : i + suc j ≡ i + 1 + j = omega arith in
     rw e (entry-in rec room k (i + 1) (pos + lenAt rec i) j (f .rest) (omega arith))
 
-module _ (rec : List ℕ) (i : ℕ) (s : Standing rec i) where
+module _ (rec : List ℕ) (i : ℕ) (s : AtField rec i) where
   pub field-in : leaderOf rec .base + posAt rec i + lenAt rec i ≤ leaderOf rec .mfrl
   field-in =
       let r : Readable rec = s .readable in
@@ -91,6 +115,28 @@ module _ (rec : List ℕ) (i : ℕ) (s : Standing rec i) where
   pub entry-within : 24 + 6 * i ≤ length rec
   entry-within = omega (arith, s .listed, s .readable .base-is, s .readable .base-in, s .readable .record-in)
 
+-- so does every field that a walk hands out
+abbrev pub Within : ℕ → List Spot → Type 0
+Within n [] = Unit {0}
+Within n (s ∷ ss) = (s .start + s .len ≤ n) × Within n ss
+
+within-snoc : (n : ℕ) (ss : List Spot) (s : Spot) → Within n ss → s .start + s .len ≤ n → Within n (ss ++ (s ∷ []))
+within-snoc n [] s w h = (h, tt)
+within-snoc n (t ∷ ss) s w h = (w .0, within-snoc n ss s (w .1) h)
+
+none-within : (rec : List ℕ) (n : ℕ) → Within n (spotsBefore rec 0)
+unfolding spotsBefore
+none-within rec n = tt
+
+pub spots-within : (rec : List ℕ) → Readable rec → Within (leaderOf rec .mfrl) (spotsOf rec)
+spots-within rec r = before (leaderOf rec .nvf) (le-refl _)
+  where
+    before : (k : ℕ) → k ≤ leaderOf rec .nvf → Within (leaderOf rec .mfrl) (spotsBefore rec k)
+    before zero h = none-within rec (leaderOf rec .mfrl)
+    before (suc k) h =
+        rw (← add-one k, ← before-more rec k)
+        (within-snoc (leaderOf rec .mfrl) (spotsBefore rec k) (spotAt rec k) (before k (omega arith)) (field-in rec k (record { readable = r; listed = omega arith })))
+
 walked-cases : (b : Bool) (t tag : Tag) (s l start len : ℕ) → cond b End (FieldHere t s l) ≡ FieldHere tag start len
     → (b ≡ false) × (s ≡ start) × (l ≡ len)
 walked-cases true t tag s l start len p = let z : _≡_ {A = ℕ} 0 1 = cc in absurd (omega arith)
@@ -103,33 +149,61 @@ walked-in rec i tag start len r p =
     let q = walked-cases (atEnd rec i) _ tag _ _ start len p in
     omega (arith, q, field-in rec i (record { readable = r; listed = leb-false _ _ (q .0) }))
 
+-- ---- lists of them: what the first k fields give, written over a list's front
+
+unfoldable pub written : (Spot → ℕ) → List ℕ → ℕ → List ℕ → List ℕ
+written f rec k d = overwrite d 0 (map f (spotsBefore rec k))
+
+module _ (f : Spot → ℕ) (rec : List ℕ) (d : List ℕ) where
+  pub written-none : written f rec 0 d ≡ d
+  unfolding written spotsBefore
+  written-none = overwrite-none d 0
+
+  pub written-all : written f rec (leaderOf rec .nvf) d ≡ overwrite d 0 (map f (spotsOf rec))
+  unfolding written
+  written-all = refl
+
+  module _ (k : ℕ) where
+    seen : length (map f (spotsBefore rec k)) ≡ k
+    seen = length-map (spotsBefore rec k) f ∙ before-length rec k
+
+    pub written-length : k ≤ length d → length (written f rec k d) ≡ length d
+    unfolding written
+    written-length h = overwrite-length d 0 (map f (spotsBefore rec k)) (omega (arith, seen))
+
+    -- the next one, stored right behind
+    pub written-more : k < length d → set (written f rec k d) k (f (spotAt rec k)) ≡ written f rec (k + 1) d
+    unfolding written
+    written-more h =
+        let e : 0 + length (map f (spotsBefore rec k)) ≡ k = omega (arith, seen) in
+        rw e at (overwrite-more d 0 (map f (spotsBefore rec k)) (f (spotAt rec k)) (omega (arith, seen)))
+        ∙ rw (← map-snoc f (spotsBefore rec k) (spotAt rec k), before-more rec k)
+
 -- ---- the steps: `search walk-answers` finds the premises among what was read
 
+pub count-is : (rec : List ℕ) (nvf : ℕ) → nvf ≡ u16At rec 14 → nvf ≡ leaderOf rec .nvf
+unfolding leaderOf
+count-is rec nvf e = e
+
 module _ (rec : List ℕ) (i : ℕ) where
-  pub ended-is : (nvf : ℕ) → nvf ≡ u16At rec 14 → leb nvf i ≡ atEnd rec i
-  unfolding leaderOf
+  pub ended-is : (nvf : ℕ) → nvf ≡ leaderOf rec .nvf → leb nvf i ≡ atEnd rec i
   ended-is nvf e = rw e
 
-  module _ (base pos len : ℕ) (b : base ≡ u16At rec 12) (p : pos ≡ posAt rec i) (l : len ≡ lenAt rec i) where
-    pub part-in : Standing rec i → base + pos + len ≤ length rec
-    unfolding leaderOf
-    part-in s = omega (arith, b, p, l, field-in rec i s, s .readable .record-in)
-
-    pub part-is : (xs : List ℕ) → xs ≡ part rec (base + pos) len → xs ≡ fieldHere rec i .bytes
-    unfolding leaderOf
-    part-is xs e = rw (e, b, p, l)
-
-    pub walked-field : (over : Bool) (tag : Tag) → over ≡ atEnd rec i → over ≡ false → tag .0 ≡ tagAt rec i
-        → FieldHere tag (base + pos) len ≡ walkedAt rec i
-    unfolding walkedAt leaderOf
-    walked-field over tag q left t = rw (← q, left, b, p, l, ← t)
+  pub spot-is : (base pos len : ℕ) (tag : Tag) → base ≡ u16At rec 12 → pos ≡ posAt rec i → len ≡ lenAt rec i → tag .0 ≡ tagAt rec i
+      → record { tag = tag; start = base + pos; len = len } ≡ spotAt rec i
+  unfolding leaderOf
+  spot-is base pos len tag b p l t = rw (b, p, l, ← t)
 
   module _ (over : Bool) (q : over ≡ atEnd rec i) where
     pub walked-end : over ≡ true → End ≡ walkedAt rec i
     unfolding walkedAt
     walked-end done = rw (← q, done)
 
-    pub entry-there : over ≡ false → Readable rec → 24 + 6 * i ≤ length rec
-    entry-there left r = entry-within rec i (record { readable = r; listed = leb-false _ _ (sym q ∙ left) })
+    pub walked-field : (spot : Spot) → over ≡ false → spot ≡ spotAt rec i → FieldHere (spot .tag) (spot .start) (spot .len) ≡ walkedAt rec i
+    unfolding walkedAt
+    walked-field spot left e = rw (← q, left, e)
 
-pub ruleset walk-answers = (ended-is, part-in, part-is, walked-field, walked-end, entry-there)
+    pub come-to : over ≡ false → Readable rec → AtField rec i
+    come-to left r = record { readable = r; listed = leb-false _ _ (sym q ∙ left) }
+
+pub ruleset walk-answers = (count-is, ended-is, entry-within, spot-is, walked-end, walked-field, come-to)

@@ -74,30 +74,6 @@ module _ (d tags lens bytes : List ℕ) (right : draftRight tags lens bytes ≡ 
       let fs : List Field = draftFields tags lens bytes in
       e ∙ ap (λ (x : List Field). overwrite d 18 (directoryBytes 0 x)) (take-all i fs (omega (arith, draft-count tags lens bytes right)))
 
--- ---- the record of a draft
-
-module _ (d : List ℕ) (l : Leader) (tags lens bytes : List ℕ) (right : draftRight tags lens bytes ≡ true) where
-  -- out after each of the four writes
-  pub record-written : {D₁ D₂ D₃ D₄ : List ℕ} → D₁ ≡ overwrite d 0 (leaderBytes l) → D₂ ≡ overwrite D₁ 18 (directoryBytes 0 (draftFields tags lens bytes))
-      → D₃ ≡ overwrite D₂ (18 + 6 * length tags) bytes
-      → D₄ ≡ overwrite D₃ (18 + 6 * length tags + length bytes) (replicate (l .mfrl - (18 + 6 * length tags + length bytes)) 0)
-      → D₄ ≡ overwrite d 0 (recordBytes l (draftFields tags lens bytes))
-  unfolding recordBytes
-  record-written {D₁} {D₂} {D₃} {D₄} e₁ e₂ e₃ e₄ =
-      let fs : List Field = draftFields tags lens bytes in
-      let head : List ℕ = leaderBytes l in
-      let dir : List ℕ = directoryBytes 0 fs in
-      let base : ℕ = 18 + 6 * length tags in
-      let used : ℕ = base + length bytes in
-      let zeros : List ℕ = replicate (l .mfrl - used) 0 in
-      let m : length head ≡ 18 = leader-length l in
-      let n : length dir ≡ 6 * length tags = directory-length 0 fs ∙ ap (λ (k : ℕ). 6 * k) (draft-count tags lens bytes right) in
-      let s₂ : D₂ ≡ overwrite d 0 (head ++ dir) = e₂ ∙ written-next d 0 18 head dir (omega arith) e₁ (omega arith) in
-      let s₃ : D₃ ≡ overwrite d 0 (head ++ dir ++ bytes) = e₃ ∙ written-next d 0 base (head ++ dir) bytes (omega arith) s₂ (simp length-append (omega arith)) in
-      let s₄ : D₄ ≡ overwrite d 0 (head ++ dir ++ bytes ++ zeros) =
-      e₄ ∙ written-next d 0 used (head ++ dir ++ bytes) zeros (omega arith) s₃ (simp length-append (omega arith)) in
-      rw (draft-data tags lens bytes right, draft-count tags lens bytes right) s₄
-
 -- ---- fields whose body stands already, behind where their leader goes
 
 module _ (d : List ℕ) (l : Leader) (fs : List Field) (used : ℕ) (u : used ≡ usedBy fs) (body : part d 18 (used - 18) ≡ directoryBytes 0 fs ++ dataOf fs) where
@@ -124,6 +100,32 @@ module _ (d : List ℕ) (l : Leader) (fs : List Field) (used : ℕ) (u : used �
       ∙ ap (overwrite (overwrite d 0 head) 18) (overwrite-part-after d 0 head 18 (used - 18) (omega arith))
       ∙ written-next d 0 18 head kept (omega arith) refl (omega arith) in
       written-next d 0 used (head ++ kept) zeros (omega arith) both (simp length-append (omega arith)) ∙ ap (overwrite d 0) (sym record-runs)
+
+-- ---- the record of a draft
+
+module _ (d : List ℕ) (l : Leader) (tags lens bytes : List ℕ) (right : draftRight tags lens bytes ≡ true) where
+  -- out after the directory and after the data, and with its leader and zeros
+  pub record-written : {D₁ D₂ D₃ : List ℕ} → D₁ ≡ overwrite d 18 (directoryBytes 0 (draftFields tags lens bytes)) → D₂ ≡ overwrite D₁ (18 + 6 * length tags) bytes
+      → D₃ ≡ framed D₂ (18 + 6 * length tags + length bytes) l → 18 + 6 * length tags + length bytes ≤ l .mfrl → l .mfrl ≤ length d
+      → D₃ ≡ overwrite d 0 (recordBytes l (draftFields tags lens bytes))
+  record-written {D₁} {D₂} {D₃} e₁ e₂ e₃ fits room =
+      let fs : List Field = draftFields tags lens bytes in
+      let dir : List ℕ = directoryBytes 0 fs in
+      let used : ℕ = 18 + 6 * length tags + length bytes in
+      let n : length dir ≡ 6 * length tags = directory-length 0 fs ∙ ap (λ (k : ℕ). 6 * k) (draft-count tags lens bytes right) in
+      let m : length (dir ++ bytes) ≡ used - 18 = simp length-append (omega arith) in
+      let both : D₂ ≡ overwrite d 18 (dir ++ bytes) = e₂ ∙ written-next d 18 (18 + 6 * length tags) dir bytes (omega arith) e₁ (omega arith) in
+      let long : length D₂ ≡ length d = rw both (overwrite-length d 18 (dir ++ bytes) (omega arith)) in
+      let u : used ≡ usedBy fs = rw (draft-count tags lens bytes right, draft-data tags lens bytes right) in
+      let body : part D₂ 18 (used - 18) ≡ dir ++ dataOf fs =
+      ap (λ (x : List ℕ). part x 18 (used - 18)) both
+      ∙ ap (part (overwrite d 18 (dir ++ bytes)) 18) (sym m)
+      ∙ overwrite-back d 18 (dir ++ bytes) (omega arith)
+      ∙ rw (draft-data tags lens bytes right) in
+      e₃
+      ∙ record-framed D₂ l fs used u body fits (omega arith)
+      ∙ ap (λ (x : List ℕ). overwrite x 0 (recordBytes l fs)) both
+      ∙ overwrite-over d 0 (recordBytes l fs) 18 (dir ++ bytes) (omega arith) (omega arith) (omega (arith, record-length l fs (omega arith)))
 
 -- ---- a record's own fields again
 

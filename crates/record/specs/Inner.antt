@@ -1,19 +1,15 @@
 -- Inner: serves functions of this crate and what is read of them above, no part of what is promised.
 use Prim.Native.Nat.{ℕ, _+_, _-_}
-use mathlib.Core.Bool.{Bool, _&&_, cond}
+use mathlib.Core.Bool.{Bool, cond}
 use mathlib.Core.List.{List}
 use lib.Dec.{leb}
 use lib.ListN.{replicate}
 use Rattle.word.specs.Overwrite.{overwrite}
 use Rattle.layout.specs.Leader.{leaderOf, leaderBytes}
 use Rattle.layout.specs.declared.leader.Leader.{Leader}
-use Rattle.record.specs.Record.{extentRight, baseRight, statusRight, recordRight}
+use Rattle.record.specs.Record.{recordRight}
 use Rattle.record.specs.declared.test.Tested.{Tested}
 use Rattle.record.specs.declared.test.Tested.the-variants.{WellFormed, Broken}
-
--- the sentences on the leader alone
-unfoldable pub leaderRight : ℕ → Bool → ℕ → Leader → Bool
-leaderRight m deleted left l = extentRight m left l && baseRight l && statusRight deleted l
 
 -- what the test answers: the leader of a record that is right
 unfoldable pub testOf : List ℕ → ℕ → Bool → Tested

@@ -1,15 +1,16 @@
 -- A well-formed record. Document 01, "Records". A record is read from its first byte up to the store's end.
 use Prim.Native.Nat.{ℕ, _+_, _*_, _-_, _≤_}
 use mathlib.Core.Path.{_≡_}
-use mathlib.Core.Bool.{Bool, true, _&&_, cond}
+use mathlib.Core.Bool.{Bool, true, not, _&&_, cond}
 use mathlib.Core.List.{List}
 use lib.Dec.{eqb, leb}
 use lib.ListN.{length}
-use Rattle.layout.specs.Sizes.{recordMost, recordLength}
-use Rattle.layout.specs.Entry.{wellPlaced}
+use Rattle.layout.specs.Sizes.{recordMost, addressOf, recordLength}
+use Rattle.layout.specs.Entry.{wellPlaced, placeAddress, isChanged}
 use Rattle.layout.specs.Leader.{leaderOf}
 use Rattle.layout.specs.declared.entry.Mark.{Mark}
 use Rattle.layout.specs.declared.entry.Mark.the-variants.{Settled, Changed, New}
+use Rattle.layout.specs.declared.entry.Place.{Place}
 use Rattle.layout.specs.declared.leader.Leader.{Leader}
 use Rattle.record.specs.Directory.{directoryRight}
 
@@ -32,26 +33,45 @@ statusFor deleted = cond deleted 1 0
 unfoldable pub statusRight : Bool → Leader → Bool
 statusRight deleted l = eqb (l .status) (statusFor deleted)
 
--- well formed but for the back pointer
-unfoldable pub recordRight : List ℕ → ℕ → Bool → Bool
-recordRight rec m deleted =
-    extentRight m (length rec) (leaderOf rec)
-    && baseRight (leaderOf rec)
-    && fieldsRight rec (leaderOf rec)
-    && statusRight deleted (leaderOf rec)
-
 -- MFBWB and MFBWP are both 0
 unfoldable pub noBack : Leader → Bool
 noBack l = eqb (l .mfbwb .0) 0 && eqb (l .mfbwp) 0
 
--- they are both 0, except under the changed mark, where they give a well-formed place (other than the record's own, which the caller
--- compares)
+-- they are both 0, except under the changed mark, where they give a well-formed place
 unfoldable pub backRight : ℕ → Mark → Leader → Bool
 backRight end Settled l = noBack l
 backRight end Changed l = wellPlaced end (l .mfbwb .0) (l .mfbwp)
 backRight end New l = noBack l
 
--- what is enough to read a record's fields: its leader's lengths and its directory are right
+-- the address of the back place
+abbrev pub backAddress : Leader → ℕ
+backAddress l = addressOf (l .mfbwb .0) (l .mfbwp)
+
+-- other than the record's own
+unfoldable pub backFine : ℕ → Place → Leader → Bool
+backFine end p l = backRight end (p .mark) l && not (isChanged (p .mark) && eqb (backAddress l) (placeAddress p))
+
+-- a record is well formed for MFN m at the place p of an entry, with the end known: the five sentences of document 01, each a line. The tags'
+-- range, which document 01 has beside BASE, is asked with the rest of an entry
+unfoldable pub wellFormed : List ℕ → ℕ → ℕ → Place → Bool
+wellFormed rec end m p =
+    extentRight m (length rec) (leaderOf rec)
+    && baseRight (leaderOf rec)
+    && fieldsRight rec (leaderOf rec)
+    && statusRight (p .deleted) (leaderOf rec)
+    && backFine end p (leaderOf rec)
+
+-- ---- Inner: serves functions and proofs, no part of what is promised
+
+-- the sentences on the leader alone
+unfoldable pub leaderRight : ℕ → Bool → ℕ → Leader → Bool
+leaderRight m deleted left l = extentRight m left l && baseRight l && statusRight deleted l
+
+-- all but the back pointer, the leader first
+unfoldable pub recordRight : List ℕ → ℕ → Bool → Bool
+recordRight rec m deleted = leaderRight m deleted (length rec) (leaderOf rec) && fieldsRight rec (leaderOf rec)
+
+-- what follows of the sentences for whoever reads the fields, in numbers (`right-readable` of proofs/Facts)
 pub record Readable (rec : List ℕ) : Type 0 where
   pub base-is : leaderOf rec .base ≡ 18 + 6 * leaderOf rec .nvf
   pub base-in : leaderOf rec .base ≤ leaderOf rec .mfrl

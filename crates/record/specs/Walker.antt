@@ -1,14 +1,16 @@
 -- The walk over a record's fields. Document 01, "Records": a field walker keeps the record it walks and its place in the directory, and hands
 -- out tag and field in directory order. Its place is a directory index, counted from 0.
-use Prim.Native.Nat.{ℕ, zero, suc, _+_, _<_}
+use Prim.Native.Nat.{ℕ, zero, suc, _+_, _<_, _≤_, _^_}
 use mathlib.Core.Bool.{Bool, cond}
-use mathlib.Core.List.{List, [], _∷_}
+use mathlib.Core.List.{List, [], _∷_, _++_, map}
 use lib.Dec.{leb}
+use lib.ListN.{length}
 use Rattle.word.specs.Overwrite.{part}
 use Rattle.layout.specs.Leader.{leaderOf}
 use Rattle.record.specs.Directory.{tagAt, posAt, lenAt}
-use Rattle.record.specs.Fields.{Field, fieldAt}
+use Rattle.record.specs.Fields.{Field}
 use Rattle.record.specs.Record.{Readable}
+use Rattle.record.specs.declared.walker.Spot.{Spot}
 use Rattle.record.specs.declared.walker.Walked.{Walked}
 use Rattle.record.specs.declared.walker.Walked.the-variants.{Field as FieldHere, End}
 
@@ -16,25 +18,61 @@ use Rattle.record.specs.declared.walker.Walked.the-variants.{Field as Fi
 abbrev pub atEnd : List ℕ → ℕ → Bool
 atEnd rec i = leb (leaderOf rec .nvf) i
 
--- the walk stands at a field: the record can be read, and its directory has entry i
-pub record Standing (rec : List ℕ) (i : ℕ) : Type 0 where
+-- the walk has come to a field: the record can be read, and its directory has entry i
+pub record AtField (rec : List ℕ) (i : ℕ) : Type 0 where
   pub readable : Readable rec
   pub listed : i < leaderOf rec .nvf
 
--- the field at which it stands
-abbrev pub fieldHere : List ℕ → ℕ → Field
-fieldHere rec i = fieldAt rec (leaderOf rec .base) i
+-- the field at index i, as a walk hands it out: its tag, and where in the record it lies
+abbrev pub spotAt : List ℕ → ℕ → Spot
+spotAt rec i = record { tag = record { 0 = tagAt rec i }; start = leaderOf rec .base + posAt rec i; len = lenAt rec i }
 
--- what stands at index i: a field, by its tag and where in the record it lies, or the end
+-- the field that this is
+abbrev pub fieldIn : List ℕ → Spot → Field
+fieldIn rec s = record { tag = s .tag .0; bytes = part rec (s .start) (s .len) }
+
+-- what a walk has handed out when it has come to index k: the field at each index before it, in directory order
+unfoldable pub spotsBefore : List ℕ → ℕ → List Spot
+spotsBefore rec zero = []
+spotsBefore rec (suc k) = spotsBefore rec k ++ (spotAt rec k ∷ [])
+
+-- all that a walk hands out
+abbrev pub spotsOf : List ℕ → List Spot
+spotsOf rec = spotsBefore rec (leaderOf rec .nvf)
+
+-- a field's tag, its start in the bytes in which the record begins at `at`, and its length
+abbrev pub spotTag : Spot → ℕ
+spotTag s = s .tag .0
+
+abbrev pub spotStart : ℕ → Spot → ℕ
+spotStart at s = at + s .start
+
+abbrev pub spotLength : Spot → ℕ
+spotLength s = s .len
+
+-- of each field that a walk hands out
+abbrev pub tagsOf : List ℕ → List ℕ
+tagsOf rec = map spotTag (spotsOf rec)
+
+abbrev pub startsOf : ℕ → List ℕ → List ℕ
+startsOf at rec = map (spotStart at) (spotsOf rec)
+
+abbrev pub lengthsOf : List ℕ → List ℕ
+lengthsOf rec = map spotLength (spotsOf rec)
+
+-- what is enough to list a record's fields: it can be read, each list has room for all of them, and where it ends is a number
+pub record Listable (rec : List ℕ) (at : ℕ) (tags starts lens : List ℕ) : Type 0 where
+  pub readable : Readable rec
+  pub tags-long : leaderOf rec .nvf ≤ length tags
+  pub starts-long : leaderOf rec .nvf ≤ length starts
+  pub lens-long : leaderOf rec .nvf ≤ length lens
+  pub fits : at + leaderOf rec .mfrl < 2 ^ 64
+
+-- what stands at index i, whatever the index: the field there, or the end
 unfoldable pub walkedAt : List ℕ → ℕ → Walked
-walkedAt rec i = cond (atEnd rec i) End (FieldHere (record { 0 = tagAt rec i }) (leaderOf rec .base + posAt rec i) (lenAt rec i))
+walkedAt rec i = cond (atEnd rec i) End (FieldHere (spotAt rec i .tag) (spotAt rec i .start) (spotAt rec i .len))
 
 -- the field that this is, if any
 abbrev pub walkedFields : List ℕ → Walked → List Field
-walkedFields rec (FieldHere tag start len) = record { tag = tag .0; bytes = part rec start len } ∷ []
+walkedFields rec (FieldHere tag start len) = fieldIn rec (record { tag = tag; start = start; len = len }) ∷ []
 walkedFields rec End = []
-
--- the fields that a walk hands out from index i on, in at most k steps: at each index the field there, then on to the next index
-unfoldable pub walkFrom : List ℕ → ℕ → ℕ → List Field
-walkFrom rec zero i = []
-walkFrom rec (suc k) i = cond (atEnd rec i) [] (fieldHere rec i ∷ walkFrom rec k (i + 1))

@@ -5,8 +5,8 @@ use layout::sizes::Mfn;
 ghost use mathlib.Core.Path.{_≡_};
 ghost use Prim.Native.Nat.{_+_, _≤_};
 ghost use lib.ListN.{length};
-ghost use Rattle.record.specs.Record.{statusFor, noBack, backRight};
-ghost use Rattle.record.specs.Inner.{leaderRight, testOf};
+ghost use Rattle.record.specs.Record.{leaderRight, statusFor, noBack, backRight};
+ghost use Rattle.record.specs.Inner.{testOf};
 
 pub enum Tested {
     WellFormed(Leader),

@@ -6,14 +6,26 @@ use crate::directory::tag_at;
 use layout::sizes::Tag;
 use word::integer::u16_at;
 ghost use mathlib.Core.Path.{_≡_};
-ghost use Prim.Native.Nat.{_+_};
+ghost use Prim.Native.Nat.{_+_, _<_, _^_};
+ghost use lib.ListN.{length, set};
+ghost use Rattle.word.specs.Overwrite.{overwrite};
+ghost use Rattle.layout.specs.Leader.{leaderOf};
 ghost use Rattle.record.specs.Record.{Readable};
-ghost use Rattle.record.specs.Walker.{atEnd, Standing, fieldHere, walkedAt};
+ghost use Rattle.record.specs.Walker.{atEnd, AtField, spotAt, spotTag, spotStart, spotLength, walkedAt, Listable, tagsOf, startsOf, lengthsOf};
 
-// What stands at a directory index: a field, by its tag and where in the record it lies, or the end of the directory.
-pub enum Walked {
-    Field { tag: Tag, start: usize, len: usize },
-    End,
+// A field as a walk hands it out: its tag, and where in the record it lies.
+pub struct Spot {
+    pub tag: Tag,
+    pub start: usize,
+    pub len: usize,
+}
+
+// How many fields a record has.
+pub fn field_count(rec: &[u8]) -> usize
+    requires { ⌜ Readable (now rec) ⌝ }
+    ensures { λ r. ⌜ r ≡ leaderOf (now (rec .entry)) .nvf ⌝ }
+{
+    u16_at(rec, 14) as usize
 }
 
 // Whether the directory has no entry at an index.
@@ -21,27 +33,15 @@ fn ended(rec: &[u8], index: usize) -> bool
     requires { ⌜ Readable (now rec) ⌝ }
     ensures { λ r. ⌜ r ≡ atEnd (now (rec .entry)) index ⌝ }
 {
-    u16_at(rec, 14) as usize <= index
+    field_count(rec) <= index
 }
 
-// The bytes of the field at an index.
-fn bytes_at(rec: &[u8], index: usize) -> &[u8]
-    requires { ⌜ Standing (now rec) index ⌝ }
-    ensures { λ r. ⌜ now r ≡ fieldHere (now (rec .entry)) index .bytes ⌝ }
+// The field at an index.
+fn spot_at(rec: &[u8], index: usize) -> Spot
+    requires { ⌜ AtField (now rec) index ⌝ }
+    ensures { λ r. ⌜ r ≡ spotAt (now (rec .entry)) index ⌝ }
 {
-    let start = u16_at(rec, 12) as usize + pos_at(rec, index);
-    crate::fields::field_part(rec, start, len_at(rec, index))
-}
-
-// What stands at an index, whatever the index.
-fn walked_at(rec: &[u8], index: usize) -> Walked
-    requires { ⌜ Readable (now rec) ⌝ }
-    ensures { λ r. ⌜ r ≡ walkedAt (now (rec .entry)) index ⌝ }
-{
-    if ended(rec, index) {
-        return Walked::End;
-    }
-    Walked::Field {
+    Spot {
         tag: tag_at(rec, index),
         start: u16_at(rec, 12) as usize + pos_at(rec, index),
         len: len_at(rec, index),
@@ -55,47 +55,31 @@ pub struct FieldWalker<'a> {
 }
 
 // The walker at the first field.
-pub fn walk<'a>(rec: &'a [u8]) -> FieldWalker<'a>
+fn walk<'a>(rec: &'a [u8]) -> FieldWalker<'a>
     ensures { λ w. ⌜ (w .rec ≡ rec .entry) × (w .index ≡ 0) ⌝ }
 {
     FieldWalker { rec, index: 0 }
 }
 
 // Whether the walker has come to the end.
-pub fn at_end<'a>(w: FieldWalker<'a>) -> bool
+fn at_end<'a>(w: FieldWalker<'a>) -> bool
     requires { ⌜ Readable (now (w .rec)) ⌝ }
     ensures { λ r. ⌜ r ≡ atEnd (now (w .entry .rec)) (w .entry .index) ⌝ }
 {
     ended(w.rec, w.index)
 }
 
-// The tag of the field that it has come to.
-pub fn tag<'a>(w: FieldWalker<'a>) -> Tag
-    requires { ⌜ Standing (now (w .rec)) (w .index) ⌝ }
-    ensures { λ r. ⌜ r .0 ≡ fieldHere (now (w .entry .rec)) (w .entry .index) .tag ⌝ }
+// The field that it has come to.
+fn here<'a>(w: FieldWalker<'a>) -> Spot
+    requires { ⌜ AtField (now (w .rec)) (w .index) ⌝ }
+    ensures { λ r. ⌜ r ≡ spotAt (now (w .entry .rec)) (w .entry .index) ⌝ }
 {
-    tag_at(w.rec, w.index)
-}
-
-// The bytes of that field, as a part of the record.
-pub fn field<'a>(w: FieldWalker<'a>) -> &'a [u8]
-    requires { ⌜ Standing (now (w .rec)) (w .index) ⌝ }
-    ensures { λ r. ⌜ now r ≡ fieldHere (now (w .entry .rec)) (w .entry .index) .bytes ⌝ }
-{
-    bytes_at(w.rec, w.index)
-}
-
-// What it has come to, a field or the end.
-pub fn here<'a>(w: FieldWalker<'a>) -> Walked
-    requires { ⌜ Readable (now (w .rec)) ⌝ }
-    ensures { λ r. ⌜ r ≡ walkedAt (now (w .entry .rec)) (w .entry .index) ⌝ }
-{
-    walked_at(w.rec, w.index)
+    spot_at(w.rec, w.index)
 }
 
 // The walker at the next directory index.
-pub fn advance<'a>(w: FieldWalker<'a>) -> FieldWalker<'a>
-    requires { ⌜ Standing (now (w .rec)) (w .index) ⌝ }
+fn advance<'a>(w: FieldWalker<'a>) -> FieldWalker<'a>
+    requires { ⌜ AtField (now (w .rec)) (w .index) ⌝ }
     ensures { λ r. ⌜ (r .rec ≡ w .entry .rec) × (r .index ≡ w .entry .index + 1) ⌝ }
 {
     FieldWalker {
@@ -104,10 +88,62 @@ pub fn advance<'a>(w: FieldWalker<'a>) -> FieldWalker<'a>
     }
 }
 
-// What a walker at `index` has come to, for callers that hold no walker: they need no proof by hand.
+// Writes a field down at an index of three lists: tag, start behind `at`, and length.
+fn note(
+    spot: Spot,
+    index: usize,
+    at: usize,
+    tags: &mut [u16],
+    starts: &mut [usize],
+    lens: &mut [usize],
+)
+    requires { ⌜ (index < length (now tags)) × (index < length (now starts)) × (index < length (now lens)) × (at + spot .start < 2 ^ 64) ⌝ }
+    ensures { λ _. ⌜ (now (tags .exit) ≡ set (now (tags .entry)) index (spotTag spot)) × (now (starts .exit) ≡ set (now (starts .entry)) index (spotStart at spot)) × (now (lens .exit) ≡ set (now (lens .entry)) index (spotLength spot)) ⌝ }
+{
+    tags[index] = spot.tag.0;
+    starts[index] = at + spot.start;
+    lens[index] = spot.len;
+}
+
+// Lists all fields of a record that begins at `at`, in one walk and in directory order: their tags, starts and lengths go to the front of
+// the three lists. Gives how many they are.
+pub fn list_fields(
+    rec: &[u8],
+    at: usize,
+    tags: &mut [u16],
+    starts: &mut [usize],
+    lens: &mut [usize],
+) -> usize
+    requires { ⌜ Listable (now rec) at (now tags) (now starts) (now lens) ⌝ }
+    ensures { λ r. ⌜ (r ≡ leaderOf (now (rec .entry)) .nvf) × (now (tags .exit) ≡ overwrite (now (tags .entry)) 0 (tagsOf (now (rec .entry)))) × (now (starts .exit) ≡ overwrite (now (starts .entry)) 0 (startsOf at (now (rec .entry)))) × (now (lens .exit) ≡ overwrite (now (lens .entry)) 0 (lengthsOf (now (rec .entry)))) ⌝ }
+{
+    let mut w = walk(rec);
+    while !at_end(w) {
+        note(here(w), w.index, at, tags, starts, lens);
+        w = advance(w);
+    }
+    w.index
+}
+
+// What stands at a directory index: a field or the end of the directory.
+pub enum Walked {
+    Field { tag: Tag, start: usize, len: usize },
+    End,
+}
+
+// What stands at an index, whatever the index, for callers that ask for one field alone.
 pub fn field_span(rec: &[u8], index: usize) -> Walked
     requires { ⌜ Readable (now rec) ⌝ }
     ensures { λ r. ⌜ r ≡ walkedAt (now (rec .entry)) index ⌝ }
 {
-    here(FieldWalker { rec, index })
+    if ended(rec, index) {
+        return Walked::End;
+    }
+    let spot = spot_at(rec, index);
+    let tag = spot.tag;
+    Walked::Field {
+        tag,
+        start: spot.start,
+        len: spot.len,
+    }
 }

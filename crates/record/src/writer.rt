@@ -61,19 +61,26 @@ fn put_directory(out: &mut [u8], tags: &[u16], lens: &[u16], data: &[u8])
     }
 }
 
+// Writes the leader `l` before a body that stands already, up to `used`, and zeros behind it up to MFRL.
+pub fn frame_record(out: &mut [u8], used: usize, l: Leader)
+    requires { ⌜ (18 ≤ used) × (used ≤ l .mfrl) × (l .mfrl ≤ length (now out)) ⌝ }
+    ensures { λ _. ⌜ now (out .exit) ≡ framed (now (out .entry)) used l ⌝ }
+{
+    let mfrl = l.mfrl as usize;
+    layout::leader::put_leader(out, l);
+    word::bytes::fill(out, used, mfrl - used, 0);
+}
+
 // Writes a draft's record under the leader `l`, MFRL bytes.
 pub fn write_record(out: &mut [u8], l: Leader, tags: &[u16], lens: &[u16], data: &[u8])
     requires { ⌜ draftRight (now tags) (now lens) (now «data») ≡ true ⌝ }
     requires { ⌜ (needOf (length (now tags)) (length (now «data»)) ≤ l .mfrl) × (l .mfrl ≤ length (now out)) ⌝ }
     ensures { λ _. ⌜ now (out .exit) ≡ overwrite (now (out .entry)) 0 (recordBytes l (draftFields (now (tags .entry)) (now (lens .entry)) (now («data» .entry)))) ⌝ }
 {
-    let mfrl = l.mfrl as usize;
     let base = 18 + 6 * tags.len();
-    let used = base + data.len();
-    layout::leader::put_leader(out, l);
     put_directory(out, tags, lens, data);
     word::bytes::copy_to(out, base, data);
-    word::bytes::fill(out, used, mfrl - used, 0);
+    frame_record(out, base + data.len(), l);
 }
 
 // The bytes of the record at the front of `rec` up to the end of its data.
@@ -90,16 +97,6 @@ pub fn put_byte(out: &mut [u8], at: usize, b: u8)
     ensures { λ _. ⌜ now (out .exit) ≡ overwrite (now (out .entry)) at (b ∷ []) ⌝ }
 {
     out[at] = b;
-}
-
-// Writes the leader `l` before a body that stands already, up to `used`, and zeros behind it up to MFRL.
-pub fn frame_record(out: &mut [u8], used: usize, l: Leader)
-    requires { ⌜ (18 ≤ used) × (used ≤ l .mfrl) × (l .mfrl ≤ length (now out)) ⌝ }
-    ensures { λ _. ⌜ now (out .exit) ≡ framed (now (out .entry)) used l ⌝ }
-{
-    let mfrl = l.mfrl as usize;
-    layout::leader::put_leader(out, l);
-    word::bytes::fill(out, used, mfrl - used, 0);
 }
 
 // Rewrites the record at the front of `rec` in place, with its own fields, under the leader `l`.

@@ -3,12 +3,14 @@
 //
 // Of the text only the decimal numbers count. A list is eight lengths (of the MST, the XRF, the room for answers and for bytes shown, the
 // calls' numbers, and the drafts' tags, lengths and bytes) and then those numbers, tags, lengths and bytes.
-use ledger::replay::Replayed;
-use ledger::replay::Stop;
 use libc::STDIN_FILENO;
 use libc::STDOUT_FILENO;
+use replay::run::Replayed;
+use replay::turns::OUTCOME_SIZE;
+use replay::turns::Stop;
 ghost use Prim.Native.Nat.{_+_, _*_, _≤_};
 ghost use lib.ListN.{length};
+ghost use Rattle.replay.specs.Replay.{outcomeSize};
 
 // A number of the text, and where the text goes on.
 struct Number {
@@ -177,7 +179,7 @@ fn print_stop(stop: Stop) {
 
 // Prints the outcome whose numbers stand at `i` and whose field at `from`, and gives where the next field stands.
 fn print_outcome(answers: &[u32], i: usize, shown: &[u8], from: usize) -> usize
-    requires { ⌜ (i + 3 ≤ length (now answers)) × (from ≤ length (now shown)) ⌝ }
+    requires { ⌜ (i + outcomeSize ≤ length (now answers)) × (from ≤ length (now shown)) ⌝ }
     ensures { λ r. ⌜ r ≤ length (now (shown .entry)) ⌝ }
 {
     print_number(answers[i]);
@@ -198,10 +200,10 @@ fn print_outcomes(calls: usize, answers: &[u32], shown: &[u8]) {
     let mut i = 0;
     let mut from = 0;
     while i < calls {
-        if answers.len() / 3 <= i {
+        if answers.len() / OUTCOME_SIZE <= i {
             return;
         }
-        from = print_outcome(answers, 3 * i, shown, from);
+        from = print_outcome(answers, OUTCOME_SIZE * i, shown, from);
         i += 1;
     }
 }
@@ -266,7 +268,7 @@ fn replay_read(
 {
     let after_ops = read_u32s(text, from, ops);
     let end = read_drafts(text, after_ops, tags, lens, data);
-    let r = ledger::replay::replay(mst, xrf, ops, tags, lens, data, answers, shown);
+    let r = replay::run::replay(mst, xrf, ops, tags, lens, data, answers, shown);
     print_replayed(r, answers, shown, mst);
     end
 }

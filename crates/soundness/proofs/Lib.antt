@@ -9,3 +9,4 @@ pub mod Asked
 pub mod Touching
 pub mod PassAnswers
 pub mod CheckAnswers
+pub mod Lowest

@@ -13,7 +13,7 @@ use borrow.Author.Tests.{le-leb, lt-leb, le-ltb, eq-eqb, ne-eqb, not-true, not-f
 use types.Run.{OneOf}
 use denote.Enum.Declared.{tagOf}
 use Rattle.word.specs.Overwrite.{part}
-use Rattle.layout.specs.Sizes.{capacityOf, addressOf, endMoved, recordLength}
+use Rattle.layout.specs.Sizes.{mstMost, mfnMost, capacityOf, addressOf, endMoved, recordLength}
 use Rattle.layout.specs.Entry.{placeAddress}
 use Rattle.layout.specs.CrossReference.{slotFree, entryAt}
 use Rattle.layout.specs.Control.{nextOf, endOf}
@@ -119,13 +119,13 @@ module _ (mst xrf : List ℕ) (next : Mfn) (end : ℕ) (g : gateOf (store mst xr
   pub open-low : 1 ≤ next .0
   open-low = let f = gate-open mst xrf next end g in omega arith
 
-  pub open-few : next .0 ≤ 520193
+  pub open-few : next .0 ≤ mfnMost + 1
   open-few = let f = gate-open mst xrf next end g in omega arith
 
   pub open-end-low : 64 ≤ end
   open-end-low = let f = gate-open mst xrf next end g in omega arith
 
-  pub open-mst : length mst ≤ 536870400
+  pub open-mst : length mst ≤ mstMost
   open-mst = gate-open mst xrf next end g .sizes .mst-high
 
 -- ---- the first pass

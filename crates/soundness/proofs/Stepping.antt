@@ -12,7 +12,7 @@ use native.Mathlib.Decide.{decLe}
 use lib.Dec.{eqb, leb}
 use lib.ListN.{getD, drop}
 use borrow.Author.Tests.{le-leb, lt-leb, eqb-true, eq-eqb, ne-eqb}
-use Rattle.layout.specs.Sizes.{endMoved, recordLength}
+use Rattle.layout.specs.Sizes.{recordMost, endMoved, recordLength}
 use Rattle.layout.specs.Control.{endOf}
 use Rattle.layout.specs.Leader.{leaderOf}
 use Rattle.layout.specs.declared.leader.Leader.{Leader}
@@ -30,7 +30,7 @@ pub record StepFacts (mst : List ℕ) (s : ℕ) : Type 0 where
   pub mfrl : recordLength (mfrlAt mst s) ≡ true
   pub even : mfrlAt mst s % 2 ≡ 0
   pub low : 18 ≤ mfrlAt mst s
-  pub high : mfrlAt mst s ≤ 32766
+  pub high : mfrlAt mst s ≤ recordMost
   pub stops : s + mfrlAt mst s ≤ endOf mst
   pub next-is : nextStep mst s ≡ endMoved (s + mfrlAt mst s)
   pub next-above : s + mfrlAt mst s ≤ nextStep mst s

@@ -12,7 +12,7 @@ ghost use mathlib.Core.Path.{_≡_};
 ghost use mathlib.Core.Bool.{true};
 ghost use Prim.Native.Nat.{_+_, _≤_, _<_};
 ghost use lib.ListN.{length};
-ghost use Rattle.layout.specs.Sizes.{capacityOf};
+ghost use Rattle.layout.specs.Sizes.{xrfMost, capacityOf};
 ghost use Rattle.store.specs.Reading.{entryFor};
 ghost use Rattle.store.specs.Gate.{gateOf};
 ghost use Rattle.soundness.specs.Sound.{elem, headsRight, restFree};
@@ -27,7 +27,7 @@ pub(crate) enum Tally {
 
 // Whether the first integer of every XRF block is right.
 pub(crate) fn heads_right(xrf: &[u8]) -> bool
-    requires { ⌜ length (now xrf) ≤ 2097152 ⌝ }
+    requires { ⌜ length (now xrf) ≤ xrfMost ⌝ }
     ensures { λ r. ⌜ r ≡ headsRight (now (xrf .entry)) ⌝ }
 {
     let n = xrf.len() / 512;
@@ -43,7 +43,7 @@ pub(crate) fn heads_right(xrf: &[u8]) -> bool
 
 // Whether every slot from NXTMFN on holds 0.
 pub(crate) fn rest_free(xrf: &[u8], next: Mfn) -> bool
-    requires { ⌜ (1 ≤ next .0) × (next .0 ≤ capacityOf (length (now xrf)) + 1) × (length (now xrf) ≤ 2097152) ⌝ }
+    requires { ⌜ (1 ≤ next .0) × (next .0 ≤ capacityOf (length (now xrf)) + 1) × (length (now xrf) ≤ xrfMost) ⌝ }
     ensures { λ r. ⌜ r ≡ restFree (now (xrf .entry)) (next .0) ⌝ }
 {
     let last = layout::sizes::capacity(xrf.len()) as u32;

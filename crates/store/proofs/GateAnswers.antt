@@ -45,7 +45,7 @@ use Rattle.store.specs.declared.answer.Answer.the-variants.{Done, BadLen
 use Rattle.store.specs.declared.gate.Gate.the-variants.{Open, Shut}
 use Rattle.store.specs.declared.gate.Known.{Known}
 use Rattle.store.specs.declared.gate.Known.the-variants.{Record, Refused}
-use Rattle.store.proofs.Gates.{gate-open, open-end, open-end-in, open-xrf, open-capacity, open-known, open-entry, KnownFacts, known-facts, BackFacts, back-changed, refused-both}
+use Rattle.store.proofs.Gates.{gate-open, open-end, open-end-in, open-xrf, open-capacity, open-known, open-entry, fine-both, settled-both, KnownFacts, known-facts, BackFacts, back-changed, refused-both}
 use Rattle.store.specs.Store.{store}
 
 -- ---- lengths and control record
@@ -143,22 +143,22 @@ module _ (mst : List ℕ) (end m : ℕ) (p : Place) (h : end ≡ endOf mst) (at 
   tested = rw (← h, ← a, x)
 
   pub place-broken : t ≡ Broken → Refused BadRecord ≡ placeKnown mst m p
-  unfolding placeKnown recordFine
-  place-broken b = rw (test-broken (recordAt mst p) m (p .deleted) (tested ∙ b))
+  unfolding placeKnown
+  place-broken b = rw (fine-both mst m p, test-broken (recordAt mst p) m (p .deleted) (tested ∙ b))
 
   module _ (l : Leader) (g : t ≡ WellFormed l) (w : Bool) (b : w ≡ backFine end p l) where
     back-is : backFine (endOf mst) p (leaderAt mst p) ≡ w
     back-is = let q = test-right (recordAt mst p) m (p .deleted) l (tested ∙ g) in rw (q .1, ← h, b)
 
     pub place-back : not w ≡ true → Refused BadRecord ≡ placeKnown mst m p
-    unfolding placeKnown recordFine
-    place-back n = rw (back-is, not-true w n, and-false)
+    unfolding placeKnown
+    place-back n = rw (fine-both mst m p, back-is, not-true w n, and-false)
 
     pub place-right : not w ≡ false → Record p l ≡ placeKnown mst m p
-    unfolding placeKnown recordFine
+    unfolding placeKnown
     place-right n =
         let q = test-right (recordAt mst p) m (p .deleted) l (tested ∙ g) in
-        rw (back-is, not-false w n, q .0, q .1)
+        rw (fine-both mst m p, back-is, not-false w n, q .0, q .1)
 
 -- ---- the record of an MFN
 
@@ -252,8 +252,8 @@ module _ (mst xrf : List ℕ) (m : ℕ) (k : Known) (e : k ≡ knownOf (store ms
 
         module _ (w : Bool) (s : w ≡ settledFrom mst end m at) where
           version-is : versionFine mst m p ≡ w
-          unfolding versionFine settledFine settledFrom
-          version-is = rw (c, ← facts .leader-is, ← h, ← a, s)
+          unfolding versionFine settledFrom
+          version-is = rw (settled-both mst m p, c, ← facts .leader-is, ← h, ← a, s)
 
           pub both-broken : w ≡ false → Refused BadRecord ≡ knownBoth (store mst xrf) m
           unfolding knownBoth knownIf after numberOf

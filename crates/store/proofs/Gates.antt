@@ -4,7 +4,7 @@ use Prim.Native.Nat.{ℕ, _+_, _-_, _%_, _≤_, _<_}
 use native.Mathlib.Omega.{arith}
 use mathlib.Core.Path.{_≡_, refl, sym, ap, _∙_}
 use mathlib.Core.Logic.{_⊎_, inl, inr}
-use mathlib.Core.Bool.{Bool, true, false, not, _&&_, cond}
+use mathlib.Core.Bool.{Bool, true, false, not, _&&_, cond, and-true}
 use mathlib.Core.List.{List}
 use lib.Dec.{eqb}
 use borrow.Author.Tests.{lt-ltb, le-leb, eqb-true, eqb-false, eq-eqb, ne-eqb, not-false}
@@ -12,7 +12,7 @@ use lib.ListN.{length}
 use Rattle.word.specs.Overwrite.{part}
 use Rattle.word.proofs.Overwrite.{part-short}
 use Rattle.layout.specs.Sizes.{mstPermitted, xrfPermitted, capacityOf}
-use Rattle.layout.specs.Entry.{wellPlaced, placeAddress}
+use Rattle.layout.specs.Entry.{wellPlaced, placed, placeAddress}
 use Rattle.layout.specs.Control.{nextOf, endOf}
 use Rattle.layout.specs.CrossReference.{entryAt}
 use Rattle.layout.specs.Leader.{leaderOf}
@@ -29,13 +29,13 @@ use Rattle.layout.proofs.CrossReference.{entry-well-placed}
 use Rattle.record.specs.Record.{recordRight, noBack, backRight, Readable}
 use Rattle.record.specs.Fields.{fieldsOf}
 use Rattle.record.proofs.Local.{ReadsAs, right-reads}
-use Rattle.record.proofs.Facts.{LeaderFacts, right-facts, right-readable, NoBackFacts, no-back-facts}
+use Rattle.record.proofs.Facts.{LeaderFacts, well-formed-both, right-facts, right-readable, NoBackFacts, no-back-facts}
 use Rattle.store.specs.Answer.{numberOf, Refusal, lowest, after}
 use Rattle.store.specs.Reading.{lengthsPermitted, controlFine, mfnInRange, entryFor, placeIn, placeFor, isMalformed, isGone, isChanged, recordAt, leaderAt, backAddress, backFine, recordFine, settledRecord, settledFine, versionFine, currentFields}
 use Rattle.store.specs.Refusals.{gated, named, fine, bothFine}
 use Rattle.store.specs.Gate.{gateOf, knownIf, knownOf, knownBoth}
 use Rattle.store.specs.declared.answer.Answer.{Answer}
-use Rattle.store.specs.declared.answer.Answer.the-variants.{Done, BadLength, BadControl, BadDraft, NoMfn, NoSlot, BadEntry, Gone as GoneAnswer, BadRecord, Deleted, NotPending, NeverSettled, NoField, NoRoom, NotSound, ListTooShort}
+use Rattle.store.specs.declared.answer.Answer.the-variants.{Done, BadLength, BadControl, BadDraft, NoMfn, NoSlot, BadEntry, Gone as GoneAnswer, BadRecord, Deleted, NotPending, NeverSettled, NoField, NoRoom, NotSound, NoRoomInList}
 use Rattle.store.specs.declared.gate.Gate.{Gate}
 use Rattle.store.specs.declared.gate.Gate.the-variants.{Open, Shut}
 use Rattle.store.specs.declared.gate.Known.{Known}
@@ -61,7 +61,7 @@ number-done NeverSettled e = absurd (omega arith)
 number-done NoField e = absurd (omega arith)
 number-done NoRoom e = absurd (omega arith)
 number-done NotSound e = absurd (omega arith)
-number-done ListTooShort e = absurd (omega arith)
+number-done NoRoomInList e = absurd (omega arith)
 
 pub done-number : numberOf Done ≡ 0
 unfolding numberOf
@@ -267,10 +267,20 @@ pub record FineFacts (mst : List ℕ) (m : ℕ) (p : Place) (l : Leader) : Type 
   pub leader : LeaderFacts m (p .deleted) (length (recordAt mst p)) l
   pub short : length (recordAt mst p) ≤ endOf mst - placeAddress p
 
-pub fine-facts : (mst : List ℕ) (m : ℕ) (p : Place) → recordFine mst m p ≡ true → FineFacts mst m p (leaderAt mst p)
+-- by the two parts that the tests take them in
+pub fine-both : (mst : List ℕ) (m : ℕ) (p : Place) → recordFine mst m p ≡ (recordRight (recordAt mst p) m (p .deleted) && backFine (endOf mst) p (leaderAt mst p))
 unfolding recordFine
+fine-both mst m p = well-formed-both (recordAt mst p) (endOf mst) m p
+
+pub settled-both : (mst : List ℕ) (m : ℕ) (p : Place) → settledFine mst m p ≡ (recordRight (settledRecord mst p) m false && noBack (leaderOf (settledRecord mst p)))
+unfolding settledFine backFine backRight
+settled-both mst m p =
+    well-formed-both (settledRecord mst p) (endOf mst) m (placed (leaderAt mst p .mfbwb .0) (leaderAt mst p .mfbwp) false Settled)
+    ∙ ap (λ (x : Bool). recordRight (settledRecord mst p) m false && x) (and-true (noBack (leaderOf (settledRecord mst p))))
+
+pub fine-facts : (mst : List ℕ) (m : ℕ) (p : Place) → recordFine mst m p ≡ true → FineFacts mst m p (leaderAt mst p)
 fine-facts mst m p e =
-    let q = simp tests at e in
+    let q = simp tests at (rw (fine-both mst m p) at e) in
     record {
       right = q .0;
       back = q .1;
@@ -286,8 +296,7 @@ fine-reads mst m p e = right-reads (recordAt mst p) m (p .deleted) (fine-facts m
 
 pub settled-fine-reads : (mst : List ℕ) (m : ℕ) (p : Place) → settledFine mst m p ≡ true
     → ReadsAs (settledRecord mst p) m false (leaderOf (settledRecord mst p)) (fieldsOf (settledRecord mst p))
-unfolding settledFine
-settled-fine-reads mst m p e = right-reads (settledRecord mst p) m false ((simp tests at e) .0)
+settled-fine-reads mst m p e = right-reads (settledRecord mst p) m false ((simp tests at (rw (settled-both mst m p) at e)) .0)
 
 -- the back pointer under the changed mark, and under the two others
 pub record BackFacts (end : ℕ) (p : Place) (l : Leader) : Type 0 where
@@ -461,9 +470,8 @@ pub record SettledFacts (mst : List ℕ) (m : ℕ) (p : Place) (l : Leader) : Ty
 
 module _ (mst : List ℕ) (m : ℕ) (p : Place) where
   pub settled-facts : recordFine mst m p ≡ true → p .mark ≡ Changed → settledFine mst m p ≡ true → SettledFacts mst m p (leaderAt mst p)
-  unfolding settledFine
   settled-facts e h s =
-      let q = simp tests at s in
+      let q = simp tests at (rw (settled-both mst m p) at s) in
       let b = back-changed (endOf mst) p (leaderAt mst p) (fine-facts mst m p e .back) h in
       let at : ℕ = backAddress (leaderAt mst p) in
       let rec : List ℕ = settledRecord mst p in

@@ -4,7 +4,7 @@ use mathlib.Core.Bool.{Bool, cond}
 use mathlib.Core.List.{List, [], _∷_}
 use lib.Dec.{eqb}
 use Rattle.store.specs.declared.answer.Answer.{Answer}
-use Rattle.store.specs.declared.answer.Answer.the-variants.{Done, BadLength, BadControl, BadDraft, NoMfn, NoSlot, BadEntry, Gone, BadRecord, Deleted, NotPending, NeverSettled, NoField, NoRoom, NotSound, ListTooShort}
+use Rattle.store.specs.declared.answer.Answer.the-variants.{Done, BadLength, BadControl, BadDraft, NoMfn, NoSlot, BadEntry, Gone, BadRecord, Deleted, NotPending, NeverSettled, NoField, NoRoom, NotSound, NoRoomInList}
 
 -- the number of each answer
 unfoldable pub numberOf : Answer → ℕ
@@ -23,7 +23,7 @@ numberOf NeverSettled = 11
 numberOf NoField = 12
 numberOf NoRoom = 13
 numberOf NotSound = 14
-numberOf ListTooShort = 17
+numberOf NoRoomInList = 17
 
 -- an answer, and whether what it is given for is so
 pub record Refusal : Type 0 where

@@ -18,7 +18,10 @@ use Rattle.layout.specs.declared.entry.Entry.{Entry}
 use Rattle.layout.specs.declared.entry.Entry.the-variants.{Gone, Malformed, At}
 use Rattle.layout.specs.declared.leader.Leader.{Leader}
 use Rattle.record.specs.Fields.{Field, fieldsOf}
-use Rattle.record.specs.Record.{recordRight, noBack, backRight}
+use Rattle.record.specs.Record.{wellFormed}
+pub use Rattle.layout.specs.Entry.{isSettled, isChanged, isNew}
+pub use Rattle.record.specs.Record.{backAddress}
+unfoldable pub use Rattle.record.specs.Record.{backFine}
 use Rattle.store.specs.Store.{Store}
 
 -- both buffer lengths are permitted
@@ -56,21 +59,6 @@ isGone Gone = true
 isGone Malformed = false
 isGone (At p) = false
 
-abbrev pub isSettled : Mark → Bool
-isSettled Settled = true
-isSettled Changed = false
-isSettled New = false
-
-abbrev pub isChanged : Mark → Bool
-isChanged Settled = false
-isChanged Changed = true
-isChanged New = false
-
-abbrev pub isNew : Mark → Bool
-isNew Settled = false
-isNew Changed = false
-isNew New = true
-
 -- a record is read as the part of the MST from its first byte, up to the end
 abbrev pub recordFrom : List ℕ → ℕ → List ℕ
 recordFrom mst at = part mst at (endOf mst - at)
@@ -82,17 +70,9 @@ recordAt mst p = recordFrom mst (placeAddress p)
 abbrev pub leaderAt : List ℕ → Place → Leader
 leaderAt mst p = leaderOf (recordAt mst p)
 
--- the address of the back place
-abbrev pub backAddress : Leader → ℕ
-backAddress l = addressOf (l .mfbwb .0) (l .mfbwp)
-
--- the back pointer is right under the mark, and under the changed mark not the record's own place
-unfoldable pub backFine : ℕ → Place → Leader → Bool
-backFine end p l = backRight end (p .mark) l && not (isChanged (p .mark) && eqb (backAddress l) (placeAddress p))
-
 -- the record at an entry's place is well formed for MFN m
 unfoldable pub recordFine : List ℕ → ℕ → Place → Bool
-recordFine mst m p = recordRight (recordAt mst p) m (p .deleted) && backFine (endOf mst) p (leaderAt mst p)
+recordFine mst m p = wellFormed (recordAt mst p) (endOf mst) m p
 
 -- the settled version of a changed record: the record at its back place
 abbrev pub settledRecord : List ℕ → Place → List ℕ
@@ -100,7 +80,7 @@ settledRecord mst p = recordFrom mst (backAddress (leaderAt mst p))
 
 -- the settled version is well formed for m, STATUS 0, back pointer 0/0
 unfoldable pub settledFine : List ℕ → ℕ → Place → Bool
-settledFine mst m p = recordRight (settledRecord mst p) m false && noBack (leaderOf (settledRecord mst p))
+settledFine mst m p = wellFormed (settledRecord mst p) (endOf mst) m (placed (leaderAt mst p .mfbwb .0) (leaderAt mst p .mfbwp) false Settled)
 
 -- a changed record's settled version is; of the other marks nothing is asked
 unfoldable pub versionFine : List ℕ → ℕ → Place → Bool

@@ -19,7 +19,7 @@ pub enum Answer {
     NoField,
     NoRoom,
     NotSound,
-    ListTooShort,
+    NoRoomInList,
 }
 
 // The number of an answer.
@@ -42,6 +42,6 @@ pub fn number(a: Answer) -> u32
         Answer::NoField => 12,
         Answer::NoRoom => 13,
         Answer::NotSound => 14,
-        Answer::ListTooShort => 17,
+        Answer::NoRoomInList => 17,
     }
 }

@@ -2,3 +2,6 @@ pub mod Lowest
 pub mod VersionAnswers
 pub mod ViewAnswers
 pub mod WalkAnswers
+pub mod ListAnswers
+pub mod AllFields
+pub mod StateAnswers

@@ -25,7 +25,7 @@ use Rattle.store.specs.Reading.{placeFor, isSettled, isChanged, isNew, recordFr
 use Rattle.store.specs.Refusals.{gated, named, fine, bothFine}
 use Rattle.views.specs.Views.{onCurrent, onSettled, settledAddress}
 use Rattle.store.specs.Gate.{knownIf, knownOf, knownBoth, reachedOf, reachedBoth, reachedAnswer}
-use Rattle.views.specs.Versions.{versionIf, currentVersion, settledVersion, settledOf, Located, ReadableAt, Legible}
+use Rattle.views.specs.Versions.{lastly, versionIf, currentVersion, settledVersion, settledOf, Located, ReadableAt, Legible}
 use Rattle.store.specs.declared.answer.Answer.{Answer}
 use Rattle.store.specs.declared.answer.Answer.the-variants.{Done, Deleted, NeverSettled, NoField}
 use Rattle.store.specs.declared.gate.Reached.{Reached}
@@ -215,21 +215,18 @@ module _ (mst : List ℕ) (v : Version) (h : Legible mst v) (at end : ℕ) (e : 
   pub version-within : (start len : ℕ) → start + len ≤ leaderOf (part mst at (end - at)) .mfrl → at + start + len ≤ length mst
   version-within start len i = omega (arith, version-end-in, version-before, version-readable .record-in, part-short mst at (end - at))
 
--- ---- 12, behind the refusals of a version
+-- ---- one more answer, behind the refusals of a version
 
-abbrev pub noField : Bool → Answer
-noField none = cond none NoField Done
-
-module _ (mst xrf : List ℕ) (m : ℕ) (none : Bool) where
-  pub current-then : lowest (onCurrent (store mst xrf) m (refuse NoField none ∷ []))
-      ≡ after (lowest (onCurrent (store mst xrf) m [])) (noField none) (lowest (onCurrent (store mst xrf) m []))
+module _ (mst xrf : List ℕ) (m : ℕ) (a : Answer) (applies : Bool) where
+  pub current-then : lowest (onCurrent (store mst xrf) m (refuse a applies ∷ []))
+      ≡ after (lowest (onCurrent (store mst xrf) m [])) (lastly a applies) (lowest (onCurrent (store mst xrf) m []))
   unfolding above numberOf
-  current-then = lowest-append (onCurrent (store mst xrf) m []) (refuse NoField none ∷ []) refl
+  current-then = lowest-append (onCurrent (store mst xrf) m []) (refuse a applies ∷ []) refl
 
-  pub settled-then : lowest (onSettled (store mst xrf) m (refuse NoField none ∷ []))
-      ≡ after (lowest (onSettled (store mst xrf) m [])) (noField none) (lowest (onSettled (store mst xrf) m []))
+  pub settled-then : lowest (onSettled (store mst xrf) m (refuse a applies ∷ []))
+      ≡ after (lowest (onSettled (store mst xrf) m [])) (lastly a applies) (lowest (onSettled (store mst xrf) m []))
   unfolding above numberOf
-  settled-then = lowest-append (onSettled (store mst xrf) m []) (refuse NoField none ∷ []) refl
+  settled-then = lowest-append (onSettled (store mst xrf) m []) (refuse a applies ∷ []) refl
 
 -- what is shown of a version that was found is what is made of the later answer, and a refusal is what is made of itself
 pub version-shows : {S : Type 0} (shown : Version → S) (made : Answer → S) (a later : Answer) (at end : ℕ)

@@ -18,14 +18,14 @@ use Rattle.record.proofs.Search.{found-in}
 use Rattle.store.specs.Answer.{numberOf, lowest, after}
 use Rattle.store.specs.Reading.{placeFor, recordAt, recordFrom}
 use Rattle.views.specs.Views.{isMissing, onCurrent, onSettled, viewAnswer, settledViewAnswer, foundStart, foundLength, shownAt, viewOf, settledAddress, settledViewOf, shownBytes}
-use Rattle.views.specs.Versions.{versionIf, currentVersion, settledVersion, refusedView, versionAnswer, shownFound, shownIn, Legible}
+use Rattle.views.specs.Versions.{lastly, versionIf, currentVersion, settledVersion, refusedView, versionAnswer, shownFound, shownIn, Legible}
 use Rattle.store.specs.declared.answer.Answer.{Answer}
 use Rattle.store.specs.declared.answer.Answer.the-variants.{Done, NoField}
 use Rattle.views.specs.declared.views.Shown.{Shown}
 use Rattle.views.specs.declared.views.Version.{Version}
 use Rattle.views.specs.declared.views.Version.the-variants.{Begins, Refused as NoVersion}
 use Rattle.store.proofs.Gates.{Refusing, after-refused}
-use Rattle.views.proofs.VersionAnswers.{noField, current-then, settled-then, version-shows, settled-from, current-legible, settled-legible, version-end-in, version-before, version-readable, version-within}
+use Rattle.views.proofs.VersionAnswers.{current-then, settled-then, version-shows, settled-from, current-legible, settled-legible, version-end-in, version-before, version-readable, version-within}
 use Rattle.store.specs.Store.{store}
 
 -- ---- what is shown
@@ -39,7 +39,7 @@ pub refused-within : (mst : List ℕ) (a : Answer) (r : Shown) → r ≡ refused
 refused-within mst a r s = rw s (omega arith)
 
 -- 12, of what was found
-shown-found : (at : ℕ) (f : Found) → shownFound at f ≡ shownAt (noField (isMissing f)) at f
+shown-found : (at : ℕ) (f : Found) → shownFound at f ≡ shownAt (lastly NoField (isMissing f)) at f
 unfolding shownAt after numberOf
 shown-found at (Span start len) = refl
 shown-found at Missing = refl
@@ -69,25 +69,25 @@ module _ (mst : List ℕ) (tag occ : ℕ) (v : Version) where
       show-sum h n = omega (arith, show-within h)
 
 module _ (mst xrf : List ℕ) (m tag occ : ℕ) (v : Version) (r : Shown) (s : r ≡ shownIn mst tag occ v) where
-  version-shown : (a b : Answer) (at : ℕ) → v ≡ versionIf a at (endOf mst) → b ≡ after a (noField (isMissing (findOf (recordFrom mst at) tag occ))) a
+  version-shown : (a b : Answer) (at : ℕ) → v ≡ versionIf a at (endOf mst) → b ≡ after a (lastly NoField (isMissing (findOf (recordFrom mst at) tag occ))) a
       → r ≡ shownAt b at (findOf (recordFrom mst at) tag occ)
   unfolding shownIn
   version-shown a b at e t =
       let f : Found = findOf (recordFrom mst at) tag occ in
-      rw (s, e, t) (version-shows (shownIn mst tag occ) (λ c. shownAt c at f) a (noField (isMissing f)) at (endOf mst) (shown-found at f) (shown-refused a at f))
+      rw (s, e, t) (version-shows (shownIn mst tag occ) (λ c. shownAt c at f) a (lastly NoField (isMissing f)) at (endOf mst) (shown-found at f) (shown-refused a at f))
 
   pub view-shown : v ≡ currentVersion (store mst xrf) m → r ≡ viewOf (store mst xrf) m tag occ
   unfolding currentVersion viewOf viewAnswer
   view-shown e =
       let p : Place = placeFor (store mst xrf) m in
-      version-shown (lowest (onCurrent (store mst xrf) m [])) _ (placeAddress p) e (current-then mst xrf m (isMissing (findOf (recordAt mst p) tag occ)))
+      version-shown (lowest (onCurrent (store mst xrf) m [])) _ (placeAddress p) e (current-then mst xrf m NoField (isMissing (findOf (recordAt mst p) tag occ)))
 
   pub settled-view-shown : v ≡ settledVersion (store mst xrf) m → r ≡ settledViewOf (store mst xrf) m tag occ
   unfolding settledVersion settledViewOf settledViewAnswer
   settled-view-shown e =
       let at : ℕ = settledAddress mst (placeFor (store mst xrf) m) in
       rw (← settled-from mst (placeFor (store mst xrf) m))
-      (version-shown (lowest (onSettled (store mst xrf) m [])) _ at e (settled-then mst xrf m (isMissing (findOf (recordFrom mst at) tag occ))))
+      (version-shown (lowest (onSettled (store mst xrf) m [])) _ at e (settled-then mst xrf m NoField (isMissing (findOf (recordFrom mst at) tag occ))))
 
 -- ---- the field itself
 

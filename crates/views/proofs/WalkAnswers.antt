@@ -27,14 +27,14 @@ use Rattle.store.specs.Answer.{numberOf, lowest, after}
 use Rattle.store.specs.Reading.{placeFor, recordAt, recordFrom, shownSettled, currentFields}
 use Rattle.views.specs.Views.{onCurrent, onSettled, settledAddress}
 use Rattle.views.specs.Fields.{fieldAnswer, settledFieldAnswer, handedOut, fieldOf, settledFieldOf}
-use Rattle.views.specs.Versions.{versionIf, currentVersion, settledVersion, refusedField, versionAnswer, shownWalked, walkedIn, ReadableAt, Legible}
+use Rattle.views.specs.Versions.{lastly, versionIf, currentVersion, settledVersion, refusedField, versionAnswer, shownWalked, walkedIn, ReadableAt, Legible}
 use Rattle.store.specs.declared.answer.Answer.{Answer}
 use Rattle.store.specs.declared.answer.Answer.the-variants.{Done, NoField}
 use Rattle.views.specs.declared.views.Version.{Version}
 use Rattle.views.specs.declared.views.Version.the-variants.{Begins, Refused as NoVersion}
 use Rattle.views.specs.declared.walk.ShownField.{ShownField}
 use Rattle.store.proofs.Gates.{Refusing, after-refused}
-use Rattle.views.proofs.VersionAnswers.{noField, current-then, settled-then, version-shows, settled-from, current-readable, current-legible, settled-readable, settled-legible, version-end-in, version-before, version-readable, version-within}
+use Rattle.views.proofs.VersionAnswers.{current-then, settled-then, version-shows, settled-from, current-readable, current-legible, settled-readable, settled-legible, version-end-in, version-before, version-readable, version-within}
 use Rattle.store.specs.Store.{store}
 
 -- ---- what is handed out
@@ -53,13 +53,13 @@ pub refused-within : (mst : List ℕ) (a : Answer) (r : ShownField) → r ≡ re
 refused-within mst a r s = rw s (omega arith)
 
 -- 12, at the end of the directory
-handed-walked : (at : ℕ) (rec : List ℕ) (i : ℕ) → shownWalked at (walkedAt rec i) ≡ handedOut (noField (atEnd rec i)) at rec i
+handed-walked : (at : ℕ) (rec : List ℕ) (i : ℕ) → shownWalked at (walkedAt rec i) ≡ handedOut (lastly NoField (atEnd rec i)) at rec i
 unfolding walkedAt handedOut after numberOf
 handed-walked at rec i = by (atEnd rec i)
   where
     by : (over : Bool)
         → shownWalked at (cond over End (FieldHere (record { 0 = tagAt rec i }) (leaderOf rec .base + posAt rec i) (lenAt rec i)))
-        ≡ handedOut (noField over) at rec i
+        ≡ handedOut (lastly NoField over) at rec i
     by true = refl
     by false = refl
 
@@ -88,25 +88,25 @@ module _ (mst : List ℕ) (i : ℕ) (v : Version) where
       walk-sum h n = omega (arith, walk-within h)
 
 module _ (mst xrf : List ℕ) (m i : ℕ) (v : Version) (r : ShownField) (s : r ≡ walkedIn mst i v) where
-  version-handed : (a b : Answer) (at : ℕ) → v ≡ versionIf a at (endOf mst) → b ≡ after a (noField (atEnd (recordFrom mst at) i)) a
+  version-handed : (a b : Answer) (at : ℕ) → v ≡ versionIf a at (endOf mst) → b ≡ after a (lastly NoField (atEnd (recordFrom mst at) i)) a
       → r ≡ handedOut b at (recordFrom mst at) i
   unfolding walkedIn
   version-handed a b at e t =
       let rec : List ℕ = recordFrom mst at in
-      rw (s, e, t) (version-shows (walkedIn mst i) (λ c. handedOut c at rec i) a (noField (atEnd rec i)) at (endOf mst) (handed-walked at rec i) (handed-refused a at rec i))
+      rw (s, e, t) (version-shows (walkedIn mst i) (λ c. handedOut c at rec i) a (lastly NoField (atEnd rec i)) at (endOf mst) (handed-walked at rec i) (handed-refused a at rec i))
 
   pub field-handed : v ≡ currentVersion (store mst xrf) m → r ≡ fieldOf (store mst xrf) m i
   unfolding currentVersion fieldOf fieldAnswer
   field-handed e =
       let p : Place = placeFor (store mst xrf) m in
-      version-handed (lowest (onCurrent (store mst xrf) m [])) _ (placeAddress p) e (current-then mst xrf m (atEnd (recordAt mst p) i))
+      version-handed (lowest (onCurrent (store mst xrf) m [])) _ (placeAddress p) e (current-then mst xrf m NoField (atEnd (recordAt mst p) i))
 
   pub settled-field-handed : v ≡ settledVersion (store mst xrf) m → r ≡ settledFieldOf (store mst xrf) m i
   unfolding settledVersion settledFieldOf settledFieldAnswer
   settled-field-handed e =
       let at : ℕ = settledAddress mst (placeFor (store mst xrf) m) in
       rw (← settled-from mst (placeFor (store mst xrf) m))
-      (version-handed (lowest (onSettled (store mst xrf) m [])) _ at e (settled-then mst xrf m (atEnd (recordFrom mst at) i)))
+      (version-handed (lowest (onSettled (store mst xrf) m [])) _ at e (settled-then mst xrf m NoField (atEnd (recordFrom mst at) i)))
 
 pub ruleset walk-answers =
     (refused-within, walk-refused, walk-ended, walk-found, walk-within, walk-sum, version-end-in, version-before, version-readable, current-legible, settled-legible, field-handed, settled-field-handed, arith)
@@ -133,7 +133,7 @@ module _ (mst : List ℕ) (at end i : ℕ) (h : ReadableAt mst at end) where
       (part-part mst at (end - at) (leaderOf rec .base + posAt rec i) (lenAt rec i)
       (omega (arith, field-in rec i (record { readable = h .readable; listed = l }), h .readable .record-in, part-short mst at (end - at))))
 
-  hands-out : (a : Answer) → a ≡ Done → HandsOut mst (fieldsOf rec) i (handedOut (after a (noField (atEnd rec i)) a) at rec i)
+  hands-out : (a : Answer) → a ≡ Done → HandsOut mst (fieldsOf rec) i (handedOut (after a (lastly NoField (atEnd rec i)) a) at rec i)
   unfolding handedOut after numberOf
   hands-out a e =
       record {
@@ -149,7 +149,7 @@ module _ (mst xrf : List ℕ) (m i : ℕ) where
   pub handed-out : lowest (onCurrent (store mst xrf) m []) ≡ Done → HandsOut mst (currentFields mst (placeFor (store mst xrf) m)) i (fieldOf (store mst xrf) m i)
   unfolding fieldOf fieldAnswer
   handed-out e =
-      rw (current-then mst xrf m (atEnd (recordAt mst (placeFor (store mst xrf) m)) i))
+      rw (current-then mst xrf m NoField (atEnd (recordAt mst (placeFor (store mst xrf) m)) i))
       (hands-out mst (placeAddress (placeFor (store mst xrf) m)) (endOf mst) i (current-readable mst xrf m e) (lowest (onCurrent (store mst xrf) m [])) e)
 
   -- and those of the settled version the fields of the record that the settled view reads
@@ -157,5 +157,5 @@ module _ (mst xrf : List ℕ) (m i : ℕ) where
       → HandsOut mst (fieldsOf (shownSettled mst (placeFor (store mst xrf) m))) i (settledFieldOf (store mst xrf) m i)
   unfolding settledFieldOf settledFieldAnswer
   settled-handed-out e =
-      rw (settled-then mst xrf m (atEnd (shownSettled mst (placeFor (store mst xrf) m)) i), ← settled-from mst (placeFor (store mst xrf) m))
+      rw (settled-then mst xrf m NoField (atEnd (shownSettled mst (placeFor (store mst xrf) m)) i), ← settled-from mst (placeFor (store mst xrf) m))
       (hands-out mst (settledAddress mst (placeFor (store mst xrf) m)) (endOf mst) i (settled-readable mst xrf m e) (lowest (onSettled (store mst xrf) m [])) e)

@@ -1,3 +1,5 @@
 pub mod Views
 pub mod Fields
+pub mod Listing
+pub mod State
 pub mod Versions

@@ -30,7 +30,7 @@ use Rattle.store.specs.Gate.{gateOf, gateAnswer, knownOf, knownAnswer, reachedI
 use Rattle.writing.specs.Plans.{settlePlan, revertPlan, slotAnswer, SlotAsked, createPlan, planIf, updatePlan, deletePlan, roomPlan}
 use Rattle.writing.specs.Asked.{RecordRead}
 use Rattle.store.specs.declared.answer.Answer.{Answer}
-use Rattle.store.specs.declared.answer.Answer.the-variants.{Done, BadLength, BadControl, BadDraft, NoMfn, NoSlot, BadEntry, Gone as GoneAnswer, BadRecord, Deleted, NotPending, NeverSettled, NoField, NoRoom, NotSound, ListTooShort}
+use Rattle.store.specs.declared.answer.Answer.the-variants.{Done, BadLength, BadControl, BadDraft, NoMfn, NoSlot, BadEntry, Gone as GoneAnswer, BadRecord, Deleted, NotPending, NeverSettled, NoField, NoRoom, NotSound, NoRoomInList}
 use Rattle.writing.specs.declared.create.Creating.the-variants.{Write, Unwritten}
 use Rattle.store.specs.declared.gate.Gate.{Gate}
 use Rattle.store.specs.declared.gate.Gate.the-variants.{Open, Shut}
@@ -65,7 +65,7 @@ not-done NeverSettled v = λ z. omega arith
 not-done NoField v = λ z. omega arith
 not-done NoRoom v = λ z. omega arith
 not-done NotSound v = λ z. omega arith
-not-done ListTooShort v = λ z. omega arith
+not-done NoRoomInList v = λ z. omega arith
 
 pub not-settled : (k : Mark) → OneOf (1 ∷ 2 ∷ []) (tagOf mark.the-type k) → isSettled k ≡ false
 not-settled Settled v = absurd (miss (1 ∷ 2 ∷ []) 0 tt v)

@@ -91,7 +91,7 @@ fn begins(line: &str, name: &str) -> bool {
         line.split_once(kind).is_some_and(|(before, after)| {
             before
                 .split_whitespace()
-                .all(|word| matches!(word, "pub" | "extern" | "\"C\""))
+                .all(|word| matches!(word, "pub" | "pub(crate)" | "extern" | "\"C\""))
                 && after
                     .split(|c: char| !(c.is_alphanumeric() || c == '_'))
                     .next()
@@ -171,6 +171,23 @@ fn every_name_of_the_other_pages_is_there() {
     all_are_there("CONTRIBUTING.md", 10);
 }
 
+/// A table cannot be folded, so a wide one is a list.
+#[test]
+fn tables_are_at_most_160_columns_wide() {
+    let mut pages = vec![root().join("README.md"), root().join("CONTRIBUTING.md")];
+    let docs = fs::read_dir(root().join("docs")).unwrap();
+    pages.extend(docs.map(|entry| entry.unwrap().path()));
+    pages.retain(|page| page.extension().is_some_and(|kind| kind == "md"));
+    assert!(pages.len() > 5, "{pages:?}");
+    for page in pages {
+        let text = fs::read_to_string(&page).unwrap();
+        for (at, line) in text.lines().enumerate() {
+            let wide = line.starts_with('|') && line.chars().count() > 160;
+            assert!(!wide, "{}, line {}: a wide table", page.display(), at + 1);
+        }
+    }
+}
+
 #[test]
 fn every_must_fail_edit_is_named_with_a_promise() {
     let named = words("docs/PROMISES.md");
@@ -197,12 +214,12 @@ fn every_must_fail_edit_is_named_with_a_promise() {
 #[test]
 fn names_that_point_nowhere_are_found() {
     for wrong in [
-        "store/specs/Calls.noSuchDefinition",
+        "writing/specs/Calls.noSuchDefinition",
         "store/specs/NoSuchFile",
         "ledger/proofs/Theorem.no-such-law",
-        "store/must-fail/no_such_edit",
+        "writing/must-fail/no_such_edit",
         "model/tests/answers::no_such_test",
-        "store::views::no_such_function",
+        "views::views::no_such_function",
         "docs/NO-SUCH-PAGE.md",
         // in two pieces, since this file is searched too
         concat!("noSuch", "Name"),
@@ -212,11 +229,11 @@ fn names_that_point_nowhere_are_found() {
         assert!(missing(wrong).is_some(), "{wrong} was found");
     }
     for right in [
-        "store/specs/Calls.viewOf",
+        "views/specs/Views.viewOf",
         "layout/specs/Entry.wellPlaced",
         "ledger/specs/Ledger.Item",
         "ledger/proofs/Theorem.demand-3",
-        "store::views::view",
+        "views::views::view",
         "layout::sizes::Mfn",
         "differential/tests/docs::names_that_point_nowhere_are_found",
         "viewOf",

@@ -33,7 +33,7 @@ use denote.Triple.Spec.{Meets, tripleOf}
 use denote.Triple.Table.{entered}
 use denote.Triple.Walked.{says, needs, Stays, stay-none, walkOf, goes-none, Walks, ends-at, walked, walk-meets}
 use denote.Exit.{yes}
-use Rattle.record.specs.Walker.{Standing}
+use Rattle.record.specs.Walker.{AtField}
 use Rattle.record.specs.declared.walker.FieldWalker.{FieldWalker}
 use Rattle.record.proofs.walker.FieldWalker as T
 use Rattle.record.proofs.walker.FieldWalker.Laws as T′
@@ -48,7 +48,7 @@ abbrev stayed : Stays (fn.ended .signature .params) (fn.ended .kept)
 stayed = (stay-none B yes, tt)
 
 module _ {M : Type 1} (𝓤 : URA M) (H : Heap 𝓤) (A : Atoms 𝓤) (W : Given 𝓤 H A) (mem : Memory → SProp 𝓤) (run : Routine → Fun 𝓤) (κ : Lft) (q : Share) (d : FieldWalker)
-    (s : Standing (now (d .rec)) (d .index)) where
+    (s : AtField (now (d .rec)) (d .index)) where
   abbrev n : ℕ
   n = d .index + 1
 

@@ -3,14 +3,11 @@ use Rattle.record.proofs.Walking.{walk-answers}
 use Rattle.record.proofs.walker.ended.Statement.{statement}
 use Rattle.record.proofs.walker.ended.Tie as tie
 
-u16-at-requires : tie.Need-u16-at-requires
-u16-at-requires c κs = search needs
-
-cast-result : tie.Need-cast-result
-cast-result c = search needs
+field-count-requires : tie.Need-field-count-requires
+field-count-requires c κs = search needs
 
 returns : tie.Need-returns
 returns c = search walk-answers
 
 pub ended-spec : {M : Type 1} → statement M
-ended-spec = tie.close (tie.spec u16-at-requires cast-result returns)
+ended-spec = tie.close (tie.spec field-count-requires returns)

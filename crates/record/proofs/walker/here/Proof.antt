@@ -1,14 +1,13 @@
--- `here` passes the walker's slice and index to `walked_at`.
+-- `here` passes the walker's slice and index to `spot_at`.
 use mathlib.Core.Path.{_≡_}
 use contract.Running.{givenOf}
-use denote.Enum.Laws as EL
-use Rattle.record.specs.Record.{Readable}
-use Rattle.record.specs.Walker.{walkedAt}
-use Rattle.record.proofs.walker.Walked as R
-use Rattle.record.proofs.walker.Walked.Laws as R′
+use denote.Struct.Laws as LL
+use Rattle.record.specs.Walker.{AtField, spotAt}
+use Rattle.record.proofs.walker.Spot as R
+use Rattle.record.proofs.walker.Spot.Laws as R′
 use Rattle.record.proofs.TakenApart.{passes}
-use Rattle.record.proofs.walker.walked_at.Symbol as step
-use Rattle.record.proofs.walker.walked_at.Met as step-thm
+use Rattle.record.proofs.walker.spot_at.Symbol as step
+use Rattle.record.proofs.walker.spot_at.Met as step-thm
 use Rattle.record.proofs.walker.here.Key.{name}
 use Rattle.record.proofs.walker.here as here
 use Rattle.record.proofs.walker.here.Statement as stated
@@ -17,7 +16,7 @@ use Rattle.record.proofs.walker.here.Code as code
 pub here-spec : {M : Type 1} → stated.statement M
 unfolding code.routine
 here-spec 𝓤 H 𝓜 𝓖 𝓡 =
-    passes (here.signature .result) (λ rec i. Readable rec) (λ rec i. Readable rec) (λ κs rec i r. r ≡ walkedAt rec i) 𝓤 H 𝓜 𝓖 𝓡 code.env
+    passes (here.signature .result) AtField AtField (λ κs rec i r. r ≡ spotAt rec i) 𝓤 H 𝓜 𝓖 𝓡 code.env
     R′.mir name step.name step.routine
-    (λ rec i ok. ok) (λ κs r v is. EL.lawful R.the-type R′.the-laws 𝓤 H (𝓖 .A) (givenOf 𝓤 H 𝓜 𝓖) tt .typed r _ is .0)
-    (code.unfolded 𝓤 H 𝓜 𝓡) code.calls-record·walker·walked-at (step-thm.met 𝓤 H 𝓜 𝓖 𝓡)
+    (λ rec i ok. ok) (λ κs r v is. LL.lawful R.the-type R′.the-laws 𝓤 H (𝓖 .A) (givenOf 𝓤 H 𝓜 𝓖) .typed r _ is .0)
+    (code.unfolded 𝓤 H 𝓜 𝓡) code.calls-record·walker·spot-at (step-thm.met 𝓤 H 𝓜 𝓖 𝓡)

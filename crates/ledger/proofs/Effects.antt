@@ -1,0 +1,124 @@
+-- What a call does to the ledger, taken apart once, by call. What is said of the ledger after a call (what is pending stays, other MFNs stay,
+-- nothing becomes gone) is then shown by the few things that a call can do.
+use Prim.Native.Nat.{ℕ, _+_, _-_, _≤_, _<_}
+use native.Mathlib.Decide.{ℕ-discrete}
+use native.Mathlib.Omega.{arith}
+use mathlib.Core.Path.{_≡_, refl, ap, _∙_}
+use mathlib.Core.Logic.{inl, inr}
+use mathlib.Core.Bool.{Bool, true, false, not}
+use mathlib.Core.List.{List, [], _∷_, _++_}
+use lib.ListN.{length, set, length-set, length-append, List·getD-append}
+use lib.Seq.{getD-set-same, getD-set-other, getD-at}
+use Rattle.layout.proofs.Tests.{tests}
+use Rattle.record.specs.Fields.{Field}
+use Rattle.record.specs.Bytes.{needFor}
+use Rattle.store.specs.Answer.{numberOf, after}
+use Rattle.store.specs.declared.answer.Answer.{Answer}
+use Rattle.store.specs.declared.answer.Answer.the-variants.{Done, BadLength, NoMfn, NeverSettled}
+use Rattle.store.proofs.Gates.{number-done, after-done, after-refused}
+use Rattle.store.proofs.Lowest.{Applies}
+use Rattle.store.specs.Store.{store, Draft, fieldsIn}
+use Rattle.ledger.specs.Call.{Call, format, view, viewSettled, create, update, delete, settle, revert, check}
+use Rattle.ledger.specs.Ledger.{new, Item, gone, held, Ledger, nextMfn, lengthsFine, mfnIn, itemOf, keptMark, isSettledMark, isNewMark}
+use Rattle.ledger.specs.LedgerAnswers.{appends, refusalsL, numberL}
+use Rattle.ledger.specs.LedgerSteps.{Effect, stays, emptied, itemSet, itemAdded, applied, version, settledAs, effectOf, nextL}
+use Rattle.ledger.proofs.Ascending.{number-lowest}
+
+-- the lengths are right, and MFN m was created
+pub record Known (L : Ledger) (m : ℕ) : Type 0 where
+  pub lengths : lengthsFine L ≡ true
+  pub low : 1 ≤ m
+  pub high : m < nextMfn L
+
+pub in-range : (L : Ledger) (m : ℕ) → mfnIn L m ≡ true → (1 ≤ m) × (m < nextMfn L)
+unfolding mfnIn
+in-range L m e = let q = simp tests at e in (q .0, q .1)
+
+pub known-in : {L : Ledger} {m : ℕ} → Known L m → mfnIn L m ≡ true
+unfolding mfnIn
+known-in k = simp tests (k .low, k .high)
+
+-- ---- what a call that is done does
+
+pub data Does (L : Ledger) (c : Call) : Effect → Type 0 where
+  reads : Does L c stays
+  empties : c ≡ format → Does L c emptied
+  -- one more, never settled
+  adds : lengthsFine L ≡ true → (fs : List Field) (n e : ℕ) → Does L c (itemAdded (held fs false (new n)) e)
+  -- a new version of MFN k
+  changes : (k : ℕ) → Known L k → (fs : List Field) (deleted appended : Bool) → Does L c (version L k fs deleted appended)
+  -- MFN k becomes settled
+  settles : (k : ℕ) → Known L k → c ≡ settle k → (fs : List Field) (deleted : Bool) → Does L c (settledAs L k fs deleted)
+  reverts : (k : ℕ) → Known L k → c ≡ revert k → isNewMark (keptMark (itemOf L k)) ≡ false → (fs : List Field) → Does L c (settledAs L k fs false)
+
+module _ (L : Ledger) (c : Call) (d : numberL L c ≡ Done) where
+  -- no row of its table applies
+  row : (a : Answer) (b : Bool) → (b ≡ true → Applies (refusalsL L c) a) → b ≡ false
+  row a true h = absurd (number-lowest L c .none d a (h refl))
+  row a false h = refl
+
+  row-not : (a : Answer) (b : Bool) → (not b ≡ true → Applies (refusalsL L c) a) → b ≡ true
+  row-not a true h = refl
+  row-not a false h = absurd (number-lowest L c .none d a (h refl))
+
+  permitted : (not (lengthsFine L) ≡ true → Applies (refusalsL L c) BadLength) → lengthsFine L ≡ true
+  permitted f = row-not BadLength (lengthsFine L) f
+
+  known : (k : ℕ) → (not (lengthsFine L) ≡ true → Applies (refusalsL L c) BadLength) → (not (mfnIn L k) ≡ true → Applies (refusalsL L c) NoMfn) → Known L k
+  known k f g =
+      let r = in-range L k (row-not NoMfn (mfnIn L k) g) in
+      record { lengths = permitted f; low = r .0; high = r .1 }
+
+pub create-lengths : (L : Ledger) (f : Draft) → numberL L (create f) ≡ Done → lengthsFine L ≡ true
+unfolding refusalsL
+create-lengths L f d = permitted L (create f) d (λ e. inl (refl, e))
+
+pub does : (L : Ledger) (c : Call) → numberL L c ≡ Done → Does L c (effectOf L c)
+unfolding effectOf refusalsL
+does L format d = empties refl
+does L (view m tag occ) d = reads
+does L (viewSettled m tag occ) d = reads
+does L (create f) d = adds (create-lengths L f d) _ _ _
+does L (update m f) d =
+    changes m (known L (update m f) d m (λ e. inl (refl, e)) (λ e. inr (inr (inl (refl, e))))) _ _
+    (appends (keptMark (itemOf L m)) (needFor (fieldsIn f)))
+does L (delete m) d =
+    changes m (known L (delete m) d m (λ e. inl (refl, e)) (λ e. inr (inl (refl, e)))) _ _ (isSettledMark (keptMark (itemOf L m)))
+does L (settle m) d = settles m (known L (settle m) d m (λ e. inl (refl, e)) (λ e. inr (inl (refl, e)))) refl _ _
+does L (revert m) d =
+    reverts m (known L (revert m) d m (λ e. inl (refl, e)) (λ e. inr (inl (refl, e)))) refl
+    (row L (revert m) d NeverSettled (isNewMark (keptMark (itemOf L m))) (λ e. inr (inr (inr (inr (inl (refl, e))))))) _
+does L check d = reads
+
+-- what holds where the call is refused, and after what it does where it is done, holds after it
+pub after-call : (P : Ledger → Type 0) (L : Ledger) (c : Call) → P L → (Does L c (effectOf L c) → P (applied L (effectOf L c))) → P (nextL L c)
+unfolding nextL
+after-call P L c p f = go (ℕ-discrete (numberOf (numberL L c)) 0)
+  where
+    go : Dec (numberOf (numberL L c) ≡ 0) → P (after (numberL L c) (applied L (effectOf L c)) L)
+    go (yes z) =
+        let d : numberL L c ≡ Done = number-done (numberL L c) z in
+        rw (after-done (numberL L c) (applied L (effectOf L c)) L d) (f (does L c d))
+    go (no z) = rw (after-refused (numberL L c) (applied L (effectOf L c)) L z) p
+
+-- ---- an item set, or added: its own, and those of the others
+
+module _ (L : Ledger) (k : ℕ) (i : Item) (e : ℕ) where
+  pub set-long : length (set (L .items) (k - 1) i) ≡ length (L .items)
+  set-long = length-set (L .items) (k - 1) i
+
+  pub set-own : 1 ≤ k → k < nextMfn L → itemOf (applied L (itemSet k i e)) k ≡ i
+  set-own low high = getD-set-same (L .items) (k - 1) i gone (omega arith)
+
+  pub set-other : (o : ℕ) → 1 ≤ k → 1 ≤ o → (k ≡ o → ⊥) → itemOf (applied L (itemSet k i e)) o ≡ itemOf L o
+  set-other o low lo ne = getD-set-other (L .items) (k - 1) (o - 1) i gone (λ z. ne (omega arith))
+
+module _ (L : Ledger) (i : Item) (e : ℕ) where
+  pub added-long : length (L .items ++ (i ∷ [])) ≡ length (L .items) + 1
+  added-long = length-append (L .items) (i ∷ [])
+
+  pub added-own : itemOf (applied L (itemAdded i e)) (nextMfn L) ≡ i
+  added-own = getD-at (L .items) i [] gone (length (L .items) + 1 - 1) (omega arith)
+
+  pub added-other : (o : ℕ) → 1 ≤ o → o < nextMfn L → itemOf (applied L (itemAdded i e)) o ≡ itemOf L o
+  added-other o lo hi = List·getD-append (L .items) (i ∷ []) gone (o - 1) (omega arith)

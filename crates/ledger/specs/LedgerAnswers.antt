@@ -1,0 +1,121 @@
+-- What the ledger answers to a call: the lowest number that the table gives, read on the ledger. Each call's refusals stand in the order of
+-- their numbers, and `lowest` takes the first that applies; proofs/Ascending shows that every table ascends, so that the first is the lowest.
+-- Document 01, "The ledger of demand 3".
+use Prim.Native.Nat.{ℕ, _+_}
+use mathlib.Core.Bool.{Bool, true, false, not, _&&_, _||_}
+use mathlib.Core.List.{List, [], _∷_}
+use mathlib.Core.Option.{Option, some, none}
+use lib.Dec.{eqb, ltb}
+use Rattle.layout.specs.Sizes.{capacityOf}
+use Rattle.record.specs.Fields.{fieldNamed}
+use Rattle.record.specs.Bytes.{needFor}
+use Rattle.store.specs.Answer.{Refusal, refuse, lowest, after}
+use Rattle.store.specs.declared.answer.Answer.{Answer}
+use Rattle.store.specs.declared.answer.Answer.the-variants.{BadLength, BadDraft, NoMfn, NoSlot, Gone, Deleted, NotPending, NeverSettled, NoField, NoRoom}
+use Rattle.store.specs.Store.{isRight, fieldsIn}
+use Rattle.ledger.specs.Call.{Call, format, view, viewSettled, create, update, delete, settle, revert, check, Outcome, outcome, plain}
+use Rattle.ledger.specs.Ledger.{Marking, Ledger, nextMfn, lengthsFine, mfnIn, itemOf, isGoneItem, keptFields, keptDeleted, keptMark, isSettledMark, isNewMark, keptLength, settledFields}
+
+-- ---- the rows that calls share
+
+-- 1, before the refusals of every call
+abbrev pub measured : Ledger → List Refusal → List Refusal
+measured L rest = refuse BadLength (not (lengthsFine L)) ∷ rest
+
+-- 4 and 7, for calls that name an MFN
+abbrev pub named : Ledger → ℕ → List Refusal → List Refusal
+named L m rest = refuse NoMfn (not (mfnIn L m)) ∷ refuse Gone (isGoneItem (itemOf L m)) ∷ rest
+
+-- 13, last, for a call that is appended: end + need exceeds the MST length
+unfoldable pub overfull : Ledger → ℕ → Bool
+overfull L need = ltb (L .mstLength) (L .end + need)
+
+abbrev pub roomFor : Ledger → Bool → ℕ → List Refusal
+roomFor L appended need = refuse NoRoom (appended && overfull L need) ∷ []
+
+-- an update is appended where the record is settled, or its need exceeds the record length
+unfoldable pub appends : Marking → ℕ → Bool
+appends s need = isSettledMark s || ltb (keptLength s) need
+
+-- the field named, if there is one
+abbrev pub isNone : Option (List ℕ) → Bool
+isNone none = true
+isNone (some bytes) = false
+
+abbrev pub bytesOf : Option (List ℕ) → List ℕ
+bytesOf none = []
+bytesOf (some bytes) = bytes
+
+-- ---- the table
+
+unfoldable pub refusalsL : Ledger → Call → List Refusal
+refusalsL L format = measured L []
+refusalsL L (view m tag occ) =
+    measured L
+    (named L m
+    (refuse Deleted (keptDeleted (itemOf L m))
+    ∷ refuse NoField (isNone (fieldNamed (keptFields (itemOf L m)) tag occ))
+    ∷ []))
+refusalsL L (viewSettled m tag occ) =
+    measured L
+    (named L m
+    (refuse Deleted (keptDeleted (itemOf L m) && isSettledMark (keptMark (itemOf L m)))
+    ∷ refuse NeverSettled (isNewMark (keptMark (itemOf L m)))
+    ∷ refuse NoField (isNone (fieldNamed (settledFields (itemOf L m)) tag occ))
+    ∷ []))
+refusalsL L (create d) =
+    measured L
+    (refuse BadDraft (not (isRight d))
+    ∷ refuse NoSlot (eqb (nextMfn L) (capacityOf (L .xrfLength) + 1))
+    ∷ roomFor L true (needFor (fieldsIn d)))
+refusalsL L (update m d) =
+    measured L
+    (refuse BadDraft (not (isRight d))
+    ∷ named L m
+    (refuse Deleted (keptDeleted (itemOf L m))
+    ∷ roomFor L (appends (keptMark (itemOf L m)) (needFor (fieldsIn d))) (needFor (fieldsIn d))))
+refusalsL L (delete m) =
+    measured L
+    (named L m
+    (refuse Deleted (keptDeleted (itemOf L m))
+    ∷ roomFor L (isSettledMark (keptMark (itemOf L m))) (needFor (keptFields (itemOf L m)))))
+refusalsL L (settle m) = measured L (named L m (refuse NotPending (isSettledMark (keptMark (itemOf L m))) ∷ []))
+refusalsL L (revert m) =
+    measured L
+    (named L m
+    (refuse NotPending (isSettledMark (keptMark (itemOf L m)))
+    ∷ refuse NeverSettled (isNewMark (keptMark (itemOf L m)))
+    ∷ []))
+refusalsL L check = measured L []
+
+-- the answer
+unfoldable pub numberL : Ledger → Call → Answer
+numberL L c = lowest (refusalsL L c)
+
+-- ---- what a call that is done gives: an MFN, a field, or nothing but its answer
+
+pub data Given : Type 0 where
+  nothing : Given
+  theMfn : ℕ → Given
+  theField : List ℕ → Given
+
+-- create returns the next MFN; a view shows the field asked for
+unfoldable pub givesL : Ledger → Call → Given
+givesL L format = nothing
+givesL L (view m tag occ) = theField (bytesOf (fieldNamed (keptFields (itemOf L m)) tag occ))
+givesL L (viewSettled m tag occ) = theField (bytesOf (fieldNamed (settledFields (itemOf L m)) tag occ))
+givesL L (create d) = theMfn (nextMfn L)
+givesL L (update m d) = nothing
+givesL L (delete m) = nothing
+givesL L (settle m) = nothing
+givesL L (revert m) = nothing
+givesL L check = nothing
+
+-- refused: MFN 0 and an empty field
+abbrev pub outcomeOf : Answer → Given → Outcome
+outcomeOf a nothing = plain a
+outcomeOf a (theMfn m) = outcome a (after a m 0) []
+outcomeOf a (theField bytes) = outcome a 0 (after a bytes [])
+
+unfoldable pub answerL : Ledger → Call → Outcome
+answerL L c = outcomeOf (numberL L c) (givesL L c)

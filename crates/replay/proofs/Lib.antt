@@ -1,0 +1,4 @@
+pub mod Decoding
+pub mod Turning
+pub mod Running
+pub mod Telling

@@ -1,0 +1,283 @@
+-- What the functions of one turn promise, one law for each way that they return: its premises are what is known there, the callees' promises and
+-- the tests on the way. In the order of the code, from the inside: what a call answers and leaves (`Wrote`), that it is reported where there is
+-- room (`Ran`), and that it is the first call of what is left (`Turned`).
+use Prim.Native.Nat.{ℕ, _+_, _*_, _-_, _≤_, _<_}
+use native.Mathlib.Nat.{add-sub-cancel-left}
+use native.Mathlib.Omega.{arith}
+use native.Mathlib.Numerals.{add-one, add-two}
+use mathlib.Core.Logic.{⊎-elim}
+use mathlib.Core.Path.{_≡_, refl, sym, ap, _∙_}
+use mathlib.Core.Bool.{Bool, true, false}
+use mathlib.Core.Option.{none, some}
+use mathlib.Core.List.{List, [], _∷_}
+use lib.ListN.{length, drop, set, length-drop}
+use borrow.Author.Tests.{le-leb, lt-leb, eq-eqb, ne-eqb}
+use Rattle.word.specs.Overwrite.{overwrite, part}
+use Rattle.word.proofs.Overwrite.{part-length, overwrite-none, overwrite-stores}
+use Rattle.store.specs.Answer.{numberOf, after}
+use Rattle.store.specs.Reading.{lengthsPermitted}
+use Rattle.writing.specs.Refusals.{formatAnswer, updateAnswer, deleteAnswer, settleAnswer, revertAnswer}
+use Rattle.views.specs.Views.{viewAnswer, settledViewAnswer, foundLength, shownAt, viewOf, settledViewOf}
+use Rattle.writing.specs.Calls.{formatLeaves, createOf, createLeaves, updateLeaves, deleteLeaves, settleLeaves, revertLeaves}
+use Rattle.store.specs.declared.answer.Answer.{Answer}
+use Rattle.store.specs.declared.answer.Answer.the-variants.{Done, BadLength}
+use Rattle.writing.specs.declared.create.Created.{Created}
+use Rattle.views.specs.declared.views.Shown.{Shown}
+use Rattle.store.proofs.Gates.{Refusing, after-cases, holds, lengths-facts}
+use Rattle.layout.specs.declared.sizes.Mfn.{Mfn}
+use Rattle.layout.specs.declared.sizes.Tag.{Tag}
+use Rattle.record.specs.declared.fields.Found.{Found}
+use Rattle.soundness.specs.Sound.{checkAnswer}
+use Rattle.store.specs.Store.{Store, store, Draft}
+use Rattle.ledger.specs.Call.{Call, create, update, Outcome}
+use Rattle.ledger.specs.StoreRun.{shownOutcome, answerS, nextS}
+use Rattle.replay.specs.Calls.{callSize, Script, noDraft, opIn, readingCall, writingCall, draftOf, takenBy, callOf, leftOf, firstOp, firstCall}
+use Rattle.replay.specs.Replay.{outcomeSize, stopAt}
+use Rattle.replay.specs.Turns.{writingAt, scriptAt, leftAt, moved, DraftWithin, Within, withoutMfn, Wrote, roomAt, Ran, Turned}
+use Rattle.replay.specs.declared.calls.Counts.{Counts}
+use Rattle.replay.specs.declared.calls.Reading.{Reading}
+use Rattle.replay.specs.declared.calls.Reading.the-variants.{View, Settled, Check}
+use Rattle.replay.specs.declared.calls.Writing.{Writing}
+use Rattle.replay.specs.declared.calls.Writing.the-variants.{Format, Create, Update, Delete, Settle, Revert}
+use Rattle.replay.specs.declared.calls.Op.{Op}
+use Rattle.replay.specs.declared.calls.Op.the-variants.{Asks, Writes}
+use Rattle.replay.specs.declared.calls.Op.the-variants as op
+use Rattle.replay.specs.declared.turns.Stop.{Stop}
+use Rattle.replay.specs.declared.turns.Stop.the-variants.{Ended, NoRoom}
+use Rattle.replay.specs.declared.turns.Stop.the-variants as stop
+use Rattle.replay.specs.declared.turns.Cursor.{Cursor}
+use Rattle.replay.specs.declared.turns.Turn.{Turn}
+use Rattle.replay.specs.declared.turns.Turn.the-variants.{Next, Stopped}
+use Rattle.replay.proofs.Decoding.{first-fits, too-short, long-enough}
+
+-- ---- calls that read
+
+module _ (mst xrf : List ℕ) (r : Reading) (sh : Shown) where
+  pub view-asked : (m : Mfn) (tag : Tag) (occ : ℕ) → r ≡ View m tag occ → sh ≡ viewOf (store mst xrf) (m .0) (tag .0) occ
+      → shownOutcome mst sh ≡ answerS (store mst xrf) (readingCall r)
+  unfolding answerS
+  view-asked m tag occ e f = rw (e, f)
+
+  pub settled-asked : (m : Mfn) (tag : Tag) (occ : ℕ) → r ≡ Settled m tag occ → sh ≡ settledViewOf (store mst xrf) (m .0) (tag .0) occ
+      → shownOutcome mst sh ≡ answerS (store mst xrf) (readingCall r)
+  unfolding answerS
+  settled-asked m tag occ e f = rw (e, f)
+
+pub check-asked : (mst xrf : List ℕ) (r : Reading) (a : Answer) → r ≡ Check → a ≡ checkAnswer (store mst xrf)
+    → shownOutcome mst (record { answer = a; start = 0; len = 0 }) ≡ answerS (store mst xrf) (readingCall r)
+unfolding answerS
+check-asked mst xrf r a e f = rw (e, f)
+
+pub ruleset asked-answers = (view-asked, settled-asked, check-asked)
+
+-- a view that is done read a MST of permitted length; one that is refused shows nothing: either way what is shown has a length of 32 bits
+no-length : Refusing BadLength
+unfolding numberOf
+no-length z = omega arith
+
+module _ (mst xrf : List ℕ) (sh : Shown) where
+  short : (a : Answer) (at : ℕ) (f : Found) → sh ≡ shownAt a at f → (a ≡ Done → lengthsPermitted (store mst xrf) ≡ true) → sh .start + sh .len ≤ length mst
+      → sh .len ≤ 536870400
+  unfolding shownAt
+  short a at f e permitted within =
+      ⊎-elim
+      (λ d. let l = lengths-facts mst xrf (permitted (d .0)) .mst-high in omega arith)
+      (λ n. let z : sh .len ≡ 0 = rw e (n .1) in omega arith)
+      (after-cases a (foundLength f) 0)
+
+  pub view-short : (m tag occ : ℕ) → sh ≡ viewOf (store mst xrf) m tag occ → sh .start + sh .len ≤ length mst → sh .len ≤ 536870400
+  unfolding viewOf viewAnswer
+  view-short m tag occ e w = short (viewAnswer (store mst xrf) m tag occ) _ _ e (λ d. holds (lengthsPermitted (store mst xrf)) BadLength _ no-length d .0) w
+
+  pub settled-short : (m tag occ : ℕ) → sh ≡ settledViewOf (store mst xrf) m tag occ → sh .start + sh .len ≤ length mst → sh .len ≤ 536870400
+  unfolding settledViewOf settledViewAnswer
+  settled-short m tag occ e w = short (settledViewAnswer (store mst xrf) m tag occ) _ _ e (λ d. holds (lengthsPermitted (store mst xrf)) BadLength _ no-length d .0) w
+
+pub ruleset short-answers = (view-short, settled-short)
+
+-- ---- calls that may write
+
+-- by the callee that creates or updates, from the draft that it is lent
+module _ (s s′ : Store) (d : Draft) (c : Call) where
+  pub create-wrote : (r : Created) → r ≡ createOf s d → s′ ≡ createLeaves s d → c ≡ create d → Wrote s c r s′
+  unfolding answerS nextS
+  create-wrote r e f h = record { outcome = rw (h, e); left = rw (h, f) }
+
+  pub update-wrote : (m : ℕ) (a : Answer) → a ≡ updateAnswer s m d → s′ ≡ updateLeaves s m d → c ≡ update m d → Wrote s c (withoutMfn a) s′
+  unfolding answerS nextS
+  update-wrote m a e f h = record { outcome = rw (h, e); left = rw (h, f) }
+
+-- by the call, from all drafts and the cursor
+module _ (s s′ : Store) (tags lens bytes : List ℕ) (at : Cursor) (w : Writing) (r : Created) where
+  pub create-writes : (n : Counts) → w ≡ Create n → Wrote s (writingAt tags lens bytes at (Create n)) r s′ → Wrote s (writingAt tags lens bytes at w) r s′
+  create-writes n k h = rw k h
+
+  module _ (a : Answer) (i : r ≡ withoutMfn a) where
+    pub format-writes : w ≡ Format → a ≡ formatAnswer s → s′ ≡ formatLeaves s → Wrote s (writingAt tags lens bytes at w) r s′
+    unfolding answerS nextS
+    format-writes k e f = record { outcome = rw (k, i, e); left = rw (k, f) }
+
+    pub update-writes : (m : Mfn) (n : Counts) → w ≡ Update m n → Wrote s (writingAt tags lens bytes at (Update m n)) (withoutMfn a) s′
+        → Wrote s (writingAt tags lens bytes at w) r s′
+    update-writes m n k h = rw (k, i) h
+
+    pub delete-writes : (m : Mfn) → w ≡ Delete m → a ≡ deleteAnswer s (m .0) → s′ ≡ deleteLeaves s (m .0) → Wrote s (writingAt tags lens bytes at w) r s′
+    unfolding answerS nextS
+    delete-writes m k e f = record { outcome = rw (k, i, e); left = rw (k, f) }
+
+    pub settle-writes : (m : Mfn) → w ≡ Settle m → a ≡ settleAnswer s (m .0) → s′ ≡ settleLeaves s (m .0) → Wrote s (writingAt tags lens bytes at w) r s′
+    unfolding answerS nextS
+    settle-writes m k e f = record { outcome = rw (k, i, e); left = rw (k, f) }
+
+    pub revert-writes : (m : Mfn) → w ≡ Revert m → a ≡ revertAnswer s (m .0) → s′ ≡ revertLeaves s (m .0) → Wrote s (writingAt tags lens bytes at w) r s′
+    unfolding answerS nextS
+    revert-writes m k e f = record { outcome = rw (k, i, e); left = rw (k, f) }
+
+-- the draft of a create, and of an update, lies where the call's does
+pub create-draft : (tags lens bytes : List ℕ) (at : Cursor) (w : Writing) (n : Counts) → w ≡ Create n → DraftWithin tags lens bytes at (draftOf w)
+    → DraftWithin tags lens bytes at n
+create-draft tags lens bytes at w n e h = rw e at h
+
+pub update-draft : (tags lens bytes : List ℕ) (at : Cursor) (w : Writing) (m : Mfn) (n : Counts) → w ≡ Update m n → DraftWithin tags lens bytes at (draftOf w)
+    → DraftWithin tags lens bytes at n
+update-draft tags lens bytes at w m n e h = rw e at h
+
+pub ruleset written-answers = (format-writes, create-writes, update-writes, delete-writes, settle-writes, revert-writes, create-draft, update-draft)
+
+-- ---- a call is run and reported
+
+-- its three numbers are stored one by one
+pub place-three : (d : List ℕ) (i x y z : ℕ) → i + 3 ≤ length d → set (set (set d i x) (i + 1) y) (i + 2) z ≡ overwrite d i (x ∷ y ∷ z ∷ [])
+place-three d i x y z h = rw (add-one i, add-two i) (overwrite-stores d i (x ∷ y ∷ z ∷ []) h)
+
+-- a call that reads leaves the store as it was
+reading-keeps : (s : Store) (r : Reading) → nextS s (readingCall r) ≡ s
+unfolding nextS
+reading-keeps s (View m tag occ) = refl
+reading-keeps s (Settled m tag occ) = refl
+reading-keeps s Check = refl
+
+-- there is no room for a call, whichever it is
+module _ (s : Store) (c : Call) (n : Counts) (answers shown : List ℕ) (at : Cursor) where
+  full : roomAt answers shown at (answerS s c) ≡ false → Ran s c n answers shown at (Stopped NoRoom) s answers shown
+  full b = record { turn = rw b; left = rw b; numbers = rw b; fields = rw b }
+
+  pub no-numbers : length answers - outcomeSize * at .calls < outcomeSize → Ran s c n answers shown at (Stopped NoRoom) s answers shown
+  no-numbers h = full (rw (lt-leb outcomeSize (length answers - outcomeSize * at .calls) h))
+
+-- a call that reads shows sh, and there is room for the three numbers
+module _ (mst xrf answers shown : List ℕ) (at : Cursor) (r : Reading) (sh : Shown)
+    (e : shownOutcome mst sh ≡ answerS (store mst xrf) (readingCall r)) (w : sh .start + sh .len ≤ length mst) (h : outcomeSize ≤ length answers - outcomeSize * at .calls) where
+  abbrev s : Store
+  s = store mst xrf
+
+  abbrev o : Outcome
+  o = answerS s (readingCall r)
+
+  shown-length : length (o .shown) ≡ sh .len
+  shown-length = rw (← e) (part-length mst (sh .start) (sh .len) w)
+
+  pub no-bytes : length shown - at .shown < sh .len → Ran s (readingCall r) noDraft answers shown at (Stopped NoRoom) s answers shown
+  no-bytes k = full s (readingCall r) noDraft answers shown at (rw (le-leb outcomeSize (length answers - outcomeSize * at .calls) h, shown-length, lt-leb (sh .len) (length shown - at .shown) k))
+
+  pub asked-next : (answers′ shown′ : List ℕ) (n : Counts) (at′ : Cursor) → sh .len ≤ length shown - at .shown
+      → answers′ ≡ overwrite answers (outcomeSize * at .calls) (numberOf (sh .answer) ∷ 0 ∷ sh .len ∷ [])
+      → shown′ ≡ overwrite shown (at .shown) (part mst (sh .start) (sh .start + sh .len - sh .start))
+      → n ≡ noDraft → at′ ≡ moved at n (sh .len)
+      → Ran s (readingCall r) noDraft answers shown at (Next at′) s answers′ shown′
+  asked-next answers′ shown′ n at′ k en ef z m =
+      let b : roomAt answers shown at o ≡ true = rw (le-leb outcomeSize (length answers - outcomeSize * at .calls) h, shown-length, le-leb (sh .len) (length shown - at .shown) k) in
+      record {
+        turn = rw (b, shown-length, m, z);
+        left = rw (b, reading-keeps s r);
+        numbers = rw (b, shown-length, ← e) en;
+        fields = rw (b, ← e) (rw (add-sub-cancel-left (sh .start) (sh .len)) at ef);
+      }
+
+-- a call that may write is run where there is room for the three numbers: it shows nothing
+pub wrote-next : (s s′ : Store) (c : Call) (r : Created) (answers answers′ : List ℕ) (at at′ : Cursor) (k : Writing) (n : Counts)
+    → Wrote s c r s′ → outcomeSize ≤ length answers - outcomeSize * at .calls
+    → answers′ ≡ overwrite answers (outcomeSize * at .calls) (numberOf (r .answer) ∷ r .mfn .0 ∷ 0 ∷ [])
+    → n ≡ draftOf k → at′ ≡ moved at n 0
+    → (shown : List ℕ) → Ran s c (draftOf k) answers shown at (Next at′) s′ answers′ shown
+wrote-next s s′ c r answers answers′ at at′ k n w h en z m shown =
+    let b : roomAt answers shown at (answerS s c) ≡ true = rw (le-leb outcomeSize (length answers - outcomeSize * at .calls) h, ← w .outcome, le-leb 0 (length shown - at .shown) (omega arith)) in
+    record {
+      turn = rw (b, ← w .outcome, m, z);
+      left = rw (b, w .left);
+      numbers = rw (b, ← w .outcome) en;
+      fields = rw (b, ← w .outcome) (sym (overwrite-none shown (at .shown)));
+    }
+
+pub ruleset asked-turns = (no-numbers, no-bytes, asked-next)
+
+pub ruleset written-turns = (no-numbers, wrote-next)
+
+-- ---- a turn
+
+module _ (ops tags lens bytes : List ℕ) (at : Cursor) where
+  abbrev rest : Script
+  rest = scriptAt ops tags lens bytes at
+
+  rest-length : length (rest .ops) ≡ length ops - callSize * at .calls
+  rest-length = length-drop (callSize * at .calls) ops
+
+  -- what is left is no call, though something is left
+  stop-malformed : (length ops ≡ callSize * at .calls → ⊥) → callSize * at .calls ≤ length ops → stop.Malformed ≡ stopAt rest
+  stop-malformed k h = rw (rest-length, ne-eqb (length ops - callSize * at .calls) 0 (λ e. k (omega arith)))
+
+  -- the op that the code reads at the cursor is the first of what is left
+  was-read : (left : Counts) (o : Op) → left ≡ leftAt (length tags) (length lens) (length bytes) at → o ≡ opIn (drop (callSize * at .calls) ops) left
+      → firstOp rest ≡ o
+  unfolding firstOp
+  was-read left o el eo =
+      let l : left ≡ leftOf rest = el ∙ rw (length-drop (at .tags) tags, length-drop (at .lens) lens, length-drop (at .bytes) bytes) in
+      sym (eo ∙ ap (opIn (drop (callSize * at .calls) ops)) l)
+
+  -- so the draft of a call that may write lies within the lists
+  pub draft-within : (left : Counts) (o : Op) (w : Writing) (answers shown : List ℕ)
+      → left ≡ leftAt (length tags) (length lens) (length bytes) at → o ≡ opIn (drop (callSize * at .calls) ops) left → o ≡ Writes w
+      → Within ops tags lens bytes answers shown at → DraftWithin tags lens bytes at (draftOf w)
+  draft-within left o w answers shown el eo e i =
+      let f = rw (was-read left o el eo ∙ e) at (first-fits rest) in
+      let d = i .drafts-in in
+      let x = length-drop (at .tags) tags in
+      let y = length-drop (at .lens) lens in
+      let z = length-drop (at .bytes) bytes in
+      record { tags-in = omega arith; lens-in = omega arith; bytes-in = omega arith }
+
+  module _ (answers shown : List ℕ) (s : Store) where
+    -- there is no call
+    halted : (x : Stop) → firstCall rest ≡ none → x ≡ stopAt rest → Turned rest s answers shown at (Stopped x) s answers shown
+    unfolding Turned
+    halted x e f = rw e (record { turn = ap Stopped f; left = refl; numbers = refl; fields = refl })
+
+    pub turned-ended : length ops ≡ callSize * at .calls → Turned rest s answers shown at (Stopped Ended) s answers shown
+    turned-ended h =
+        halted Ended (too-short rest (let k = rest-length in omega arith))
+        (rw (rest-length, eq-eqb (length ops - callSize * at .calls) 0 (omega arith)))
+
+    pub turned-short : (length ops ≡ callSize * at .calls → ⊥) → Within ops tags lens bytes answers shown at → length ops - callSize * at .calls < callSize
+        → Turned rest s answers shown at (Stopped stop.Malformed) s answers shown
+    turned-short k w h = halted stop.Malformed (too-short rest (let l = rest-length in omega arith)) (stop-malformed k (w .ops-in))
+
+    module _ (left : Counts) (o : Op) (h : callSize ≤ length ops - callSize * at .calls) (el : left ≡ leftAt (length tags) (length lens) (length bytes) at)
+        (eo : o ≡ opIn (drop (callSize * at .calls) ops) left) where
+      called : (q : Op) → o ≡ q → firstCall rest ≡ callOf rest q
+      called q e = long-enough rest (let k = rest-length in omega arith) ∙ ap (callOf rest) (was-read left o el eo ∙ e)
+
+      pub turned-malformed : o ≡ op.Malformed → Turned rest s answers shown at (Stopped stop.Malformed) s answers shown
+      turned-malformed e = halted stop.Malformed (called op.Malformed e) (stop-malformed (λ z. omega arith) (omega arith))
+
+      pub turned-asks : (r : Reading) (t : Turn) (answers′ shown′ : List ℕ) → o ≡ Asks r → Ran s (readingCall r) noDraft answers shown at t s answers′ shown′
+          → Turned rest s answers shown at t s answers′ shown′
+      unfolding Turned
+      turned-asks r t answers′ shown′ e k = rw (called (Asks r) e, was-read left o el eo ∙ e) k
+
+      pub turned-writes : (w : Writing) (t : Turn) (s′ : Store) (answers′ : List ℕ) → o ≡ Writes w
+          → ((z : List ℕ) → Ran s (writingAt tags lens bytes at w) (draftOf w) answers z at t s′ answers′ z)
+          → Turned rest s answers shown at t s′ answers′ shown
+      unfolding Turned
+      turned-writes w t s′ answers′ e k = rw (called (Writes w) e, was-read left o el eo ∙ e) (k shown)
+
+pub ruleset turns = (turned-ended, turned-short, turned-malformed, turned-asks, turned-writes)

@@ -1,0 +1,61 @@
+use Rattle.replay.proofs.Turning.{written-turns}
+use borrow.Author.Needs.{needs}
+use Rattle.replay.proofs.turns.write_turn.Statement.{statement}
+use Rattle.replay.proofs.turns.write_turn.Tie as tie
+
+mul-i : tie.Need-mul-i
+mul-i c = search needs
+
+sub-if1 : tie.Need-sub-if1
+sub-if1 c = search needs
+
+returns : tie.Need-returns
+returns c = λ shown. search written-turns
+
+draft-of-requires : tie.Need-draft-of-requires
+draft-of-requires c κs = search needs
+
+move-cursor-requires : tie.Need-move-cursor-requires
+move-cursor-requires c κs =
+    let draft = c .draft-of .ensures in
+    record {
+      calls-fit = search needs;
+      tags-fit = rw draft (search needs);
+      lens-fit = rw draft (search needs);
+      bytes-fit = rw draft (search needs);
+      shown-fit = search needs;
+    }
+
+write-requires : tie.Need-write-requires
+write-requires c κs = search needs
+
+put-numbers-requires : tie.Need-put-numbers-requires
+put-numbers-requires c κs = search needs
+
+same-length : tie.Need-same-length
+same-length c = search needs
+
+same-length-2 : tie.Need-same-length-2
+same-length-2 c = search needs
+
+same-length-3 : tie.Need-same-length-3
+same-length-3 c = search needs
+
+returns-2 : tie.Need-returns-2
+returns-2 c = search written-turns
+
+pub write-turn-spec : {M : Type 1} → statement M
+write-turn-spec =
+    tie.close
+    (tie.spec
+    mul-i
+    sub-if1
+    returns
+    draft-of-requires
+    move-cursor-requires
+    write-requires
+    put-numbers-requires
+    same-length
+    same-length-2
+    same-length-3
+    returns-2)

@@ -1,0 +1,33 @@
+use borrow.Author.Needs.{needs}
+use Rattle.views.proofs.ListAnswers.{list-answers}
+use Rattle.views.proofs.listing.fields.Statement.{statement}
+use Rattle.views.proofs.listing.fields.Tie as tie
+
+current-version-requires : tie.Need-current-version-requires
+current-version-requires c κs = search needs
+
+list-out-requires : tie.Need-list-out-requires
+list-out-requires c κs = search list-answers
+
+same-length : tie.Need-same-length
+same-length c = search needs
+
+same-length-2 : tie.Need-same-length-2
+same-length-2 c = search needs
+
+same-length-3 : tie.Need-same-length-3
+same-length-3 c = search needs
+
+returns : tie.Need-returns
+returns c = search list-answers
+
+pub fields-spec : {M : Type 1} → statement M
+fields-spec =
+    tie.close
+    (tie.spec
+    current-version-requires
+    list-out-requires
+    same-length
+    same-length-2
+    same-length-3
+    returns)
