@@ -86,30 +86,13 @@ impl Subject for Archive {
                 Call::Field { .. } | Call::FieldSettled { .. } => self.field(b, call, side),
                 Call::Next => self.next(b, side),
                 Call::State(mfn) => self.state(b, *mfn, side),
-                Call::Fields { mfn, room } => self.fields(b, raw::isis_fields, *mfn, *room, side),
-                Call::FieldsSettled { mfn, room } => {
-                    self.fields(b, raw::isis_fields_settled, *mfn, *room, side)
+                Call::Fields { room, .. } | Call::FieldsSettled { room, .. } => {
+                    self.fields(b, call, *room, side)
                 }
             }
         }
     }
 }
-
-/// A function that hands out all fields.
-type FieldsCall = unsafe extern "C" fn(
-    *const u8,
-    usize,
-    *const u8,
-    usize,
-    u32,
-    *mut u16,
-    usize,
-    *mut usize,
-    usize,
-    *mut usize,
-    usize,
-    *mut usize,
-) -> u32;
 
 impl Archive {
     /// The archive.
@@ -231,30 +214,29 @@ impl Archive {
         }
     }
 
-    unsafe fn fields(
-        &mut self,
-        b: Buffers,
-        call: FieldsCall,
-        mfn: u32,
-        room: Room,
-        side: Side,
-    ) -> Given {
+    unsafe fn fields(&mut self, b: Buffers, call: &Call, room: Room, side: Side) -> Given {
         let (tags, [starts, lens, count]) = (&mut self.tags, &mut self.sizes);
-        let lent = (tags.lend(room[0], side), starts.lend(room[1], side));
-        let (lent_lens, lent_count) = (lens.lend(room[2], side), count.lend(1, side));
+        let (t, s) = (tags.lend(room[0], side), starts.lend(room[1], side));
+        let (l, c) = (lens.lend(room[2], side), count.lend(1, side));
+        let [tl, sl, ll] = room;
         // SAFETY: as in `run`.
         let number = unsafe {
-            call(
-                b.0, b.1, b.2, b.3, mfn, lent.0, room[0], lent.1, room[1], lent_lens, room[2],
-                lent_count,
-            )
+            match *call {
+                Call::Fields { mfn, .. } => {
+                    raw::isis_fields(b.0, b.1, b.2, b.3, mfn, t, tl, s, sl, l, ll, c)
+                }
+                Call::FieldsSettled { mfn, .. } => {
+                    raw::isis_fields_settled(b.0, b.1, b.2, b.3, mfn, t, tl, s, sl, l, ll, c)
+                }
+                _ => unreachable!("only calls for all fields come here"),
+            }
         };
         Given {
             count: count.one(side),
             lists: Lists {
-                tags: tags.taken(room[0], side),
-                starts: starts.taken(room[1], side),
-                lens: lens.taken(room[2], side),
+                tags: tags.taken(tl, side),
+                starts: starts.taken(sl, side),
+                lens: lens.taken(ll, side),
             },
             ..plain(number)
         }

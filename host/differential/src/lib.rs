@@ -13,7 +13,7 @@ pub mod biblio;
 pub mod damage;
 pub mod families;
 pub mod guarded;
-pub mod lent;
+mod lent;
 pub mod random_cards;
 pub mod shrink;
 pub mod tally;

@@ -3,6 +3,7 @@
 
 use crate::answer::Refusal;
 use crate::layout::Mark;
+use crate::ledger::Fields;
 use crate::record::Record;
 use crate::store::{Answer, current, find, gate, settled};
 
@@ -36,6 +37,16 @@ impl Lists {
     /// So many elements they have.
     pub fn room(&self) -> Room {
         [self.tags.len(), self.starts.len(), self.lens.len()]
+    }
+
+    /// The tag and the bytes of the first so many fields.
+    pub fn fields(&self, mst: &[u8], count: usize) -> Fields {
+        let parts = self.starts.iter().zip(&self.lens);
+        let fields = self.tags.iter().zip(parts).take(count);
+        let bytes = |start: usize, len: usize| mst[start..start + len].to_vec();
+        fields
+            .map(|(tag, (start, len))| (*tag, bytes(*start, *len)))
+            .collect()
     }
 }
 

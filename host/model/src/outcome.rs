@@ -109,11 +109,7 @@ impl Shown {
         call: impl FnOnce(&mut Lists) -> Result<usize, Refusal>,
     ) -> (Outcome, Shown) {
         let result = call(&mut lists);
-        let field = |i: usize| {
-            let part = lists.starts[i]..lists.starts[i] + lists.lens[i];
-            (lists.tags[i], mst[part].to_vec())
-        };
-        let outcome = Outcome::listed(result.map(|count| (0..count).map(field).collect()));
+        let outcome = Outcome::listed(result.map(|count| lists.fields(mst, count)));
         let part = 0..0;
         (outcome, Shown { part, lists })
     }
