@@ -4,8 +4,10 @@
 use crate::cards::{Buffers, Kind, card, draft};
 use crate::clock::{cells, fastest, head, row, time};
 use crate::rows::{ROUNDS, Row, Task, afresh, both_ways, number};
-use isis::{Card, Lists};
+use isis::{Card, raw};
 use model::OwnedDraft;
+use model::ask::Lists;
+use std::cell::RefCell;
 use std::hint::black_box;
 
 /// A row of a call that is done on every record of a card.
@@ -20,8 +22,8 @@ fn done<'a>(name: &'a str, call: &'a str, base: &'a Buffers, calls: usize) -> Ro
 }
 
 /// A draft as the library takes it.
-fn lists(draft: &OwnedDraft) -> Lists<'_> {
-    Lists {
+fn lists(draft: &OwnedDraft) -> isis::Lists<'_> {
+    isis::Lists {
         tags: &draft.tags,
         lens: &draft.lens,
         data: &draft.data,
@@ -38,6 +40,8 @@ pub fn run(task: &Task) {
     formats(task);
     views(task, records, &settled, &changed);
     fields(task, records, &settled, &changed);
+    all_fields(task, records, &settled, &changed);
+    states(task, records, &settled);
     drafts(task, records, &new, &settled, &eight);
     deletes(task, records, &new, &settled);
     settling(task, records, &new, &changed);
@@ -76,7 +80,7 @@ fn views(task: &Task, records: usize, settled: &Buffers, changed: &Buffers) {
     );
 }
 
-/// Fields by their index, and all fields of a record one after the other.
+/// Fields by their index, and all fields of a record one after the other in that way.
 fn fields(task: &Task, records: usize, settled: &Buffers, changed: &Buffers) {
     for (name, index) in [
         ("field by index, first of 8", 0),
@@ -107,11 +111,76 @@ fn fields(task: &Task, records: usize, settled: &Buffers, changed: &Buffers) {
     all.wanted = 8;
     task.measure(
         &all,
-        |card, mfn| card.fields(mfn).map_or(0, |fields| fields.count() as u32),
+        |card, mfn| {
+            let there = |index: &usize| card.field(mfn, *index).is_ok();
+            (0..).take_while(there).count() as u32
+        },
         both_ways!(|mst, xrf, mfn| {
             let there = |index: &usize| plain::field(mst, xrf, mfn, *index).0 == 0;
             (0..).take_while(there).count() as u32
         }),
+    );
+}
+
+/// All fields of a record by one function of the library; gives how many there are.
+macro_rules! listed {
+    ($function:ident, $card:expr, $mfn:expr, $lists:expr) => {{
+        let (mst, xrf, lists) = ($card.mst(), $card.xrf(), $lists);
+        let mut count = 0;
+        // SAFETY: the card and the lists are borrowed, with their own lengths.
+        unsafe {
+            raw::$function(
+                mst.as_ptr(),
+                mst.len(),
+                xrf.as_ptr(),
+                xrf.len(),
+                $mfn,
+                lists.tags.as_mut_ptr(),
+                lists.tags.len(),
+                lists.starts.as_mut_ptr(),
+                lists.starts.len(),
+                lists.lens.as_mut_ptr(),
+                lists.lens.len(),
+                &mut count,
+            );
+        }
+        count as u32
+    }};
+}
+
+/// All fields of a record in one call, in lists that all calls are lent.
+fn all_fields(task: &Task, records: usize, settled: &Buffers, changed: &Buffers) {
+    let lent = RefCell::new(Lists::lent([8; 3]));
+    let mut all = done("all 8 fields in one call", "fields", settled, records);
+    all.wanted = 8;
+    task.measure(
+        &all,
+        |card, mfn| listed!(isis_fields, card, mfn, &mut *lent.borrow_mut()),
+        both_ways!(|mst, xrf, mfn| plain::fields(mst, xrf, mfn, &mut lent.borrow_mut()).1 as u32),
+    );
+    let name = "all 8 settled fields in one call";
+    let mut all = done(name, "fields_settled", changed, records);
+    all.wanted = 8;
+    task.measure(
+        &all,
+        |card, mfn| listed!(isis_fields_settled, card, mfn, &mut *lent.borrow_mut()),
+        both_ways!(|mst, xrf, mfn| {
+            plain::fields_settled(mst, xrf, mfn, &mut lent.borrow_mut()).1 as u32
+        }),
+    );
+}
+
+/// The state of a record, and what the next create is given.
+fn states(task: &Task, records: usize, settled: &Buffers) {
+    task.measure(
+        &done("state, a record of 8 fields", "state", settled, records),
+        |card, mfn| number(card.state(mfn)),
+        both_ways!(|mst, xrf, mfn| plain::state(mst, xrf, mfn).0),
+    );
+    task.measure(
+        &done("next", "next", settled, records),
+        |card, _| number(card.next()),
+        both_ways!(|mst, xrf, _| plain::next(mst, xrf).0),
     );
 }
 

@@ -54,6 +54,7 @@ pub fn run() {
         .spawn(|| {
             reading();
             fields();
+            telling();
             drafts();
             acts();
         })
@@ -122,6 +123,53 @@ fn fields() {
                 black_box(raw::isis_field_settled(
                     a.0, a.1, a.2, a.3, 7, 39, &mut tag, &mut start, &mut len,
                 ));
+            }],
+        );
+    }
+}
+
+/// The calls that tell something of a card.
+fn telling() {
+    let a = arguments(Kind::Changed);
+    let (mut next, mut end, mut mark, mut deleted) = (0, 0, 0, 0);
+    let (mut tags, mut starts, mut lens, mut count) = ([0; 40], [0; 40], [0; 40], 0);
+    let (t, s, l) = (tags.as_mut_ptr(), starts.as_mut_ptr(), lens.as_mut_ptr());
+    // SAFETY: as in `reading`; the lists have forty elements each.
+    unsafe {
+        report(
+            "fields",
+            &mut [&mut || {
+                black_box(raw::isis_fields(
+                    a.0, a.1, a.2, a.3, 7, t, 40, s, 40, l, 40, &mut count,
+                ));
+            }],
+        );
+        report(
+            "fields settled",
+            &mut [&mut || {
+                black_box(raw::isis_fields_settled(
+                    a.0, a.1, a.2, a.3, 7, t, 40, s, 40, l, 40, &mut count,
+                ));
+            }],
+        );
+        report(
+            "state",
+            &mut [&mut || {
+                black_box(raw::isis_state(
+                    a.0,
+                    a.1,
+                    a.2,
+                    a.3,
+                    7,
+                    &mut mark,
+                    &mut deleted,
+                ));
+            }],
+        );
+        report(
+            "next",
+            &mut [&mut || {
+                black_box(raw::isis_next(a.0, a.1, a.2, a.3, &mut next, &mut end));
             }],
         );
     }

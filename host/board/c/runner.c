@@ -41,7 +41,7 @@ static uint8_t *mst, *xrf;
 static uint32_t mst_len, xrf_len;
 
 /* The call's arguments and outputs; the lists have one element more than is ever lent. */
-enum { LENT = 8 };
+enum { LENT = 9 };
 
 static struct {
     uint32_t kind, mfn, tag, occurrence, tags_len, lens_len, data_len;
@@ -197,7 +197,7 @@ static uint32_t *door;
 #define LISTS out.tags, call.tag, out.starts, call.occurrence, out.lens, call.index, &out.count
 #define DRAFT (const uint16_t *)call.tags, call.tags_len, (const uint16_t *)call.lens, call.lens_len, call.data, call.data_len
 
-/* The calls, numbered as model::Call::kind and then board::ask::Ask::kind do. */
+/* The calls, numbered as model::Call::kind does. */
 __attribute__((noinline)) static uint32_t answer(void)
 {
     door = stack_pointer();

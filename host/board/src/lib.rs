@@ -6,7 +6,6 @@
 //! (`c/runner.c`) makes the calls and compares. [`core`] knows the boards, builds
 //! programs for them and runs them. The archives are those of `./key-archive`.
 
-pub mod ask;
 pub mod core;
 pub mod list;
 pub mod lists;

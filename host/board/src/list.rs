@@ -2,10 +2,11 @@
 //! each where the card stands, its two lengths, what somebody else changed, the call,
 //! what it must give, and what it must change.
 
-use crate::ask::{Ask, LENT, Numbers, Told};
 use crate::core::LIST_ROOM;
 use differential::archive::Given;
+use model::ask::{Lists, RUBBISH};
 use model::call::{Call, OwnedDraft};
+use model::lists::Taste;
 use std::ops::Range;
 
 /// Both files of a card.
@@ -19,8 +20,8 @@ const PLACES: usize = 3;
 const LONGEST_STEP: usize = 1 << 20;
 /// Equal bytes between two changes that are written down all the same.
 const GAP: usize = 16;
-/// What the runner fills outputs with; a call that does not have an output leaves it.
-const RUBBISH: u64 = 0xEEEE_EEEE_EEEE_EEEE;
+/// The longest list that is lent for fields, as the runner has it.
+const LENT: usize = Taste::LONG.fields + 1;
 
 /// Every argument that some call takes, in the runner's order.
 #[derive(Clone, Debug, Default)]
@@ -40,10 +41,12 @@ impl Arguments {
             ..Arguments::default()
         };
         match call {
-            Call::Format | Call::Check => {}
+            Call::Format | Call::Check | Call::Next => {}
             Call::Create(draft) => of.draft = draft.clone(),
             Call::Update(mfn, draft) => (of.mfn, of.draft) = (*mfn, draft.clone()),
-            Call::Delete(mfn) | Call::Settle(mfn) | Call::Revert(mfn) => of.mfn = *mfn,
+            Call::Delete(mfn) | Call::Settle(mfn) | Call::Revert(mfn) | Call::State(mfn) => {
+                of.mfn = *mfn;
+            }
             Call::View {
                 mfn,
                 tag,
@@ -59,20 +62,8 @@ impl Arguments {
             Call::Field { mfn, index } | Call::FieldSettled { mfn, index } => {
                 (of.mfn, of.index) = (*mfn, *index);
             }
-        }
-        of
-    }
-
-    /// The lengths of the three lists stand where a call has tag, occurrence and index.
-    fn of_ask(ask: &Ask) -> Arguments {
-        let mut of = Arguments {
-            kind: ask.kind(),
-            ..Arguments::default()
-        };
-        match ask {
-            Ask::Next => {}
-            Ask::State(mfn) => of.mfn = *mfn,
-            Ask::Fields(mfn, room) | Ask::FieldsSettled(mfn, room) => {
+            // The lengths of the lists stand where other calls have tag, occurrence and index.
+            Call::Fields { mfn, room } | Call::FieldsSettled { mfn, room } => {
                 (of.mfn, of.tag) = (*mfn, room[0] as u16);
                 (of.occurrence, of.index) = (room[1] as u32, room[2]);
             }
@@ -98,54 +89,66 @@ struct Outputs {
 }
 
 impl Outputs {
-    /// An answer alone.
+    /// An answer alone: the runner fills all outputs with rubbish, and a call that does
+    /// not have an output leaves it so.
     fn none(answer: u32) -> Outputs {
+        let rubbish = u64::from_ne_bytes([RUBBISH; 8]);
+        let (word, tag) = (rubbish >> 32, rubbish >> 48);
         Outputs {
             answer,
-            mfn: RUBBISH >> 32,
-            tag: RUBBISH >> 48,
-            start: RUBBISH,
-            len: RUBBISH,
-            next: RUBBISH >> 32,
-            end: RUBBISH,
-            mark: RUBBISH >> 32,
-            deleted: RUBBISH >> 32,
-            count: RUBBISH,
-            fields: [[RUBBISH >> 48, RUBBISH, RUBBISH]; LENT + 1],
+            mfn: word,
+            tag,
+            start: rubbish,
+            len: rubbish,
+            next: word,
+            end: rubbish,
+            mark: word,
+            deleted: word,
+            count: rubbish,
+            fields: [[tag, rubbish, rubbish]; LENT + 1],
         }
-    }
-
-    fn of_told(told: &Told) -> Outputs {
-        let mut of = Outputs::none(told.number);
-        match &told.numbers {
-            Numbers::Next(next, end) => (of.next, of.end) = (*next as u64, *end as u64),
-            Numbers::State(mark, deleted) => (of.mark, of.deleted) = (*mark, *deleted),
-            Numbers::Fields(fields) => {
-                of.count = fields.len() as u64;
-                for (written, (tag, part)) in of.fields.iter_mut().zip(fields) {
-                    *written = [u64::from(*tag), part.start as u64, part.len() as u64];
-                }
-            }
-        }
-        of
     }
 
     fn of(call: &Call, given: &Given) -> Outputs {
         let mut of = Outputs::none(given.number);
-        if let Call::Create(_) = call {
-            of.mfn = u64::from(given.mfn);
-        }
-        if let Call::Field { .. } | Call::FieldSettled { .. } = call {
-            of.tag = u64::from(given.tag);
-        }
-        if let Call::View { .. }
-        | Call::ViewSettled { .. }
-        | Call::Field { .. }
-        | Call::FieldSettled { .. } = call
-        {
-            (of.start, of.len) = (given.part.start as u64, given.part.len() as u64);
+        match call {
+            Call::Create(_) => of.mfn = u64::from(given.mfn),
+            Call::View { .. } | Call::ViewSettled { .. } => of.part(given),
+            Call::Field { .. } | Call::FieldSettled { .. } => {
+                of.tag = u64::from(given.tag);
+                of.part(given);
+            }
+            Call::Next => (of.next, of.end) = (u64::from(given.mfn), given.end as u64),
+            Call::State(_) => {
+                (of.mark, of.deleted) = (u64::from(given.mark), u64::from(given.deleted));
+            }
+            Call::Fields { .. } | Call::FieldsSettled { .. } => of.lists(given),
+            _ => {}
         }
         of
+    }
+
+    fn part(&mut self, given: &Given) {
+        (self.start, self.len) = (given.part.start as u64, given.part.len() as u64);
+    }
+
+    fn lists(&mut self, given: &Given) {
+        self.count = given.count as u64;
+        let Lists { tags, starts, lens } = &given.lists;
+        let most = tags.len().max(starts.len()).max(lens.len());
+        assert!(
+            most <= LENT,
+            "a list of {most} elements is longer than the runner's"
+        );
+        for (i, tag) in tags.iter().enumerate() {
+            self.fields[i][0] = u64::from(*tag);
+        }
+        for (i, start) in starts.iter().enumerate() {
+            self.fields[i][1] = *start as u64;
+        }
+        for (i, len) in lens.iter().enumerate() {
+            self.fields[i][2] = *len as u64;
+        }
     }
 }
 
@@ -177,31 +180,12 @@ impl List {
 
     /// Adds a step: a call on a card, what it must give, and the card that it must leave.
     pub fn push(&mut self, before: &Card, call: &Call, wanted: &Given, after: &Card) {
-        self.step(
-            before,
-            &Arguments::of(call),
-            &Outputs::of(call, wanted),
-            after,
-        );
-    }
-
-    /// Adds a step: a call that asks something of a card, and what it must tell.
-    pub fn push_ask(&mut self, card: &Card, ask: &Ask, wanted: &Told) {
-        self.step(
-            card,
-            &Arguments::of_ask(ask),
-            &Outputs::of_told(wanted),
-            card,
-        );
-    }
-
-    fn step(&mut self, before: &Card, arguments: &Arguments, outputs: &Outputs, after: &Card) {
         let place = self.steps / STEPS_IN_A_PLACE % PLACES;
         self.steps += 1;
         self.put_all([place, before.0.len(), before.1.len()]);
         self.put_changes_to(before);
-        self.put_arguments(arguments);
-        self.put_outputs(outputs);
+        self.put_arguments(&Arguments::of(call));
+        self.put_outputs(&Outputs::of(call, wanted));
         self.put_changes_to(after);
     }
 

@@ -8,6 +8,7 @@ use board::list::List;
 use board::lists::ALL;
 use board::recorder::Recorder;
 use board::runner;
+use model::Call;
 use std::process::Command;
 
 fn main() {
@@ -75,7 +76,7 @@ fn stack() {
             }
         }
     }
-    for (kind, name) in runner::names().enumerate() {
+    for (kind, name) in Call::NAMES.into_iter().enumerate() {
         let numbers: Vec<String> = most.iter().map(|of| of[kind].to_string()).collect();
         line(name, &numbers);
     }

@@ -1,21 +1,12 @@
 //! Runs the model's lists on a board, and reads what the runner says.
 
-use crate::ask;
 use crate::core::Core;
 use crate::recorder::Recorder;
 use model::Call;
 use std::fs;
 
 /// How much stack each call used at most, in bytes, by the call's kind.
-pub type Stack = [usize; KINDS];
-
-/// How many calls there are.
-const KINDS: usize = Call::NAMES.len() + ask::NAMES.len();
-
-/// What the calls are called, by their kind.
-pub fn names() -> impl Iterator<Item = &'static str> {
-    Call::NAMES.into_iter().chain(ask::NAMES)
-}
+pub type Stack = [usize; Call::NAMES.len()];
 
 /// Runs all lists on a core; gives the stack used, or what the board said at the first difference.
 pub fn run(core: &Core, name: &str, recorder: &Recorder) -> Result<Stack, String> {

@@ -8,7 +8,6 @@ use board::runner;
 use differential::families::said;
 use differential::tally::{ANSWERS, Tally};
 use model::Call;
-use std::collections::BTreeSet;
 
 /// Makes a list and runs it on every core.
 fn holds(index: usize) {
@@ -51,30 +50,14 @@ fn hostile_arguments() {
     holds(4);
 }
 
-/// The answers of the calls that tell something, by their kind.
-const TOLD: [(usize, &[u32]); 4] = [
-    (11, &[0, 1, 2]),
-    (12, &[0, 1, 2, 4, 6, 7, 8]),
-    (13, &[0, 1, 2, 4, 6, 7, 8, 9, 17]),
-    (14, &[0, 1, 2, 4, 6, 7, 8, 9, 11, 17]),
-];
-
-fn numbered((kind, answers): (usize, &'static [u32])) -> impl Iterator<Item = (usize, u32)> {
-    answers.iter().map(move |&number| (kind, number))
-}
-
 /// A list that never meets an answer says nothing about it.
 #[test]
 fn the_lists_meet_every_answer_of_every_call() {
     let mut tally = Tally::default();
-    let mut told = BTreeSet::new();
     for (_, make) in ALL {
-        let recorder = make();
-        tally.join(&recorder.tally);
-        told.extend(recorder.told.into_keys());
+        tally.join(&make().tally);
     }
     println!("{tally}");
-    assert_eq!(told, TOLD.into_iter().flat_map(numbered).collect());
     for (call, answers) in ANSWERS.iter().enumerate() {
         for &number in *answers {
             let name = Call::NAMES[call];

@@ -91,7 +91,7 @@ struct Watched {
 impl Subject for Watched {
     fn run(&mut self, mst: &mut [u8], xrf: &mut [u8], call: &Call, _: Side) -> Given {
         let before = (mst.to_vec(), xrf.to_vec());
-        let (outcome, part) = on_bytes(mst, xrf, call);
+        let (outcome, shown) = on_bytes(mst, xrf, call);
         let parts = match outcome.number {
             0 => may_touch(&before.0, &before.1, call),
             _ => (Vec::new(), Vec::new()),
@@ -101,7 +101,7 @@ impl Subject for Watched {
             assert!(inside, "{call:?} touched more than {parts:?}");
             self.changed[call.kind()] += changed;
         }
-        Given::wanted(&outcome, part)
+        Given::wanted(&outcome, shown)
     }
 }
 

@@ -1,30 +1,43 @@
 //! A call through the C interface, with every area that is lent between guard pages
 //! and every output filled with rubbish before.
 
-use crate::guarded::{Area, Side};
+use crate::guarded::Side;
+use crate::lent::{Drafts, Output, pointer};
 use isis::raw;
-use model::call::{Call, Outcome, OwnedDraft};
+use model::ask::{Lists, Room};
+use model::call::{Call, Outcome, OwnedDraft, Shown};
 use std::ops::Range;
 
-/// What a call gave: its number, the MFN of a create, the tag of a field by its
-/// index, and the part that is shown.
-#[derive(Clone, Debug, PartialEq, Eq)]
+/// What a call gave: its number; the MFN of a create or of the next one, and the end; the
+/// tag of a field by its index, and the part that is shown; the mark and the deletion of a
+/// record; the number of its fields, and the lists that were lent for them, whole.
+#[derive(Clone, Debug, PartialEq, Eq, Default)]
 #[allow(missing_docs)]
 pub struct Given {
     pub number: u32,
     pub mfn: u32,
+    pub end: usize,
     pub tag: u16,
     pub part: Range<usize>,
+    pub mark: u32,
+    pub deleted: u32,
+    pub count: usize,
+    pub lists: Lists,
 }
 
 impl Given {
     /// What the model says that a call must give.
-    pub fn wanted(outcome: &Outcome, part: Range<usize>) -> Given {
+    pub fn wanted(outcome: &Outcome, shown: Shown) -> Given {
         Given {
             number: outcome.number,
             mfn: outcome.mfn,
+            end: outcome.end,
             tag: outcome.tag,
-            part,
+            part: shown.part,
+            mark: outcome.mark,
+            deleted: outcome.deleted,
+            count: outcome.fields.len(),
+            lists: shown.lists,
         }
     }
 }
@@ -35,68 +48,13 @@ pub trait Subject {
     fn run(&mut self, mst: &mut [u8], xrf: &mut [u8], call: &Call, side: Side) -> Given;
 }
 
-/// The archive of the proved library.
+/// The archive of the proved library, with areas for drafts and outputs.
 #[derive(Debug)]
 pub struct Archive {
-    tags: Area,
-    lens: Area,
-    data: Area,
-    outputs: Area,
-    tag: Area,
-}
-
-/// The longest list of a draft that fits into its area.
-const LONGEST_LIST: usize = 70_000;
-
-impl Archive {
-    /// The archive, with areas for drafts and outputs.
-    #[allow(clippy::new_without_default)]
-    pub fn new() -> Archive {
-        Archive {
-            tags: Area::new(2 * LONGEST_LIST),
-            lens: Area::new(2 * LONGEST_LIST),
-            data: Area::new(2 * LONGEST_LIST),
-            outputs: Area::new(16),
-            tag: Area::new(2),
-        }
-    }
-
-    /// Copies a draft to the guard pages; gives the six arguments.
-    fn lend(&mut self, draft: &OwnedDraft, side: Side) -> Lent {
-        Lent {
-            tags: self.tags.numbers(&draft.tags, side),
-            tags_len: draft.tags.len(),
-            lens: self.lens.numbers(&draft.lens, side),
-            lens_len: draft.lens.len(),
-            data: self.data.bytes(&draft.data, side),
-            data_len: draft.data.len(),
-        }
-    }
-
-    /// Holds that a lent draft was only read.
-    fn only_read(&mut self, draft: &OwnedDraft, side: Side) {
-        let same = |numbers: &[u16], area: &mut Area| {
-            let bytes = area.buffer(2 * numbers.len(), side);
-            let stands = bytes
-                .chunks_exact(2)
-                .map(|b| u16::from_ne_bytes([b[0], b[1]]));
-            stands.eq(numbers.iter().copied())
-        };
-        let kept = same(&draft.tags, &mut self.tags)
-            && same(&draft.lens, &mut self.lens)
-            && *self.data.buffer(draft.data.len(), side) == draft.data[..];
-        assert!(kept, "a lent draft was written to");
-    }
-}
-
-/// A draft's arguments.
-struct Lent {
-    tags: *const u16,
-    tags_len: usize,
-    lens: *const u16,
-    lens_len: usize,
-    data: *const u8,
-    data_len: usize,
+    drafts: Drafts,
+    tags: Output<u16>,
+    words: [Output<u32>; 2],
+    sizes: [Output<usize>; 3],
 }
 
 /// The four arguments that every function begins with.
@@ -105,15 +63,14 @@ type Buffers = (*mut u8, usize, *mut u8, usize);
 fn plain(number: u32) -> Given {
     Given {
         number,
-        mfn: 0,
-        tag: 0,
-        part: 0..0,
+        ..Given::default()
     }
 }
 
 impl Subject for Archive {
     fn run(&mut self, mst: &mut [u8], xrf: &mut [u8], call: &Call, side: Side) -> Given {
-        let b: Buffers = (mst.as_mut_ptr(), mst.len(), xrf.as_mut_ptr(), xrf.len());
+        let (mst_len, xrf_len) = (mst.len(), xrf.len());
+        let b: Buffers = (pointer(mst, side), mst_len, pointer(xrf, side), xrf_len);
         // SAFETY: the buffers are exclusive borrows of these lengths; what else is lent
         // stands in areas of its own.
         unsafe {
@@ -127,51 +84,73 @@ impl Subject for Archive {
                 Call::Update(mfn, draft) => self.update(b, *mfn, draft, side),
                 Call::View { .. } | Call::ViewSettled { .. } => self.view(b, call, side),
                 Call::Field { .. } | Call::FieldSettled { .. } => self.field(b, call, side),
+                Call::Next => self.next(b, side),
+                Call::State(mfn) => self.state(b, *mfn, side),
+                Call::Fields { room, .. } | Call::FieldsSettled { room, .. } => {
+                    self.fields(b, call, *room, side)
+                }
             }
         }
     }
 }
 
 impl Archive {
+    /// The archive.
+    #[allow(clippy::new_without_default)]
+    pub fn new() -> Archive {
+        Archive {
+            drafts: Drafts::new(),
+            tags: Output::new(),
+            words: [(); 2].map(|()| Output::new()),
+            sizes: [(); 3].map(|()| Output::new()),
+        }
+    }
+
     unsafe fn create(&mut self, b: Buffers, draft: &OwnedDraft, side: Side) -> Given {
-        let d = self.lend(draft, side);
-        let output = self.outputs.buffer(4, side);
-        output.fill(0xEE);
-        let mfn: *mut u32 = output.as_mut_ptr().cast();
+        let (d, mfn) = (self.drafts.lend(draft, side), self.words[0].lend(1, side));
         // SAFETY: as in `run`.
-        let given = unsafe {
-            let number = raw::isis_create(
+        let number = unsafe {
+            raw::isis_create(
                 b.0, b.1, b.2, b.3, d.tags, d.tags_len, d.lens, d.lens_len, d.data, d.data_len, mfn,
-            );
-            Given {
-                mfn: *mfn,
-                ..plain(number)
-            }
+            )
         };
-        self.only_read(draft, side);
-        given
+        self.drafts.only_read(draft, side);
+        Given {
+            mfn: self.words[0].one(side),
+            ..plain(number)
+        }
     }
 
     unsafe fn update(&mut self, b: Buffers, mfn: u32, draft: &OwnedDraft, side: Side) -> Given {
-        let d = self.lend(draft, side);
+        let d = self.drafts.lend(draft, side);
         // SAFETY: as in `run`.
         let number = unsafe {
             raw::isis_update(
                 b.0, b.1, b.2, b.3, mfn, d.tags, d.tags_len, d.lens, d.lens_len, d.data, d.data_len,
             )
         };
-        self.only_read(draft, side);
+        self.drafts.only_read(draft, side);
         plain(number)
     }
 
+    /// Lends the two outputs of a part.
+    fn lend_part(&mut self, side: Side) -> (*mut usize, *mut usize) {
+        let [start, len, _] = &mut self.sizes;
+        (start.lend(1, side), len.lend(1, side))
+    }
+
+    /// The part, taken back.
+    fn part(&mut self, side: Side) -> Range<usize> {
+        let [start, len, _] = &mut self.sizes;
+        let start = start.one(side);
+        start..start.wrapping_add(len.one(side))
+    }
+
     unsafe fn view(&mut self, b: Buffers, call: &Call, side: Side) -> Given {
-        let output = self.outputs.buffer(16, side);
-        output.fill(0xEE);
-        let start: *mut usize = output.as_mut_ptr().cast();
-        // SAFETY: as in `run`; the two outputs are the two halves of 16 bytes.
-        unsafe {
-            let len = start.add(1);
-            let number = match *call {
+        let (start, len) = self.lend_part(side);
+        // SAFETY: as in `run`.
+        let number = unsafe {
+            match *call {
                 Call::View {
                     mfn,
                     tag,
@@ -183,25 +162,19 @@ impl Archive {
                     occurrence,
                 } => raw::isis_view_settled(b.0, b.1, b.2, b.3, mfn, tag, occurrence, start, len),
                 _ => unreachable!("only views come here"),
-            };
-            Given {
-                part: *start..(*start).wrapping_add(*len),
-                ..plain(number)
             }
+        };
+        Given {
+            part: self.part(side),
+            ..plain(number)
         }
     }
 
     unsafe fn field(&mut self, b: Buffers, call: &Call, side: Side) -> Given {
-        let output = self.outputs.buffer(16, side);
-        output.fill(0xEE);
-        let start: *mut usize = output.as_mut_ptr().cast();
-        let output = self.tag.buffer(2, side);
-        output.fill(0xEE);
-        let tag: *mut u16 = output.as_mut_ptr().cast();
-        // SAFETY: as in `view`; the tag has an area of its own.
-        unsafe {
-            let len = start.add(1);
-            let number = match *call {
+        let (tag, (start, len)) = (self.tags.lend(1, side), self.lend_part(side));
+        // SAFETY: as in `run`.
+        let number = unsafe {
+            match *call {
                 Call::Field { mfn, index } => {
                     raw::isis_field(b.0, b.1, b.2, b.3, mfn, index, tag, start, len)
                 }
@@ -209,12 +182,63 @@ impl Archive {
                     raw::isis_field_settled(b.0, b.1, b.2, b.3, mfn, index, tag, start, len)
                 }
                 _ => unreachable!("only fields by index come here"),
-            };
-            Given {
-                tag: *tag,
-                part: *start..(*start).wrapping_add(*len),
-                ..plain(number)
             }
+        };
+        Given {
+            tag: self.tags.one(side),
+            part: self.part(side),
+            ..plain(number)
+        }
+    }
+
+    unsafe fn next(&mut self, b: Buffers, side: Side) -> Given {
+        let (next, end) = (self.words[0].lend(1, side), self.sizes[0].lend(1, side));
+        // SAFETY: as in `run`.
+        let number = unsafe { raw::isis_next(b.0, b.1, b.2, b.3, next, end) };
+        Given {
+            mfn: self.words[0].one(side),
+            end: self.sizes[0].one(side),
+            ..plain(number)
+        }
+    }
+
+    unsafe fn state(&mut self, b: Buffers, mfn: u32, side: Side) -> Given {
+        let [mark, deleted] = &mut self.words;
+        let lent = (mark.lend(1, side), deleted.lend(1, side));
+        // SAFETY: as in `run`.
+        let number = unsafe { raw::isis_state(b.0, b.1, b.2, b.3, mfn, lent.0, lent.1) };
+        Given {
+            mark: mark.one(side),
+            deleted: deleted.one(side),
+            ..plain(number)
+        }
+    }
+
+    unsafe fn fields(&mut self, b: Buffers, call: &Call, room: Room, side: Side) -> Given {
+        let (tags, [starts, lens, count]) = (&mut self.tags, &mut self.sizes);
+        let (t, s) = (tags.lend(room[0], side), starts.lend(room[1], side));
+        let (l, c) = (lens.lend(room[2], side), count.lend(1, side));
+        let [tl, sl, ll] = room;
+        // SAFETY: as in `run`.
+        let number = unsafe {
+            match *call {
+                Call::Fields { mfn, .. } => {
+                    raw::isis_fields(b.0, b.1, b.2, b.3, mfn, t, tl, s, sl, l, ll, c)
+                }
+                Call::FieldsSettled { mfn, .. } => {
+                    raw::isis_fields_settled(b.0, b.1, b.2, b.3, mfn, t, tl, s, sl, l, ll, c)
+                }
+                _ => unreachable!("only calls for all fields come here"),
+            }
+        };
+        Given {
+            count: count.one(side),
+            lists: Lists {
+                tags: tags.taken(tl, side),
+                starts: starts.taken(sl, side),
+                lens: lens.taken(ll, side),
+            },
+            ..plain(number)
         }
     }
 }

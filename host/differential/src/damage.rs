@@ -47,11 +47,7 @@ impl Family for Damaged {
             format_in: if done > self.building { 60 } else { 10_000 },
             ..Taste::SHORT
         };
-        Some(Step::Call(lists::call_or_field(
-            random,
-            taste,
-            run.next_mfn(),
-        )))
+        Some(Step::Call(lists::any_call(random, taste, run.next_mfn())))
     }
 }
 

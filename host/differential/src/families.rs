@@ -164,7 +164,7 @@ impl Family for FromFormat {
         match done {
             0 => Some(Step::Call(Call::Format)),
             _ if done == self.steps => None,
-            _ => Some(Step::Call(lists::call_or_field(
+            _ => Some(Step::Call(lists::any_call(
                 random,
                 self.taste,
                 run.next_mfn(),
@@ -196,7 +196,7 @@ impl Family for Hostile {
             0 => random.next() as u32,
             _ => lists::mfn(random, run.next_mfn()),
         };
-        Some(Step::Call(match random.below(10) {
+        Some(Step::Call(match random.below(11) {
             0..=1 => Call::Create(lists::hostile_draft(random, Taste::SHORT)),
             2..=3 => Call::Update(mfn, lists::hostile_draft(random, Taste::SHORT)),
             4 => Call::view(mfn, tag, random.next() as u32),
@@ -209,6 +209,7 @@ impl Family for Hostile {
                 mfn,
                 index: lists::index(random),
             },
+            8 => lists::telling(random, Taste::SHORT, mfn as usize),
             _ => lists::call(random, Taste::SHORT, run.next_mfn()),
         }))
     }

@@ -15,6 +15,7 @@ const SIGBUS: i32 = 7;
 
 /// What the bytes of an area hold that belong to no buffer.
 const SLACK: u8 = 0xC5;
+static SLACK_PAGE: [u8; PAGE] = [SLACK; PAGE];
 
 unsafe extern "C" {
     fn mmap(at: *mut c_void, len: usize, prot: i32, flags: i32, fd: i32, off: i64) -> *mut c_void;
@@ -84,20 +85,21 @@ impl Area {
         &mut self.all()[from..from + len]
     }
 
-    /// Copies 2-byte numbers to a guard page and gives where they stand.
-    pub fn numbers(&mut self, numbers: &[u16], side: Side) -> *const u16 {
-        let buffer = self.buffer(2 * numbers.len(), side);
-        for (bytes, number) in buffer.chunks_exact_mut(2).zip(numbers) {
-            bytes.copy_from_slice(&number.to_ne_bytes());
-        }
-        buffer.as_ptr().cast()
-    }
-
-    /// Copies bytes to a guard page and gives where they stand.
-    pub fn bytes(&mut self, bytes: &[u8], side: Side) -> *const u8 {
+    /// Copies bytes to a guard page.
+    pub fn bytes(&mut self, bytes: &[u8], side: Side) -> &mut [u8] {
         let buffer = self.buffer(bytes.len(), side);
         buffer.copy_from_slice(bytes);
-        buffer.as_ptr()
+        buffer
+    }
+
+    /// How many bytes have room.
+    pub fn room(&self) -> usize {
+        self.len
+    }
+
+    /// From now on the bytes of the buffer belong to none.
+    pub fn give_back(&mut self, len: usize, side: Side) {
+        self.buffer(len, side).fill(SLACK);
     }
 
     /// Shuts the area against writing, or opens it again.
@@ -111,8 +113,10 @@ impl Area {
     pub fn slack_kept(&mut self, len: usize, side: Side) -> bool {
         let from = self.offset(len, side);
         let all = self.all();
-        let (before, after) = (&all[..from], &all[from + len..]);
-        before.iter().chain(after).all(|&byte| byte == SLACK)
+        let mut parts = [&all[..from], &all[from + len..]]
+            .into_iter()
+            .flat_map(|slack| slack.chunks(PAGE));
+        parts.all(|part| *part == SLACK_PAGE[..part.len()])
     }
 }
 

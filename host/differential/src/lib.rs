@@ -2,8 +2,8 @@
 //!
 //! A [`trial`] is a card and a list of steps: calls, and bytes poked in between to
 //! damage the card. It is run on the archive, whose buffers stand between guard pages
-//! ([`guarded`]), and on the model. After every call the answer, the MFN, the shown
-//! part and all bytes of both buffers must be equal; in a list from format the
+//! ([`guarded`]), and on the model. After every call the answer, every output and all
+//! bytes of both buffers must be equal; in a list from format the
 //! ledger is held to the same answers. A list that shows a difference is shrunk
 //! ([`shrink`]) before it is shown. [`families`] makes trials at random; every seed
 //! is printed, and `ISIS_SEED=n` runs others.
@@ -13,6 +13,7 @@ pub mod biblio;
 pub mod damage;
 pub mod families;
 pub mod guarded;
+mod lent;
 pub mod random_cards;
 pub mod shrink;
 pub mod tally;

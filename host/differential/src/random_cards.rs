@@ -38,7 +38,7 @@ impl Family for RandomCards {
             ..Taste::SHORT
         };
         let next_mfn = run.next_mfn().min(9);
-        (done < 24).then(|| Step::Call(lists::call_or_field(random, taste, next_mfn)))
+        (done < 24).then(|| Step::Call(lists::any_call(random, taste, next_mfn)))
     }
 }
 

@@ -87,19 +87,14 @@ fn without(steps: &[Step], from: usize, to: usize, lower: bool) -> Vec<Step> {
     let mut left = [&steps[..from], &steps[to..]].concat();
     if lower && removed > 0 {
         for step in &mut left[from..] {
-            match step {
-                Step::Call(Call::Format) => break,
-                Step::Call(
-                    Call::Update(mfn, _)
-                    | Call::Delete(mfn)
-                    | Call::Settle(mfn)
-                    | Call::Revert(mfn)
-                    | Call::View { mfn, .. }
-                    | Call::ViewSettled { mfn, .. }
-                    | Call::Field { mfn, .. }
-                    | Call::FieldSettled { mfn, .. },
-                ) if *mfn > before + removed => *mfn -= removed,
-                _ => {}
+            let Step::Call(call) = step else { continue };
+            if *call == Call::Format {
+                break;
+            }
+            if let Some(mfn) = call.mfn_mut()
+                && *mfn > before + removed
+            {
+                *mfn -= removed;
             }
         }
     }

@@ -7,8 +7,11 @@ use std::fmt;
 /// How many calls there are.
 const COUNT: usize = Call::NAMES.len();
 
+/// One more than the highest answer.
+const NUMBERS: usize = 18;
+
 /// The answers that the table of document 01 has for each call; a field by its index
-/// is answered as a view.
+/// is answered as a view, and the calls that tell something as the header says.
 pub const ANSWERS: [&[usize]; COUNT] = [
     &[0, 1],
     &[0, 1, 2, 4, 6, 7, 8, 9, 12],
@@ -21,12 +24,16 @@ pub const ANSWERS: [&[usize]; COUNT] = [
     &[0, 1, 2, 14],
     &[0, 1, 2, 4, 6, 7, 8, 9, 12],
     &[0, 1, 2, 4, 6, 7, 8, 9, 11, 12],
+    &[0, 1, 2],
+    &[0, 1, 2, 4, 6, 7, 8],
+    &[0, 1, 2, 4, 6, 7, 8, 9, 17],
+    &[0, 1, 2, 4, 6, 7, 8, 9, 11, 17],
 ];
 
 /// Counts by call and answer.
 #[derive(Clone, Debug, Default)]
 pub struct Tally {
-    counts: [[usize; 15]; COUNT],
+    counts: [[usize; NUMBERS]; COUNT],
 }
 
 impl Tally {
@@ -57,12 +64,12 @@ impl Tally {
 
 impl fmt::Display for Tally {
     fn fmt(&self, f: &mut fmt::Formatter<'_>) -> fmt::Result {
-        write!(f, "{:<13}", "answer")?;
-        for number in 0..15 {
+        write!(f, "{:<14}", "answer")?;
+        for number in 0..NUMBERS {
             write!(f, "{number:>8}")?;
         }
         for (name, counts) in Call::NAMES.iter().zip(&self.counts) {
-            write!(f, "\n{name:<13}")?;
+            write!(f, "\n{name:<14}")?;
             for count in counts {
                 match count {
                     0 => write!(f, "{:>8}", "-")?,

@@ -151,9 +151,9 @@ impl<'s> Run<'s> {
     fn call(&mut self, call: &Call, tally: &mut Tally) -> Result<(), String> {
         at_work(self.seed, self.step);
         let given = self.on_subject(call);
-        let (outcome, part) = on_bytes(&mut self.mst, &mut self.xrf, call);
+        let (outcome, shown) = on_bytes(&mut self.mst, &mut self.xrf, call);
         tally.add(call, outcome.number);
-        let wanted = Given::wanted(&outcome, part);
+        let wanted = Given::wanted(&outcome, shown);
         if given != wanted {
             return Err(format!("gave {given:?}, wanted {wanted:?}"));
         }
@@ -164,15 +164,7 @@ impl<'s> Run<'s> {
     /// Runs a call on the subject. One in sixteen of the calls that only read finds
     /// both buffers shut against writing, which takes longer than the call.
     fn on_subject(&mut self, call: &Call) -> Given {
-        let reads = matches!(
-            call,
-            Call::View { .. }
-                | Call::ViewSettled { .. }
-                | Call::Field { .. }
-                | Call::FieldSettled { .. }
-                | Call::Check
-        );
-        let shut = reads && self.step.is_multiple_of(16);
+        let shut = call.only_reads() && self.step.is_multiple_of(16);
         if shut {
             self.areas.0.read_only(true);
             self.areas.1.read_only(true);

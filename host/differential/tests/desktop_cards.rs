@@ -85,11 +85,18 @@ impl Desktop {
     /// All calls but format, on every MFN up to the first that is free.
     fn calls(&self) -> Vec<Call> {
         let draft = OwnedDraft::of(&[(24, b"Kite")]);
-        let mut calls = vec![Call::Check, Call::Create(draft.clone())];
+        let mut calls = vec![Call::Check, Call::Next, Call::Create(draft.clone())];
         for mfn in 1..=self.records + 1 {
             calls.extend((0..4).map(|index| Call::Field { mfn, index }));
             calls.extend((0..4).map(|index| Call::FieldSettled { mfn, index }));
             calls.extend([Call::view(mfn, 200, 1), Call::view_settled(mfn, 245, 1)]);
+            calls.push(Call::State(mfn));
+            for room in [[4; 3], [40; 3]] {
+                calls.extend([
+                    Call::Fields { mfn, room },
+                    Call::FieldsSettled { mfn, room },
+                ]);
+            }
             calls.extend([Call::Settle(mfn), Call::Revert(mfn), Call::Delete(mfn)]);
             calls.push(Call::Update(mfn, draft.clone()));
         }

@@ -39,6 +39,7 @@ fn card() -> (Vec<u8>, Vec<u8>) {
 fn calls() -> Vec<Call> {
     let mut calls = vec![
         Call::Check,
+        Call::Next,
         Call::Create(draft("c")),
         Call::Create(draft("")),
     ];
@@ -52,6 +53,16 @@ fn calls() -> Vec<Call> {
             Call::FieldSettled { mfn, index: 0 },
             Call::FieldSettled { mfn, index: 1 },
             Call::FieldSettled { mfn, index: 2 },
+            Call::State(mfn),
+            Call::Fields { mfn, room: [2; 3] },
+            Call::FieldsSettled {
+                mfn,
+                room: [2, 3, 2],
+            },
+            Call::FieldsSettled {
+                mfn,
+                room: [2, 2, 1],
+            },
             Call::Update(mfn, draft("")),
             Call::Update(mfn, draft("longer")),
             Call::Delete(mfn),

@@ -35,8 +35,8 @@ impl Seen<'_> {
 impl Subject for Fake {
     fn run(&mut self, mst: &mut [u8], xrf: &mut [u8], call: &Call, _: Side) -> Given {
         let before = (mst.to_vec(), xrf.to_vec());
-        let (outcome, part) = on_bytes(mst, xrf, call);
-        let given = Given::wanted(&outcome, part);
+        let (outcome, shown) = on_bytes(mst, xrf, call);
+        let given = Given::wanted(&outcome, shown);
         let mut seen = Seen {
             call,
             given,
@@ -213,6 +213,94 @@ fn a_field_of_a_damaged_record() {
     found(&mut Damaged::default(), 8, |_, seen| {
         if matches!(seen.call, Call::Field { .. }) && seen.given.number == 8 {
             seen.given.number = 12;
+        }
+    });
+}
+
+#[test]
+fn one_element_too_many_of_a_list() {
+    found(&mut FromFormat::new(), 3, |_, seen| {
+        if matches!(seen.call, Call::Fields { .. })
+            && seen.given.number == 0
+            && let Some(next) = seen.given.lists.lens.get_mut(seen.given.count)
+        {
+            *next = 0;
+        }
+    });
+}
+
+#[test]
+fn a_list_without_room_that_is_written_all_the_same() {
+    found(&mut FromFormat::new(), 3, |_, seen| {
+        if let Call::Fields { mfn, .. } = *seen.call
+            && seen.given.number == 17
+            && let Some(first) = seen.given.lists.tags.first_mut()
+        {
+            *first = model::store::field(seen.mst, seen.xrf, mfn, 0).unwrap().0;
+        }
+    });
+}
+
+#[test]
+fn only_the_list_of_tags_looked_at_for_room() {
+    found(&mut FromFormat::new(), 3, |_, seen| {
+        if let Call::FieldsSettled { mfn, room } = seen.call
+            && seen.given.number == 17
+        {
+            let longer = Call::FieldsSettled {
+                mfn: *mfn,
+                room: [room[0], 9, 9],
+            };
+            seen.given.number = on_bytes(seen.mst, seen.xrf, &longer).0.number;
+        }
+    });
+}
+
+#[test]
+fn a_number_of_fields_that_stands_beside_a_refusal() {
+    found(&mut FromFormat::new(), 3, |_, seen| {
+        if seen.given.number == 17 {
+            seen.given.count = 1;
+        }
+    });
+}
+
+#[test]
+fn a_state_that_forgets_deletions() {
+    found(&mut FromFormat::new(), 4, |_, seen| {
+        seen.given.deleted = 0;
+    });
+}
+
+#[test]
+fn the_current_fields_for_the_settled_ones() {
+    found(&mut FromFormat::new(), 6, |_, seen| {
+        if let Call::FieldsSettled { mfn, room } = *seen.call
+            && seen.given.number == 0
+        {
+            let current = Call::Fields { mfn, room };
+            let (outcome, shown) = on_bytes(seen.mst, seen.xrf, &current);
+            if outcome.number == 0 {
+                seen.given = Given::wanted(&outcome, shown);
+            }
+        }
+    });
+}
+
+#[test]
+fn the_length_of_the_mst_for_the_end() {
+    found(&mut FromFormat::new(), 2, |_, seen| {
+        if *seen.call == Call::Next {
+            seen.given.end = seen.mst.len();
+        }
+    });
+}
+
+#[test]
+fn the_state_of_a_damaged_record() {
+    found(&mut Damaged::default(), 8, |_, seen| {
+        if matches!(seen.call, Call::State(_)) && seen.given.number == 8 {
+            seen.given.number = 0;
         }
     });
 }

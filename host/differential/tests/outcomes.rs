@@ -8,13 +8,14 @@ mod script;
 mod subject {
     use differential::archive::{Archive, Given, Subject};
     use differential::guarded::Side;
+    use model::ask::{Lists, State};
     use model::call::{Call, OwnedDraft};
     use model::{Draft, Refusal};
     use std::ops::Range;
 
     pub type Answer<T> = Result<T, Refusal>;
 
-    const REFUSALS: [Refusal; 14] = [
+    const REFUSALS: [Refusal; 15] = [
         Refusal::Length,
         Refusal::Control,
         Refusal::Draft,
@@ -29,24 +30,41 @@ mod subject {
         Refusal::NoField,
         Refusal::NoRoom,
         Refusal::NotSound,
+        Refusal::NoRoomInList,
     ];
 
-    fn run(mst: &mut [u8], xrf: &mut [u8], call: Call) -> Answer<Given> {
-        let given = Archive::new().run(mst, xrf, &call, Side::Back);
-        match given.number {
-            0 => Ok(given),
-            number => Err(REFUSALS[number as usize - 1]),
+    fn answered(given: Given) -> Answer<Given> {
+        if given.number == 0 {
+            return Ok(given);
         }
+        let is_it = |why: &Refusal| why.number() == given.number;
+        let refusal = REFUSALS.into_iter().find(is_it);
+        Err(refusal.expect("an answer that some call has"))
     }
 
-    fn read(mst: &[u8], xrf: &[u8], call: Call) -> Answer<Given> {
+    fn run(mst: &mut [u8], xrf: &mut [u8], call: Call) -> Answer<Given> {
+        answered(Archive::new().run(mst, xrf, &call, Side::Back))
+    }
+
+    fn only_read(mst: &[u8], xrf: &[u8], call: &Call) -> Given {
         let (mut own_mst, mut own_xrf) = (mst.to_vec(), xrf.to_vec());
-        let given = run(&mut own_mst, &mut own_xrf, call);
+        let given = Archive::new().run(&mut own_mst, &mut own_xrf, call, Side::Back);
         assert!(
             own_mst == mst && own_xrf == xrf,
             "a reading call changed a byte"
         );
         given
+    }
+
+    fn read(mst: &[u8], xrf: &[u8], call: Call) -> Answer<Given> {
+        answered(only_read(mst, xrf, &call))
+    }
+
+    /// The lists come back as the call left them, refused or not.
+    fn listed(mst: &[u8], xrf: &[u8], call: Call, lists: &mut Lists) -> Answer<usize> {
+        let given = only_read(mst, xrf, &call);
+        *lists = given.lists.clone();
+        answered(given).map(|given| given.count)
     }
 
     fn owned(draft: &Draft) -> OwnedDraft {
@@ -93,6 +111,25 @@ mod subject {
     pub fn field_settled(mst: &[u8], xrf: &[u8], mfn: u32, index: usize) -> Answer<Indexed> {
         let given = read(mst, xrf, Call::FieldSettled { mfn, index });
         given.map(|given| (given.tag, given.part))
+    }
+
+    pub fn next(mst: &[u8], xrf: &[u8]) -> Answer<(u32, usize)> {
+        read(mst, xrf, Call::Next).map(|given| (given.mfn, given.end))
+    }
+
+    pub fn state(mst: &[u8], xrf: &[u8], mfn: u32) -> Answer<State> {
+        let given = read(mst, xrf, Call::State(mfn));
+        given.map(|given| (given.mark, given.deleted))
+    }
+
+    pub fn fields(mst: &[u8], xrf: &[u8], mfn: u32, lists: &mut Lists) -> Answer<usize> {
+        let room = lists.room();
+        listed(mst, xrf, Call::Fields { mfn, room }, lists)
+    }
+
+    pub fn fields_settled(mst: &[u8], xrf: &[u8], mfn: u32, lists: &mut Lists) -> Answer<usize> {
+        let room = lists.room();
+        listed(mst, xrf, Call::FieldsSettled { mfn, room }, lists)
     }
 
     pub fn create(mst: &mut [u8], xrf: &mut [u8], draft: &Draft) -> Answer<u32> {

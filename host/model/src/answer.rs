@@ -34,6 +34,8 @@ pub enum Refusal {
     NoRoom = 13,
     /// 14: check only, the store is not sound.
     NotSound = 14,
+    /// 17: a list that is lent for fields has too few elements.
+    NoRoomInList = 17,
 }
 
 impl Refusal {

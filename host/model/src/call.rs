@@ -1,11 +1,11 @@
 //! A call with its arguments, and what comes of it, so that the byte store, the
 //! ledger and the library can be given the same list.
 
-use crate::answer::{Refusal, number};
+use crate::ask::{self, Lists, Room};
 use crate::draft::Draft;
 use crate::ledger::Ledger;
-use crate::store::{self, Indexed};
-use std::ops::Range;
+pub use crate::outcome::{Outcome, Shown};
+use crate::store;
 
 /// A draft that owns its three lists; it need not be right.
 #[derive(Clone, Debug, PartialEq, Eq, Default)]
@@ -39,7 +39,8 @@ impl OwnedDraft {
     }
 }
 
-/// A call: the nine of document 01, and the two that show a field by its index.
+/// A call: the nine of document 01, the two that show a field by its index, and the four
+/// that tell something of the card.
 #[derive(Clone, Debug, PartialEq, Eq)]
 #[allow(missing_docs)]
 pub enum Call {
@@ -54,11 +55,15 @@ pub enum Call {
     Check,
     Field { mfn: u32, index: usize },
     FieldSettled { mfn: u32, index: usize },
+    Next,
+    State(u32),
+    Fields { mfn: u32, room: Room },
+    FieldsSettled { mfn: u32, room: Room },
 }
 
 impl Call {
     /// What the calls are called, by their kind.
-    pub const NAMES: [&str; 11] = [
+    pub const NAMES: [&str; 15] = [
         "format",
         "view",
         "settled view",
@@ -70,9 +75,14 @@ impl Call {
         "check",
         "field",
         "settled field",
+        "next",
+        "state",
+        "fields",
+        "settled fields",
     ];
 
-    /// Which call it is: the nine in the order of document 01, then the two by index.
+    /// Which call it is: the nine in the order of document 01, then the two by index and
+    /// the four that tell.
     pub fn kind(&self) -> usize {
         match self {
             Call::Format => 0,
@@ -86,6 +96,42 @@ impl Call {
             Call::Check => 8,
             Call::Field { .. } => 9,
             Call::FieldSettled { .. } => 10,
+            Call::Next => 11,
+            Call::State(_) => 12,
+            Call::Fields { .. } => 13,
+            Call::FieldsSettled { .. } => 14,
+        }
+    }
+
+    /// Whether it only reads the card.
+    pub fn only_reads(&self) -> bool {
+        let writes = matches!(
+            self,
+            Call::Format
+                | Call::Create(_)
+                | Call::Update(..)
+                | Call::Delete(_)
+                | Call::Settle(_)
+                | Call::Revert(_)
+        );
+        !writes
+    }
+
+    /// The MFN that it names.
+    pub fn mfn_mut(&mut self) -> Option<&mut u32> {
+        match self {
+            Call::Format | Call::Create(_) | Call::Check | Call::Next => None,
+            Call::Update(mfn, _)
+            | Call::Delete(mfn)
+            | Call::Settle(mfn)
+            | Call::Revert(mfn)
+            | Call::State(mfn)
+            | Call::View { mfn, .. }
+            | Call::ViewSettled { mfn, .. }
+            | Call::Field { mfn, .. }
+            | Call::FieldSettled { mfn, .. }
+            | Call::Fields { mfn, .. }
+            | Call::FieldsSettled { mfn, .. } => Some(mfn),
         }
     }
 
@@ -108,71 +154,36 @@ impl Call {
     }
 }
 
-/// What a call gave: its answer number, the MFN of a create, the field that is shown,
-/// and its tag where the call names none.
-#[derive(Clone, Debug, PartialEq, Eq, Default)]
-#[allow(missing_docs)]
-pub struct Outcome {
-    pub number: u32,
-    pub mfn: u32,
-    pub tag: u16,
-    pub field: Vec<u8>,
-}
-
-impl Outcome {
-    fn plain(result: &Result<(), Refusal>) -> Outcome {
-        Outcome {
-            number: number(result),
-            ..Outcome::default()
-        }
-    }
-
-    fn created(result: &Result<u32, Refusal>) -> Outcome {
-        Outcome {
-            number: number(result),
-            mfn: result.unwrap_or(0),
-            ..Outcome::default()
-        }
-    }
-
-    fn shown(result: Result<&[u8], Refusal>) -> Outcome {
-        Outcome {
-            number: number(&result),
-            field: result.unwrap_or(&[]).to_vec(),
-            ..Outcome::default()
-        }
-    }
-
-    fn indexed(result: Result<(u16, &[u8]), Refusal>) -> Outcome {
-        Outcome {
-            tag: result.map_or(0, |(tag, _)| tag),
-            ..Outcome::shown(result.map(|(_, field)| field))
-        }
-    }
-}
-
-/// The byte store's outcome, with the shown field as a part of the MST (0..0 if none).
-pub fn on_bytes(mst: &mut [u8], xrf: &mut [u8], call: &Call) -> (Outcome, Range<usize>) {
+/// The byte store's outcome, with where it stands in the MST. Lists are lent full of rubbish.
+pub fn on_bytes(mst: &mut [u8], xrf: &mut [u8], call: &Call) -> (Outcome, Shown) {
     let outcome = match call {
         Call::View {
             mfn,
             tag,
             occurrence,
         } => {
-            return shown_part(mst, store::view(mst, xrf, *mfn, *tag, *occurrence));
+            return Shown::field(mst, store::view(mst, xrf, *mfn, *tag, *occurrence));
         }
         Call::ViewSettled {
             mfn,
             tag,
             occurrence,
         } => {
-            return shown_part(mst, store::view_settled(mst, xrf, *mfn, *tag, *occurrence));
+            return Shown::field(mst, store::view_settled(mst, xrf, *mfn, *tag, *occurrence));
         }
         Call::Field { mfn, index } => {
-            return indexed_part(mst, store::field(mst, xrf, *mfn, *index));
+            return Shown::indexed(mst, store::field(mst, xrf, *mfn, *index));
         }
         Call::FieldSettled { mfn, index } => {
-            return indexed_part(mst, store::field_settled(mst, xrf, *mfn, *index));
+            return Shown::indexed(mst, store::field_settled(mst, xrf, *mfn, *index));
+        }
+        Call::Fields { mfn, room } => {
+            let call = |lists: &mut Lists| ask::fields(mst, xrf, *mfn, lists);
+            return Shown::listed(mst, Lists::lent(*room), call);
+        }
+        Call::FieldsSettled { mfn, room } => {
+            let call = |lists: &mut Lists| ask::fields_settled(mst, xrf, *mfn, lists);
+            return Shown::listed(mst, Lists::lent(*room), call);
         }
         Call::Format => Outcome::plain(&store::format(mst, xrf)),
         Call::Create(draft) => Outcome::created(&store::create(mst, xrf, &draft.lent())),
@@ -181,21 +192,10 @@ pub fn on_bytes(mst: &mut [u8], xrf: &mut [u8], call: &Call) -> (Outcome, Range<
         Call::Settle(mfn) => Outcome::plain(&store::settle(mst, xrf, *mfn)),
         Call::Revert(mfn) => Outcome::plain(&store::revert(mst, xrf, *mfn)),
         Call::Check => Outcome::plain(&store::check(mst, xrf)),
+        Call::Next => Outcome::next(ask::next(mst, xrf)),
+        Call::State(mfn) => Outcome::state(ask::state(mst, xrf, *mfn)),
     };
-    (outcome, 0..0)
-}
-
-/// The outcome of a view with the part of the MST that it shows.
-fn shown_part(mst: &[u8], result: Result<Range<usize>, Refusal>) -> (Outcome, Range<usize>) {
-    let part = result.clone().unwrap_or(0..0);
-    (Outcome::shown(result.map(|part| &mst[part])), part)
-}
-
-/// The outcome of a field by index, with the part of the MST that it shows.
-fn indexed_part(mst: &[u8], result: Result<Indexed, Refusal>) -> (Outcome, Range<usize>) {
-    let part = result.clone().map_or(0..0, |(_, part)| part);
-    let shown = result.map(|(tag, part)| (tag, &mst[part]));
-    (Outcome::indexed(shown), part)
+    (outcome, Shown::default())
 }
 
 /// The ledger's outcome.
@@ -220,5 +220,9 @@ pub fn on_ledger(ledger: &mut Ledger, call: &Call) -> Outcome {
         Call::Check => Outcome::plain(&ledger.check()),
         Call::Field { mfn, index } => Outcome::indexed(ledger.field(*mfn, *index)),
         Call::FieldSettled { mfn, index } => Outcome::indexed(ledger.field_settled(*mfn, *index)),
+        Call::Next => Outcome::next(Ok((ledger.next_mfn() as u32, ledger.end()))),
+        Call::State(mfn) => Outcome::state(ledger.state(*mfn)),
+        Call::Fields { mfn, room } => Outcome::listed(ledger.fields(*mfn, *room)),
+        Call::FieldsSettled { mfn, room } => Outcome::listed(ledger.fields_settled(*mfn, *room)),
     }
 }

@@ -2,8 +2,9 @@
 //! it is fed, and nothing of any byte: no block, no entry, no leader.
 
 use crate::answer::Refusal;
+use crate::ask::{Room, State, has_room, state_of};
 use crate::draft::{Draft, need};
-use crate::layout::{FIRST, capacity, lengths_permitted, step_over};
+use crate::layout::{FIRST, Mark, capacity, lengths_permitted, step_over};
 
 /// A record's fields: tags with their bytes, in draft order.
 pub type Fields = Vec<(u16, Vec<u8>)>;
@@ -138,6 +139,27 @@ impl Ledger {
         at_index(self.settled(mfn)?, index)
     }
 
+    /// All current fields, if lists of these lengths have room for them.
+    pub fn fields(&self, mfn: u32, room: Room) -> Result<Fields, Refusal> {
+        listed(self.current(mfn)?, room)
+    }
+
+    /// All settled fields, if lists of these lengths have room for them.
+    pub fn fields_settled(&self, mfn: u32, room: Room) -> Result<Fields, Refusal> {
+        listed(self.settled(mfn)?, room)
+    }
+
+    /// The mark, and deleted or live.
+    pub fn state(&self, mfn: u32) -> Result<State, Refusal> {
+        let item = &self.items[self.index(mfn)?];
+        let mark = match item.standing {
+            Standing::Settled => Mark::Settled,
+            Standing::Changed { .. } => Mark::Changed,
+            Standing::New { .. } => Mark::New,
+        };
+        Ok(state_of(mark, item.deleted))
+    }
+
     /// The next MFN gets the draft's fields, live, new, appended.
     pub fn create(&mut self, draft: &Draft) -> Result<u32, Refusal> {
         let length = draft.need_if_right().ok_or(Refusal::Draft)?;
@@ -269,4 +291,12 @@ fn pick(fields: &Fields, tag: u16, occurrence: u32) -> Result<&[u8], Refusal> {
 fn at_index(fields: &Fields, index: usize) -> Result<(u16, &[u8]), Refusal> {
     let (tag, bytes) = fields.get(index).ok_or(Refusal::NoField)?;
     Ok((*tag, bytes))
+}
+
+/// All fields, or answer 17.
+fn listed(fields: &Fields, room: Room) -> Result<Fields, Refusal> {
+    if !has_room(room, fields.len()) {
+        return Err(Refusal::NoRoomInList);
+    }
+    Ok(fields.clone())
 }

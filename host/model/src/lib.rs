@@ -5,7 +5,8 @@
 //!
 //! * the **byte store** ([`store`]): the calls over two lent buffers that may
 //!   hold any bytes, with the whole-store check ([`sound`]) written as the
-//!   paper states it: collect the steps, then look at every entry;
+//!   paper states it: collect the steps, then look at every entry; and the calls
+//!   that tell something of a card ([`ask`]), from the words of the header;
 //! * the **ledger** ([`ledger`]): the plain ledger of demand 3, which never sees a
 //!   buffer and is only fed the calls.
 //!
@@ -13,6 +14,7 @@
 //! lists at random from a seed.
 
 pub mod answer;
+pub mod ask;
 pub mod bytes;
 pub mod call;
 pub mod draft;
@@ -20,6 +22,7 @@ pub mod fault;
 pub mod layout;
 pub mod ledger;
 pub mod lists;
+pub mod outcome;
 pub mod random;
 pub mod record;
 pub mod replay;

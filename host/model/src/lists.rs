@@ -2,6 +2,7 @@
 //! occurrences repeat; MFNs around the next one; drafts that are mostly right and
 //! mostly short, with lengths around the edges now and then.
 
+use crate::ask::Room;
 use crate::call::{Call, OwnedDraft};
 use crate::layout::{LAST_TAG, LONGEST};
 use crate::random::Random;
@@ -36,17 +37,50 @@ impl Taste {
     };
 }
 
-/// A random call, or one in eight times a field by its index.
-pub fn call_or_field(random: &mut Random, taste: Taste, next: usize) -> Call {
-    if !random.one_in(8) {
-        return call(random, taste, next);
+/// A random call of any kind for a store whose next MFN is about `next`: one in eight
+/// shows a field by its index, and one in eight tells something of the card.
+pub fn any_call(random: &mut Random, taste: Taste, next: usize) -> Call {
+    match random.below(8) {
+        0 => field_by_index(random, next),
+        1 => telling(random, taste, next),
+        _ => call(random, taste, next),
     }
+}
+
+fn field_by_index(random: &mut Random, next: usize) -> Call {
     let (mfn, index) = (mfn(random, next), index(random));
     if random.one_in(2) {
         Call::Field { mfn, index }
     } else {
         Call::FieldSettled { mfn, index }
     }
+}
+
+/// A call that tells something of the card.
+pub fn telling(random: &mut Random, taste: Taste, next: usize) -> Call {
+    let (mfn, room) = (mfn(random, next), room(random, taste));
+    match random.below(8) {
+        0 => Call::Next,
+        1..=2 => Call::State(mfn),
+        3..=5 => Call::Fields { mfn, room },
+        _ => Call::FieldsSettled { mfn, room },
+    }
+}
+
+/// Lengths of three lists, up to one more than an ordinary record has fields: mostly
+/// equal, sometimes with one that is shorter, sometimes of any length each.
+fn room(random: &mut Random, taste: Taste) -> Room {
+    let mut length = || random.below(taste.fields + 2);
+    let (mut equal, any) = ([length(); 3], [length(), length(), length()]);
+    match random.below(8) {
+        0 => return any,
+        1..=2 => {
+            let short = random.below(3);
+            equal[short] = equal[short].saturating_sub(1);
+        }
+        _ => {}
+    }
+    equal
 }
 
 /// A random call of document 01 for a store whose next MFN is about `next`.

@@ -24,15 +24,15 @@ pub fn gate(mst: &[u8], xrf: &[u8]) -> Answer<Control> {
 }
 
 /// A record that answers 4 to 8 have let through.
-struct Found {
+pub(crate) struct Found {
     control: Control,
     mfn: usize,
-    place: Place,
+    pub(crate) place: Place,
     record: Record,
 }
 
 /// Answers 4, 6, 7 and 8 for a call that names an MFN.
-fn find(mst: &[u8], xrf: &[u8], control: Control, mfn: u32) -> Answer<Found> {
+pub(crate) fn find(mst: &[u8], xrf: &[u8], control: Control, mfn: u32) -> Answer<Found> {
     let mfn = mfn as usize;
     if mfn < 1 || mfn >= control.next_mfn {
         return Err(Refusal::Mfn);
@@ -90,7 +90,7 @@ pub fn format(mst: &mut [u8], xrf: &mut [u8]) -> Answer<()> {
 }
 
 /// The current version, for the calls that show it: answers up to 9.
-fn current(mst: &[u8], xrf: &[u8], mfn: u32) -> Answer<Record> {
+pub(crate) fn current(mst: &[u8], xrf: &[u8], mfn: u32) -> Answer<Record> {
     let found = find(mst, xrf, gate(mst, xrf)?, mfn)?;
     if found.place.deleted {
         return Err(Refusal::Deleted);
@@ -99,7 +99,7 @@ fn current(mst: &[u8], xrf: &[u8], mfn: u32) -> Answer<Record> {
 }
 
 /// The settled version, for the calls that show it: answers up to 11.
-fn settled(mst: &[u8], xrf: &[u8], mfn: u32) -> Answer<Record> {
+pub(crate) fn settled(mst: &[u8], xrf: &[u8], mfn: u32) -> Answer<Record> {
     let found = find(mst, xrf, gate(mst, xrf)?, mfn)?;
     match found.place.mark {
         Mark::Changed => settled_version(mst, &found),

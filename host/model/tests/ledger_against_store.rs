@@ -1,7 +1,7 @@
 //! Demand 3 on random lists: from format on, the byte store and the ledger give the
 //! same answers, MFNs and fields; NXTMFN and the end are the ledger's; the store
 //! stays sound; and after the list every field of every MFN is shown in both views,
-//! and by its index in both versions.
+//! by its index and in one list in both versions, and every state is told.
 
 mod common;
 
@@ -22,7 +22,7 @@ fn run(seed: u64, blocks: (usize, usize), taste: Taste, calls: usize) -> BTreeSe
     on_bytes(&mut mst, &mut xrf, &Call::Format);
     let mut came = BTreeSet::new();
     for i in 0..calls {
-        let call = lists::call_or_field(&mut random, taste, ledger.next_mfn());
+        let call = lists::any_call(&mut random, taste, ledger.next_mfn());
         let (outcome, _) = on_bytes(&mut mst, &mut xrf, &call);
         let wanted: Outcome = on_ledger(&mut ledger, &call);
         assert_eq!(outcome, wanted, "seed {seed}, call {i}: {call:?}");
@@ -60,6 +60,15 @@ fn every_field_is_shown(seed: u64, mst: &mut [u8], xrf: &mut [u8], ledger: &mut 
                 assert_eq!(outcome, on_ledger(ledger, &call), "seed {seed}: {call:?}");
             }
         }
+        let room = [9; 3];
+        for call in [
+            Call::State(mfn),
+            Call::Fields { mfn, room },
+            Call::FieldsSettled { mfn, room },
+        ] {
+            let (outcome, _) = on_bytes(mst, xrf, &call);
+            assert_eq!(outcome, on_ledger(ledger, &call), "seed {seed}: {call:?}");
+        }
     }
 }
 
@@ -72,7 +81,7 @@ fn random_lists_agree_and_every_answer_comes() {
         came.extend(run(seed + 2000, (40, 2), Taste::LONG, 200));
     }
     came.extend(run(3000, (400, 1), Taste::SHORT, 2_500));
-    assert_eq!(came, common::from_format(11));
+    assert_eq!(came, common::from_format(15));
 }
 
 #[test]

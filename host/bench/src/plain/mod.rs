@@ -1,17 +1,21 @@
 //! The same work in plain safe Rust, written to be fast and nothing else: no proof, no
 //! words for what is wrong, only the answer numbers. It asks the same rules; that is held
-//! by the test below and by comparing all bytes after every row. Each call stands here
+//! by a test and by comparing all bytes after every row. Each call stands here
 //! twice: `called`, as the library's are, by a call that is not inlined, and `inlined`
 //! into the loop that makes the calls, where the optimiser sees both.
 
 mod check;
 mod record;
 mod store;
+mod tell;
+#[cfg(test)]
+mod tests;
 mod write;
 
 /// Each call by a call.
 pub mod called {
     use model::Draft;
+    use model::ask::Lists;
 
     macro_rules! called {
         ($($module:ident::$name:ident($($argument:ident: $kind:ty),*) -> $answer:ty;)*) => {$(
@@ -35,6 +39,10 @@ pub mod called {
         store::settle(mst: &mut [u8], xrf: &mut [u8], mfn: u32) -> u32;
         store::revert(mst: &[u8], xrf: &mut [u8], mfn: u32) -> u32;
         check::check(mst: &[u8], xrf: &[u8]) -> u32;
+        tell::next(mst: &[u8], xrf: &[u8]) -> (u32, u32, usize);
+        tell::state(mst: &[u8], xrf: &[u8], mfn: u32) -> (u32, u32, u32);
+        tell::fields(mst: &[u8], xrf: &[u8], mfn: u32, lists: &mut Lists) -> (u32, usize);
+        tell::fields_settled(mst: &[u8], xrf: &[u8], mfn: u32, lists: &mut Lists) -> (u32, usize);
     }
 }
 
@@ -42,6 +50,7 @@ pub mod called {
 pub mod inlined {
     pub use super::check::check;
     pub use super::store::{delete, field, field_settled, revert, settle, view, view_settled};
+    pub use super::tell::{fields, fields_settled, next, state};
     pub use super::write::{create, format, update};
 }
 
@@ -153,94 +162,4 @@ fn entry_of(at: usize, mark: u8, deleted: bool) -> i32 {
 /// The next step after bytes that stop at `at`.
 fn step_over(at: usize) -> usize {
     if at % 512 > 498 { (at | 511) + 1 } else { at }
-}
-
-#[cfg(test)]
-mod tests {
-    use model::call::{Call, Outcome, on_bytes};
-    use model::lists::{self, Taste};
-    use model::random::Random;
-
-    /// The outcome of a call in plain safe Rust.
-    fn run(mst: &mut [u8], xrf: &mut [u8], call: &Call) -> Outcome {
-        let (mut mfn, mut tag, mut part) = (0, 0, (0, 0));
-        let number = match call {
-            Call::Format => super::called::format(mst, xrf),
-            Call::Check => super::called::check(mst, xrf),
-            Call::Delete(mfn) => super::called::delete(mst, xrf, *mfn),
-            Call::Settle(mfn) => super::called::settle(mst, xrf, *mfn),
-            Call::Revert(mfn) => super::called::revert(mst, xrf, *mfn),
-            Call::Update(mfn, draft) => super::called::update(mst, xrf, *mfn, &draft.lent()),
-            Call::Create(draft) => {
-                let (number, created) = super::called::create(mst, xrf, &draft.lent());
-                mfn = created;
-                number
-            }
-            _ => {
-                let (number, its, start, len) = shown(mst, xrf, call);
-                (tag, part) = (its, (start, len));
-                number
-            }
-        };
-        let field = mst[part.0..part.0 + part.1].to_vec();
-        Outcome {
-            number,
-            mfn,
-            tag,
-            field,
-        }
-    }
-
-    /// The answer, tag, start and length of the calls that show a field.
-    fn shown(mst: &[u8], xrf: &[u8], call: &Call) -> (u32, u16, usize, usize) {
-        let (number, start, len) = match *call {
-            Call::View {
-                mfn,
-                tag,
-                occurrence,
-            } => super::called::view(mst, xrf, mfn, tag, occurrence),
-            Call::ViewSettled {
-                mfn,
-                tag,
-                occurrence,
-            } => super::called::view_settled(mst, xrf, mfn, tag, occurrence),
-            Call::Field { mfn, index } => return super::called::field(mst, xrf, mfn, index),
-            Call::FieldSettled { mfn, index } => {
-                return super::called::field_settled(mst, xrf, mfn, index);
-            }
-            _ => unreachable!("only calls that show a field come here"),
-        };
-        (number, 0, start, len)
-    }
-
-    /// What is timed does the model's work: on lists from format, damaged now and then.
-    #[test]
-    fn the_plain_program_does_the_same_as_the_model() {
-        for seed in 0..400 {
-            let mut random = Random::new(seed);
-            let (mut mst, mut xrf) = (vec![0; 2048], vec![0; 512]);
-            let (mut model_mst, mut model_xrf) = (mst.clone(), xrf.clone());
-            let mut call = Call::Format;
-            for step in 0..150 {
-                let (wanted, _) = on_bytes(&mut model_mst, &mut model_xrf, &call);
-                assert_eq!(
-                    run(&mut mst, &mut xrf, &call),
-                    wanted,
-                    "{seed}, {step}: {call:?}"
-                );
-                assert!(
-                    mst == model_mst && xrf == model_xrf,
-                    "{seed}, {step}: {call:?}"
-                );
-                if seed % 2 == 1 && random.one_in(10) {
-                    let (at, bit) = (random.between(4, 400), 1 << random.below(8));
-                    mst[at] ^= bit;
-                    model_mst[at] ^= bit;
-                    xrf[at % 40] ^= bit;
-                    model_xrf[at % 40] ^= bit;
-                }
-                call = lists::call_or_field(&mut random, Taste::SHORT, 12);
-            }
-        }
-    }
 }

@@ -1,6 +1,7 @@
-//! The record test, the field search and the field of an index.
+//! The record test, the field search, the field of an index and the walk over all fields.
 
 use super::{Place, i32_at, place_at, u16_at};
+use model::ask::Lists;
 
 /// What the record test found.
 #[derive(Clone, Copy)]
@@ -90,4 +91,20 @@ pub fn at_index(mst: &[u8], record: &Tested, index: usize) -> Option<(u16, usize
     let item = mst[record.at + 18..base].as_chunks::<6>().0.get(index)?;
     let start = base + usize::from(u16_at(item, 2));
     Some((u16_at(item, 0), start, usize::from(u16_at(item, 4))))
+}
+
+/// Every field into three lists; how many there are, or `None` where a list is too short.
+pub fn list_out(mst: &[u8], record: &Tested, lists: &mut Lists) -> Option<usize> {
+    let base = record.at + record.base;
+    let items = mst[record.at + 18..base].as_chunks::<6>().0;
+    let tags = lists.tags.get_mut(..items.len())?;
+    let starts = lists.starts.get_mut(..items.len())?;
+    let lens = lists.lens.get_mut(..items.len())?;
+    let outputs = tags.iter_mut().zip(starts).zip(lens);
+    for (item, ((tag, start), len)) in items.iter().zip(outputs) {
+        *tag = u16_at(item, 0);
+        *start = base + usize::from(u16_at(item, 2));
+        *len = usize::from(u16_at(item, 4));
+    }
+    Some(items.len())
 }

@@ -37,7 +37,7 @@ fn number(result: Result<(), u32>) -> u32 {
 }
 
 /// The current version, up to answer 9.
-fn current(mst: &[u8], xrf: &[u8], mfn: u32) -> Result<Tested, u32> {
+pub fn current(mst: &[u8], xrf: &[u8], mfn: u32) -> Result<Tested, u32> {
     let found = found(mst, xrf, gate(mst, xrf)?, mfn)?;
     if found.place.deleted {
         return Err(9);
@@ -46,7 +46,7 @@ fn current(mst: &[u8], xrf: &[u8], mfn: u32) -> Result<Tested, u32> {
 }
 
 /// The settled version, up to answer 11.
-fn kept(mst: &[u8], xrf: &[u8], mfn: u32) -> Result<Tested, u32> {
+pub fn kept(mst: &[u8], xrf: &[u8], mfn: u32) -> Result<Tested, u32> {
     let found = found(mst, xrf, gate(mst, xrf)?, mfn)?;
     match found.place.mark {
         CHANGED => settled(mst, found.control.end, found.mfn, &found.record).ok_or(8),

@@ -135,9 +135,7 @@ impl List {
             Call::Settle(mfn) => [6, mfn, 0, 0, 0],
             Call::Revert(mfn) => [7, mfn, 0, 0, 0],
             Call::Check => [8, 0, 0, 0, 0],
-            Call::Field { .. } | Call::FieldSettled { .. } => {
-                panic!("a list has the nine calls of document 01 only")
-            }
+            _ => panic!("a list has the nine calls of document 01 only"),
         };
         self.numbers.extend(numbers);
     }

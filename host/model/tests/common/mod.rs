@@ -6,8 +6,8 @@ use model::{Draft, Refusal, store};
 use std::collections::BTreeSet;
 
 /// Every answer that a list from format can give, by the call's number in a list; then
-/// the two fields by index.
-pub const FROM_FORMAT: [(u32, &[u32]); 11] = [
+/// the two fields by index, and the calls that tell something.
+pub const FROM_FORMAT: [(u32, &[u32]); 15] = [
     (0, &[0]),
     (1, &[0, 4, 9, 12]),
     (2, &[0, 4, 9, 11, 12]),
@@ -19,6 +19,10 @@ pub const FROM_FORMAT: [(u32, &[u32]); 11] = [
     (8, &[0]),
     (9, &[0, 4, 9, 12]),
     (10, &[0, 4, 9, 11, 12]),
+    (11, &[0]),
+    (12, &[0, 4]),
+    (13, &[0, 4, 9, 17]),
+    (14, &[0, 4, 9, 11, 17]),
 ];
 
 /// The first `calls` rows of it as pairs.

@@ -233,14 +233,16 @@ impl Card {
         self.settled_view(what, mfn);
         self.field(what, mfn, 0);
         self.settled_field(what, mfn, 0);
+        self.told(what, mfn);
         self.update(what, mfn, b"Kites");
         self.delete(what, mfn);
         self.settle(what, mfn);
         self.revert(what, mfn);
     }
 
-    /// The calls that name an MFN, on MFN 1; create and check.
+    /// The calls that name an MFN, on MFN 1; next, create and check.
     pub fn all_on_one(&mut self, what: &str) {
+        self.next(what);
         self.naming(what, 1);
         self.create(what, b"Kites");
         self.check(what);

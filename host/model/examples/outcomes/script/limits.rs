@@ -1,7 +1,9 @@
-//! What a store can hold: fields (12), bytes of the MST (13) and MFNs (5).
+//! What a store can hold: fields (12), bytes of the MST (13) and MFNs (5); and what lists
+//! can hold (17).
 
 use super::card::Card;
 use model::OwnedDraft;
+use model::ask::Room;
 
 pub fn run(card: &mut Card) {
     fields(card);
@@ -36,7 +38,21 @@ fn fields(card: &mut Card) {
     for index in [0, 1, 2, 3, 4, 5, usize::MAX] {
         card.field(&format!("index {index}"), 1, index);
     }
+    for room in ROOMS {
+        card.fields(&format!("five fields in {room:?}"), 1, room);
+    }
 }
+
+/// 17: lengths of lists about five fields.
+const ROOMS: [Room; 7] = [
+    [5, 5, 5],
+    [6, 7, 8],
+    [4, 5, 5],
+    [5, 4, 5],
+    [5, 5, 4],
+    [4, 4, 4],
+    [0, 0, 0],
+];
 
 /// 12: the settled version of MFN 1, and MFN 2 of no fields.
 fn settled_fields(card: &mut Card) {
@@ -52,9 +68,16 @@ fn settled_fields(card: &mut Card) {
         card.field(&what, 1, index);
         card.settled_field(&what, 1, index);
     }
+    for room in ROOMS {
+        let what = format!("one field over five, in {room:?}");
+        card.fields(&what, 1, room);
+        card.settled_fields(&what, 1, room);
+    }
     card.create_of("no fields", &OwnedDraft::default().lent());
     card.view("no fields", 2);
     card.field("no fields", 2, 0);
+    card.fields("no fields in empty lists", 2, [0; 3]);
+    card.next("no fields");
     card.check("no fields");
 }
 
@@ -80,6 +103,7 @@ fn ends(card: &mut Card) {
         card.formatted();
         card.create(&what, &vec![b'x'; length - 24]);
         card.state(&what, 0..16);
+        card.next(&what);
     }
     card.check("436 bytes at 64");
 }
@@ -92,6 +116,7 @@ pub fn capacity(card: &mut Card) {
     }
     card.create("126 records", b"Kite");
     card.view("127 records", 127);
+    card.next("127 records");
     card.create("127 records", b"Kite");
     card.check("127 records");
 }

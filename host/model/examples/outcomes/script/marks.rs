@@ -15,6 +15,7 @@ fn new(card: &mut Card) {
     card.settled_view("new", 1);
     card.field("new", 1, 0);
     card.settled_field("new", 1, 0);
+    card.told("new", 1);
     card.revert("new", 1);
     card.update("new, in place", 1, b"Wind");
     card.state("new, in place", 64..92);
@@ -31,6 +32,7 @@ fn new_deleted(card: &mut Card) {
     card.settled_view("new, deleted", 1);
     card.field("new, deleted", 1, 0);
     card.settled_field("new, deleted", 1, 0);
+    card.told("new, deleted", 1);
     card.update("new, deleted", 1, b"Kit");
     card.delete("new, deleted", 1);
     card.revert("new, deleted", 1);
@@ -43,6 +45,7 @@ fn new_deleted(card: &mut Card) {
 fn settled(card: &mut Card) {
     card.settled_record().view("settled", 1);
     card.settled_view("settled", 1);
+    card.told("settled", 1);
     card.settle("settled", 1);
     card.revert("settled", 1);
     card.delete("settled", 1);
@@ -50,6 +53,7 @@ fn settled(card: &mut Card) {
     card.settled_view("settled, then deleted", 1);
     card.field("settled, then deleted", 1, 0);
     card.settled_field("settled, then deleted", 1, 0);
+    card.told("settled, then deleted", 1);
     card.settle("settled, then deleted", 1);
     card.state("settled, then deleted", 92..120);
     card.check("settled, then deleted");
@@ -65,6 +69,7 @@ fn changed(card: &mut Card) {
     card.settled_view("changed, at the end", 1);
     card.field("changed, at the end", 1, 0);
     card.settled_field("changed, at the end", 1, 0);
+    card.told("changed, at the end", 1);
     card.settle("changed, at the end", 1);
     card.state("changed, settled", 122..162);
     card.check("changed, settled");
@@ -75,6 +80,7 @@ fn changed_deleted(card: &mut Card) {
     card.state("changed, deleted", 92..122);
     card.view("changed, deleted", 1);
     card.settled_view("changed, deleted", 1);
+    card.told("changed, deleted", 1);
     card.update("changed, deleted", 1, b"Kit");
     card.delete("changed, deleted", 1);
     card.check("changed, deleted");

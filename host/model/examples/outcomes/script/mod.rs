@@ -10,6 +10,7 @@ mod order;
 mod records;
 mod refusals;
 mod soundness_faults;
+mod telling;
 mod worked_run;
 
 use card::Card;

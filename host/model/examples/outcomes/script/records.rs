@@ -67,6 +67,7 @@ fn settled_version(card: &mut Card) {
         card.settled_view(what, 1);
         card.field(what, 1, 0);
         card.settled_field(what, 1, 0);
+        card.told(what, 1);
         card.revert(what, 1);
         card.check(what);
     }

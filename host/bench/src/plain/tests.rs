@@ -1,0 +1,117 @@
+//! What is timed does the model's work.
+
+use super::called;
+use model::ask::{Lists, Room};
+use model::call::{Call, Outcome, Shown, on_bytes};
+use model::lists::{self, Taste};
+use model::random::Random;
+
+/// The outcome of a call in plain safe Rust.
+fn run(mst: &mut [u8], xrf: &mut [u8], call: &Call) -> (Outcome, Shown) {
+    let mut outcome = Outcome::default();
+    outcome.number = match call {
+        Call::Format => called::format(mst, xrf),
+        Call::Check => called::check(mst, xrf),
+        Call::Delete(mfn) => called::delete(mst, xrf, *mfn),
+        Call::Settle(mfn) => called::settle(mst, xrf, *mfn),
+        Call::Revert(mfn) => called::revert(mst, xrf, *mfn),
+        Call::Update(mfn, draft) => called::update(mst, xrf, *mfn, &draft.lent()),
+        Call::Create(draft) => {
+            let number;
+            (number, outcome.mfn) = called::create(mst, xrf, &draft.lent());
+            number
+        }
+        Call::Next => {
+            let number;
+            (number, outcome.mfn, outcome.end) = called::next(mst, xrf);
+            number
+        }
+        Call::State(mfn) => {
+            let number;
+            (number, outcome.mark, outcome.deleted) = called::state(mst, xrf, *mfn);
+            number
+        }
+        Call::Fields { room, .. } | Call::FieldsSettled { room, .. } => {
+            return listed(mst, xrf, call, *room);
+        }
+        _ => return shown(mst, xrf, call),
+    };
+    (outcome, Shown::default())
+}
+
+/// The outcome of the calls that show a field.
+fn shown(mst: &[u8], xrf: &[u8], call: &Call) -> (Outcome, Shown) {
+    let untagged = |(number, start, len)| (number, 0, start, len);
+    let (number, tag, start, len) = match *call {
+        Call::View {
+            mfn,
+            tag,
+            occurrence,
+        } => untagged(called::view(mst, xrf, mfn, tag, occurrence)),
+        Call::ViewSettled {
+            mfn,
+            tag,
+            occurrence,
+        } => untagged(called::view_settled(mst, xrf, mfn, tag, occurrence)),
+        Call::Field { mfn, index } => called::field(mst, xrf, mfn, index),
+        Call::FieldSettled { mfn, index } => called::field_settled(mst, xrf, mfn, index),
+        _ => unreachable!("only calls that show a field come here"),
+    };
+    let part = start..start + len;
+    let outcome = Outcome {
+        number,
+        tag,
+        field: mst[part.clone()].to_vec(),
+        ..Outcome::default()
+    };
+    let lists = Lists::default();
+    (outcome, Shown { part, lists })
+}
+
+/// The outcome of the calls that hand out all fields.
+fn listed(mst: &[u8], xrf: &[u8], call: &Call, room: Room) -> (Outcome, Shown) {
+    let mut lists = Lists::lent(room);
+    let (number, count) = match *call {
+        Call::Fields { mfn, .. } => called::fields(mst, xrf, mfn, &mut lists),
+        Call::FieldsSettled { mfn, .. } => called::fields_settled(mst, xrf, mfn, &mut lists),
+        _ => unreachable!("only calls for all fields come here"),
+    };
+    let outcome = Outcome {
+        number,
+        fields: lists.fields(mst, count),
+        ..Outcome::default()
+    };
+    let part = 0..0;
+    (outcome, Shown { part, lists })
+}
+
+/// On lists from format, damaged now and then.
+#[test]
+fn the_plain_program_does_the_same_as_the_model() {
+    for seed in 0..400 {
+        let mut random = Random::new(seed);
+        let (mut mst, mut xrf) = (vec![0; 2048], vec![0; 512]);
+        let (mut model_mst, mut model_xrf) = (mst.clone(), xrf.clone());
+        let mut call = Call::Format;
+        for step in 0..150 {
+            let wanted = on_bytes(&mut model_mst, &mut model_xrf, &call);
+            assert_eq!(
+                run(&mut mst, &mut xrf, &call),
+                wanted,
+                "{seed}, {step}: {call:?}"
+            );
+            assert!(
+                mst == model_mst && xrf == model_xrf,
+                "{seed}, {step}: {call:?}"
+            );
+            if seed % 2 == 1 && random.one_in(10) {
+                let (at, bit) = (random.between(4, 400), 1 << random.below(8));
+                mst[at] ^= bit;
+                model_mst[at] ^= bit;
+                xrf[at % 40] ^= bit;
+                model_xrf[at % 40] ^= bit;
+            }
+            call = lists::any_call(&mut random, Taste::SHORT, 12);
+        }
+    }
+}
