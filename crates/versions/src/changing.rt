@@ -15,11 +15,12 @@ ghost use Rattle.record.specs.Bytes.{needFor};
 ghost use Rattle.store.specs.Reading.{leaderAt, currentFields};
 ghost use Rattle.versions.specs.Written.{appended, placeAtEnd, pendingMark, versionLeader, versionAppended, versionInPlace};
 ghost use Rattle.versions.specs.Asked.{HasSlot, AtEnd, DraftFits, RecordRead};
+ghost use Rattle.layout.specs.Sizes.{fieldsMost, recordMost};
 
 // The need of the fields of a record that was found.
 pub fn own_need(mst: &[u8], end: usize, place: Place, leader: Leader) -> usize
     requires { ⌜ RecordRead (now mst) end place leader ⌝ }
-    ensures { λ r. ⌜ (r ≡ needFor (currentFields (now (mst .entry)) place)) × (18 ≤ r) × (r ≤ 32766) ⌝ }
+    ensures { λ r. ⌜ (r ≡ needFor (currentFields (now (mst .entry)) place)) × (18 ≤ r) × (r ≤ recordMost) ⌝ }
 {
     let at = layout::entry::place_address(place);
     record::draft::need(
@@ -37,7 +38,7 @@ fn version_leader(
     deleted: bool,
     nvf: u16,
 ) -> Leader
-    requires { ⌜ nvf ≤ 5458 ⌝ }
+    requires { ⌜ nvf ≤ fieldsMost ⌝ }
     ensures is { λ r. ⌜ r ≡ versionLeader (m .0) place leader mfrl deleted nvf ⌝ }
     ensures mfrl { λ r. ⌜ r .mfrl ≡ mfrl ⌝ }
 {

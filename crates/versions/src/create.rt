@@ -9,7 +9,7 @@ ghost use mathlib.Core.Bool.{true};
 ghost use Prim.Native.Nat.{_+_, _/_, _%_, _≤_};
 ghost use lib.ListN.{length};
 ghost use Rattle.layout.specs.Control.{nextOf};
-ghost use Rattle.layout.specs.Sizes.{blockAt, offsetAt};
+ghost use Rattle.layout.specs.Sizes.{mfnMost, mstMost, blockAt, offsetAt};
 ghost use Rattle.layout.specs.Entry.{placed};
 ghost use Rattle.record.specs.Draft.{needOf, draftRight, draftFields};
 ghost use Rattle.versions.specs.Written.{appended, createdMst, createdXrf};
@@ -17,7 +17,7 @@ ghost use Rattle.versions.specs.Asked.{HasSlot, AtEnd, DraftFits};
 
 // The place at the end.
 pub(crate) fn end_place(end: usize, deleted: bool, mark: Mark) -> Place
-    requires { ⌜ end ≤ 536870400 ⌝ }
+    requires { ⌜ end ≤ mstMost ⌝ }
     ensures is { λ r. ⌜ r ≡ placed (blockAt end) (offsetAt end) deleted mark ⌝ }
     ensures numbers { λ r. ⌜ (r .block .0 ≡ end / 512 + 1) × (r .offset ≡ end % 512) ⌝ }
 {
@@ -58,7 +58,7 @@ pub fn create_at_end(
     lens: &[u16],
     data: &[u8],
 )
-    requires { ⌜ (HasSlot (now xrf) (next .0)) × (next .0 ≡ nextOf (now mst)) × (next .0 ≤ 520192) ⌝ }
+    requires { ⌜ (HasSlot (now xrf) (next .0)) × (next .0 ≡ nextOf (now mst)) × (next .0 ≤ mfnMost) ⌝ }
     requires { ⌜ (AtEnd (now mst) end need) × (need ≡ needOf (length (now tags)) (length (now «data»))) ⌝ }
     requires { ⌜ DraftFits (now tags) (now lens) (now «data») ⌝ }
     ensures master { λ _. ⌜ now (mst .exit) ≡ createdMst (now (mst .entry)) (draftFields (now (tags .entry)) (now (lens .entry)) (now («data» .entry))) ⌝ }

@@ -15,6 +15,7 @@ ghost use Rattle.writing.specs.Refusals.{updateAnswer, deleteAnswer};
 ghost use Rattle.writing.specs.Calls.{updateLeaves, deleteLeaves};
 ghost use Rattle.writing.specs.Plans.{planAnswer, updatePlan, deletePlan, roomPlan};
 ghost use Rattle.store.specs.Store.{store, draft};
+ghost use Rattle.layout.specs.Sizes.{mstMost};
 
 // Where a new version goes, at the end or in place, or the refusal. One variant carries all, so that it stays at one place in memory.
 pub enum Plan {
@@ -51,7 +52,7 @@ fn plan_room(
     place: Place,
     leader: Leader,
 ) -> Plan
-    requires { ⌜ (end ≤ 536870400) × (need ≤ 65536) ⌝ }
+    requires { ⌜ (end ≤ mstMost) × (need ≤ 65536) ⌝ }
     ensures { λ r. ⌜ r ≡ roomPlan room end need appends place leader ⌝ }
 {
     if appends {
