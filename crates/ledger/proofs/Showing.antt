@@ -7,7 +7,7 @@ use Rattle.word.specs.Overwrite.{part}
 use Rattle.layout.specs.declared.leader.Leader.{Leader}
 use Rattle.record.specs.Fields.{Field, fieldsOf, fieldNamed, findOf, foundBytes}
 use Rattle.record.specs.declared.fields.Found.{Found}
-use Rattle.record.specs.declared.fields.Found.the-variants.{At, Missing}
+use Rattle.record.specs.declared.fields.Found.the-variants.{Span, Missing}
 use Rattle.record.proofs.Local.{ReadsAs}
 use Rattle.record.proofs.Search.{find-field-is}
 use Rattle.record.proofs.Find.{reads-found, reads-missing}
@@ -15,7 +15,7 @@ use Rattle.views.specs.Views.{isMissing, foundStart, foundLength}
 use Rattle.ledger.specs.LedgerAnswers.{isNone, bytesOf}
 
 missing-found : (rec : List ℕ) (f : Found) → isMissing f ≡ isNone (foundBytes rec f)
-missing-found rec (At start len) = refl
+missing-found rec (Span start len) = refl
 missing-found rec Missing = refl
 
 -- a field that is not found is not among the fields
@@ -28,5 +28,5 @@ pub shown-done : (d : List ℕ) (at n : ℕ) {m : ℕ} {deleted : Bool} {l : Lea
 shown-done d at n {fs = fs} r tag occ = go (findOf (part d at n) tag occ) refl
   where
     go : (f : Found) → findOf (part d at n) tag occ ≡ f → part d (at + foundStart f) (foundLength f) ≡ bytesOf (fieldNamed fs tag occ)
-    go (At start len) e = rw (reads-found d at n r tag occ start len e)
+    go (Span start len) e = rw (reads-found d at n r tag occ start len e)
     go Missing e = rw (reads-missing r tag occ e)
