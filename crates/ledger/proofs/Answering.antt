@@ -15,15 +15,17 @@ use Rattle.layout.specs.declared.entry.Place.{Place}
 use Rattle.layout.specs.declared.entry.Entry.the-variants.{Gone, At}
 use Rattle.record.specs.Fields.{fieldsOf}
 use Rattle.record.specs.Bytes.{needFor}
-use Rattle.store.specs.Reading.{mfnInRange, entryFor, isSettled, isChanged, isNew, recordAt, leaderAt, settledRecord, shownSettled, currentFields}
+use Rattle.store.specs.Reading.{mfnInRange, entryFor, isMalformed, isGone, isSettled, isChanged, isNew, recordAt, leaderAt, recordFine, settledRecord, versionFine, shownSettled, currentFields}
+use Rattle.store.specs.Refusals.{fine, bothFine}
+use Rattle.store.specs.declared.answer.Answer.{Answer}
 use Rattle.writing.specs.Refusals.{exceeds, formatAnswer, createAnswer, updateAnswer, deleteAnswer, settleAnswer, revertAnswer}
 use Rattle.versions.specs.Written.{updateAppends}
 use Rattle.views.specs.Views.{viewAnswer, settledViewAnswer}
-use Rattle.store.specs.declared.answer.Answer.the-variants.{Done, BadDraft, NoSlot, BadEntry, NoRoom}
+use Rattle.store.specs.declared.answer.Answer.the-variants.{Done, BadDraft, NoMfn, NoSlot, BadEntry, Gone as GoneAnswer, BadRecord, NoRoom}
 use Rattle.soundness.specs.Sound.{bodySound, checkAnswer}
 use Rattle.store.specs.Store.{Store, Draft, isRight, fieldsIn}
 use Rattle.ledger.specs.Call.{format, view, viewSettled, create, update, delete, settle, revert, check}
-use Rattle.ledger.specs.Ledger.{gone, held, itemOf, isSettledMark, isNewMark, settledOr}
+use Rattle.ledger.specs.Ledger.{gone, held, mfnIn, itemOf, isGoneItem, isSettledMark, isNewMark, settledOr}
 use Rattle.ledger.specs.LedgerAnswers.{overfull, appends, refusalsL, numberL}
 use Rattle.ledger.specs.LedgerOf.{markingAt, itemFor, ledgerOf}
 use Rattle.ledger.proofs.Reading.{Opened, Seen, absent, physically, present, next-is, lengths-are, mfn-is, item-is}
@@ -75,74 +77,75 @@ module _ (s : Store) (o : Opened s) where
   unfolding formatAnswer numberL refusalsL
   format-answer = rw (o .lengths, lengths-are s o)
 
-  pub view-answer : (m tag occ : ℕ) → Seen s m → viewAnswer s m tag occ ≡ numberL (ledgerOf s) (view m tag occ)
-  unfolding viewAnswer numberL refusalsL
-  view-answer m tag occ (absent k) = rw (o .lengths, o .control, lengths-are s o, mfn-is s o m, k)
-  view-answer m tag occ (physically k e) = rw (o .lengths, o .control, lengths-are s o, mfn-is s o m, k, e, item-gone m k e)
-  view-answer m tag occ (present p k e f v) =
-      rw (o .lengths, o .control, lengths-are s o, mfn-is s o m, k, e, f, item-at m p k e, missing-is (recordAt (s .mst) p) tag occ)
+  -- ---- calls that name an MFN: 4 and 7 are read the same, 6 and 8 do not apply, and x and y stand for the rows behind them
 
-  pub settled-view-answer : (m tag occ : ℕ) → Seen s m → settledViewAnswer s m tag occ ≡ numberL (ledgerOf s) (viewSettled m tag occ)
-  unfolding settledViewAnswer numberL refusalsL
-  settled-view-answer m tag occ (absent k) = rw (o .lengths, o .control, lengths-are s o, mfn-is s o m, k)
-  settled-view-answer m tag occ (physically k e) = rw (o .lengths, o .control, lengths-are s o, mfn-is s o m, k, e, item-gone m k e)
-  settled-view-answer m tag occ (present p k e f v) =
-      rw (
-        o .lengths,
-        o .control,
-        lengths-are s o,
-        mfn-is s o m,
-        k,
-        e,
-        f,
-        v,
-        item-at m p k e,
-        settled-mark (s .mst) p (p .mark),
-        new-mark (s .mst) p (p .mark),
-        settled-fields (s .mst) p (p .mark),
-        missing-is (shownSettled (s .mst) p) tag occ,
-      )
+  module _ (m : ℕ) (w : Seen s m) where
+    shared : (ok : Bool) (x y : Answer) → ((p : Place) → entryFor s m ≡ At p → recordFine (s .mst) m p ≡ true → versionFine (s .mst) m p ≡ true → ok ≡ true)
+        → ((p : Place) → mfnInRange (s .mst) m ≡ true → entryFor s m ≡ At p → x ≡ y)
+        → cond (not (mfnInRange (s .mst) m)) NoMfn (cond (isMalformed (entryFor s m)) BadEntry (cond (isGone (entryFor s m)) GoneAnswer (cond (not ok) BadRecord x)))
+        ≡ cond (not (mfnIn (ledgerOf s) m)) NoMfn (cond (isGoneItem (itemOf (ledgerOf s) m)) GoneAnswer y)
+    shared ok x y fits same = go w
+      where
+        go : Seen s m
+            → cond (not (mfnInRange (s .mst) m)) NoMfn (cond (isMalformed (entryFor s m)) BadEntry (cond (isGone (entryFor s m)) GoneAnswer (cond (not ok) BadRecord x)))
+            ≡ cond (not (mfnIn (ledgerOf s) m)) NoMfn (cond (isGoneItem (itemOf (ledgerOf s) m)) GoneAnswer y)
+        go (absent k) = rw (mfn-is s o m, k)
+        go (physically k e) = rw (mfn-is s o m, k, e, item-gone m k e)
+        go (present p k e f v) = rw (mfn-is s o m, k, e, fits p e f v, item-at m p k e) (same p k e)
 
-  pub update-answer : (m : ℕ) (d : Draft) → Seen s m → updateAnswer s m d ≡ numberL (ledgerOf s) (update m d)
-  unfolding updateAnswer numberL refusalsL updateAppends
-  update-answer m d (absent k) = rw (o .lengths, o .control, lengths-are s o, mfn-is s o m, k)
-  update-answer m d (physically k e) = rw (o .lengths, o .control, lengths-are s o, mfn-is s o m, k, e, item-gone m k e)
-  update-answer m d (present p k e f v) =
-      rw (
-        o .lengths,
-        o .control,
-        lengths-are s o,
-        mfn-is s o m,
-        k,
-        e,
-        f,
-        item-at m p k e,
-        appends-is (s .mst) p (p .mark) (needFor (fieldsIn d)),
-        room-is (needFor (fieldsIn d)),
-      )
+    fine-fits : (p : Place) → entryFor s m ≡ At p → recordFine (s .mst) m p ≡ true → versionFine (s .mst) m p ≡ true → fine s m ≡ true
+    fine-fits p e f v = rw (e, f)
 
-  pub delete-answer : (m : ℕ) → Seen s m → deleteAnswer s m ≡ numberL (ledgerOf s) (delete m)
-  unfolding deleteAnswer numberL refusalsL
-  delete-answer m (absent k) = rw (o .lengths, o .control, lengths-are s o, mfn-is s o m, k)
-  delete-answer m (physically k e) = rw (o .lengths, o .control, lengths-are s o, mfn-is s o m, k, e, item-gone m k e)
-  delete-answer m (present p k e f v) =
-      rw
-      (o .lengths, o .control, lengths-are s o, mfn-is s o m, k, e, f, item-at m p k e, settled-mark (s .mst) p (p .mark), room-is (needFor (currentFields (s .mst) p)))
+    both-fit : (p : Place) → entryFor s m ≡ At p → recordFine (s .mst) m p ≡ true → versionFine (s .mst) m p ≡ true → bothFine s m ≡ true
+    both-fit p e f v = rw (e, f, v)
 
-  pub settle-answer : (m : ℕ) → Seen s m → settleAnswer s m ≡ numberL (ledgerOf s) (settle m)
-  unfolding settleAnswer numberL refusalsL
-  settle-answer m (absent k) = rw (o .lengths, o .control, lengths-are s o, mfn-is s o m, k)
-  settle-answer m (physically k e) = rw (o .lengths, o .control, lengths-are s o, mfn-is s o m, k, e, item-gone m k e)
-  settle-answer m (present p k e f v) =
-      rw (o .lengths, o .control, lengths-are s o, mfn-is s o m, k, e, f, item-at m p k e, settled-mark (s .mst) p (p .mark))
+    pub view-answer : (tag occ : ℕ) → viewAnswer s m tag occ ≡ numberL (ledgerOf s) (view m tag occ)
+    unfolding viewAnswer numberL refusalsL
+    view-answer tag occ =
+        rw (o .lengths, o .control, lengths-are s o)
+        (shared (fine s m) _ _ fine-fits (λ p k e. rw (e, item-at m p k e, missing-is (recordAt (s .mst) p) tag occ)))
 
-  pub revert-answer : (m : ℕ) → Seen s m → revertAnswer s m ≡ numberL (ledgerOf s) (revert m)
-  unfolding revertAnswer numberL refusalsL
-  revert-answer m (absent k) = rw (o .lengths, o .control, lengths-are s o, mfn-is s o m, k)
-  revert-answer m (physically k e) = rw (o .lengths, o .control, lengths-are s o, mfn-is s o m, k, e, item-gone m k e)
-  revert-answer m (present p k e f v) =
-      rw
-      (o .lengths, o .control, lengths-are s o, mfn-is s o m, k, e, f, v, item-at m p k e, settled-mark (s .mst) p (p .mark), new-mark (s .mst) p (p .mark))
+    pub settled-view-answer : (tag occ : ℕ) → settledViewAnswer s m tag occ ≡ numberL (ledgerOf s) (viewSettled m tag occ)
+    unfolding settledViewAnswer numberL refusalsL
+    settled-view-answer tag occ =
+        rw (o .lengths, o .control, lengths-are s o)
+        (shared (bothFine s m) _ _ both-fit
+        (λ p k e.
+        rw (
+          e,
+          item-at m p k e,
+          settled-mark (s .mst) p (p .mark),
+          new-mark (s .mst) p (p .mark),
+          settled-fields (s .mst) p (p .mark),
+          missing-is (shownSettled (s .mst) p) tag occ,
+        )))
+
+    pub update-answer : (d : Draft) → updateAnswer s m d ≡ numberL (ledgerOf s) (update m d)
+    unfolding updateAnswer numberL refusalsL updateAppends
+    update-answer d =
+        rw (o .lengths, o .control, lengths-are s o)
+        (ap (λ (a : Answer). cond (not (isRight d)) BadDraft a)
+        (shared (fine s m) _ _ fine-fits
+        (λ p k e. rw (e, item-at m p k e, appends-is (s .mst) p (p .mark) (needFor (fieldsIn d)), room-is (needFor (fieldsIn d))))))
+
+    pub delete-answer : deleteAnswer s m ≡ numberL (ledgerOf s) (delete m)
+    unfolding deleteAnswer numberL refusalsL
+    delete-answer =
+        rw (o .lengths, o .control, lengths-are s o)
+        (shared (fine s m) _ _ fine-fits
+        (λ p k e. rw (e, item-at m p k e, settled-mark (s .mst) p (p .mark), room-is (needFor (currentFields (s .mst) p)))))
+
+    pub settle-answer : settleAnswer s m ≡ numberL (ledgerOf s) (settle m)
+    unfolding settleAnswer numberL refusalsL
+    settle-answer =
+        rw (o .lengths, o .control, lengths-are s o)
+        (shared (fine s m) _ _ fine-fits (λ p k e. rw (e, item-at m p k e, settled-mark (s .mst) p (p .mark))))
+
+    pub revert-answer : revertAnswer s m ≡ numberL (ledgerOf s) (revert m)
+    unfolding revertAnswer numberL refusalsL
+    revert-answer =
+        rw (o .lengths, o .control, lengths-are s o)
+        (shared (bothFine s m) _ _ both-fit (λ p k e. rw (e, item-at m p k e, settled-mark (s .mst) p (p .mark), new-mark (s .mst) p (p .mark))))
 
   -- create, whose row 6 does not apply below the capacity
   pub create-answer : (d : Draft)

@@ -12,7 +12,7 @@ use Rattle.record.specs.Fields.{Field}
 use Rattle.ledger.specs.Call.{Call, format, settle, revert}
 use Rattle.ledger.specs.Ledger.{Marking, new, changed, Item, held, Ledger, nextMfn, lengthsFine, itemOf, keptFields, keptMark, isNewMark}
 use Rattle.ledger.specs.LedgerSteps.{Effect, itemSet, itemAdded, applied, lengthWith, versionMark, version, endWith, effectOf, nextL, afterL}
-use Rattle.ledger.specs.History.{Every, none, more, LeavesPending, LeavesNew}
+use Rattle.ledger.specs.History.{Every, every-none, every-more, LeavesPending, LeavesNew}
 use Rattle.ledger.proofs.Effects.{Known, Does, reads, empties, adds, changes, settles, reverts, after-call, set-long, set-own, set-other, added-long, added-other}
 
 -- MFN m is there, under a mark of some kind
@@ -103,8 +103,8 @@ module _ (P : Marking → Type 0) (keeps : (fs : List Field) (k : Marking) (n : 
 pub marked-through : {P : Marking → Type 0} {Q : Call → Type 0} {m : ℕ} → ((L : Ledger) → Marked P m L → (c : Call) → Q c → Marked P m (nextL L c))
     → (L : Ledger) → Marked P m L → (cs : List Call) → Every Q cs → Marked P m (afterL L cs)
 unfolding afterL
-marked-through f L w [] none = w
-marked-through f L w (c ∷ cs) (more q qs) = marked-through f (nextL L c) (f L w c q) cs qs
+marked-through f L w [] every-none = w
+marked-through f L w (c ∷ cs) (every-more q qs) = marked-through f (nextL L c) (f L w c q) cs qs
 
 -- ---- the two kinds
 

@@ -16,7 +16,7 @@ use Rattle.ledger.specs.LedgerSteps.{nextL, afterL}
 use Rattle.ledger.specs.StoreRun.{answerS, nextS, afterS}
 use Rattle.ledger.specs.LedgerOf.{markingAt, ledgerOf, SoundStore}
 use Rattle.ledger.specs.Demand3.{Kept}
-use Rattle.ledger.specs.History.{Every, none, more, LiveSettled, UpdatesOrDeletes, LeavesPending, SettledVersion, LeavesNew, NeverSettledYet}
+use Rattle.ledger.specs.History.{Every, every-none, every-more, LiveSettled, UpdatesOrDeletes, LeavesPending, SettledVersion, LeavesNew, NeverSettledYet}
 use Rattle.ledger.proofs.Reading.{lengths-are, mfn-is}
 use Rattle.ledger.proofs.Answering.{item-at}
 use Rattle.ledger.proofs.Theorem.{opened, step, answers-are-the-ledgers}
@@ -58,8 +58,8 @@ module _ (s : Store) (h : SoundStore s) where
 
 -- the calls before others
 every-front : {P : Call → Type 0} (done rest : List Call) → Every P (done ++ rest) → Every P done
-every-front [] rest e = none
-every-front (c ∷ done) rest (more q qs) = more q (every-front done rest qs)
+every-front [] rest e = every-none
+every-front (c ∷ done) rest (every-more q qs) = every-more q (every-front done rest qs)
 
 -- ---- THE SETTLED VERSION, WHATEVER WAS DONE BETWEEN
 

@@ -94,7 +94,7 @@ module _ (t : Store) (h : SoundStore t) where
       written (create d) (createAnswer t d) _ (create-answer t opened d (λ e. create-row s (below-capacity s e))) (create-gives d) refl
       (λ e. create-left (t .mst) (t .xrf) d s (create-asked s d e))
   step (update m d) =
-      written (update m d) (updateAnswer t m d) _ (update-answer t opened m d (see m)) refl refl
+      written (update m d) (updateAnswer t m d) _ (update-answer t opened m (see m) d) refl refl
       (λ e.
       let a = update-asked s m d e in
       update-left (t .mst) (t .xrf) s m opened (a .here) d (draft-draftable (d .tags) (d .lens) (d .bytes) (a .draft)) (a .live) (a .room))

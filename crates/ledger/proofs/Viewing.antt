@@ -82,8 +82,8 @@ module _ (s : Store) (o : Opened s) where
   pub view-outcome : (m tag occ : ℕ) → Seen s m → answerS s (view m tag occ) ≡ answerL (ledgerOf s) (view m tag occ)
   unfolding answerS answerL givesL viewOf shownAt
   view-outcome m tag occ w =
-      same-outcome _ _ _ _ (view-answer s o m tag occ w)
-      (view-shown m tag occ w ∙ ap (λ (a : Answer). after a (bytesOf (fieldNamed (keptFields (itemOf (ledgerOf s) m)) tag occ)) []) (view-answer s o m tag occ w))
+      same-outcome _ _ _ _ (view-answer s o m w tag occ)
+      (view-shown m tag occ w ∙ ap (λ (a : Answer). after a (bytesOf (fieldNamed (keptFields (itemOf (ledgerOf s) m)) tag occ)) []) (view-answer s o m w tag occ))
 
   -- the record of the settled view, by the mark
   version-shown : (m tag occ : ℕ) (p : Place) → recordFine (s .mst) m p ≡ true → versionFine (s .mst) m p ≡ true → (k : Mark) → p .mark ≡ k
@@ -122,7 +122,7 @@ module _ (s : Store) (o : Opened s) where
   pub settled-view-outcome : (m tag occ : ℕ) → Seen s m → answerS s (viewSettled m tag occ) ≡ answerL (ledgerOf s) (viewSettled m tag occ)
   unfolding answerS answerL givesL settledViewOf shownAt
   settled-view-outcome m tag occ w =
-      same-outcome _ _ _ _ (settled-view-answer s o m tag occ w)
+      same-outcome _ _ _ _ (settled-view-answer s o m w tag occ)
       (settled-shown m tag occ w
       ∙ ap (λ (a : Answer). after a (bytesOf (fieldNamed (settledFields (itemOf (ledgerOf s) m)) tag occ)) [])
-      (settled-view-answer s o m tag occ w))
+      (settled-view-answer s o m w tag occ))

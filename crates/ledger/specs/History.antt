@@ -23,8 +23,8 @@ use Rattle.ledger.specs.LedgerOf.{ledgerOf}
 
 -- every call of a list
 pub data Every (P : Call → Type 0) : List Call → Type 0 where
-  none : Every P []
-  more : {c : Call} {cs : List Call} → P c → Every P cs → Every P (c ∷ cs)
+  every-none : Every P []
+  every-more : {c : Call} {cs : List Call} → P c → Every P cs → Every P (c ∷ cs)
 
 -- ---- the settled version, whatever was done between
 
@@ -101,19 +101,19 @@ RoomOf s c atEnd need = RoomRule (answerS s c .answer) (refusalsL (ledgerOf s) c
 -- ---- answers that never come
 
 -- the numbers that a call never answers in a list from format: for document 01's own calls, 1, 2, 6, 7, 8 and 14
-abbrev pub own : List ℕ
-own = 1 ∷ 2 ∷ 6 ∷ 7 ∷ 8 ∷ 14 ∷ []
+abbrev pub neverOwn : List ℕ
+neverOwn = 1 ∷ 2 ∷ 6 ∷ 7 ∷ 8 ∷ 14 ∷ []
 
 abbrev pub neverFrom : Call → List ℕ
-neverFrom format = own
-neverFrom (view m tag occ) = own
-neverFrom (viewSettled m tag occ) = own
-neverFrom (create d) = own
-neverFrom (update m d) = own
-neverFrom (delete m) = own
-neverFrom (settle m) = own
-neverFrom (revert m) = own
-neverFrom check = own
+neverFrom format = neverOwn
+neverFrom (view m tag occ) = neverOwn
+neverFrom (viewSettled m tag occ) = neverOwn
+neverFrom (create d) = neverOwn
+neverFrom (update m d) = neverOwn
+neverFrom (delete m) = neverOwn
+neverFrom (settle m) = neverOwn
+neverFrom (revert m) = neverOwn
+neverFrom check = neverOwn
 
 abbrev pub among : ℕ → List ℕ → Bool
 among n [] = false
