@@ -100,20 +100,19 @@ entry-in rec room (suc k) i pos (suc j) d h =
     let e : i + suc j ≡ i + 1 + j = omega arith in
     rw e (entry-in rec room k (i + 1) (pos + lenAt rec i) j (f .rest) (omega arith))
 
-module _ (rec : List ℕ) (i : ℕ) (s : AtField rec i) where
+module _ (rec : List ℕ) (i : ℕ) (r : Readable rec) (h : i < leaderOf rec .nvf) where
   pub field-in : leaderOf rec .base + posAt rec i + lenAt rec i ≤ leaderOf rec .mfrl
   field-in =
-      let r : Readable rec = s .readable in
       let room : ℕ = leaderOf rec .mfrl - leaderOf rec .base in
-      let e : posAt rec i + lenAt rec i ≤ room = simp zero-add at (entry-in rec room (leaderOf rec .nvf) 0 0 i (r .directory) (s .listed)) in
+      let e : posAt rec i + lenAt rec i ≤ room = simp zero-add at (entry-in rec room (leaderOf rec .nvf) 0 0 i (r .directory) h) in
       omega (arith, r .base-in)
 
   -- the index after it is a number that a walker can hold
   pub next-fits : i + 1 < 2 ^ 64
-  next-fits = omega (arith, s .listed, s .readable .base-is, s .readable .base-in, s .readable .short)
+  next-fits = omega (arith, h, r .base-is, r .base-in, r .short)
 
   pub entry-within : 24 + 6 * i ≤ length rec
-  entry-within = omega (arith, s .listed, s .readable .base-is, s .readable .base-in, s .readable .record-in)
+  entry-within = omega (arith, h, r .base-is, r .base-in, r .record-in)
 
 -- so does every field that a walk hands out
 abbrev pub Within : ℕ → List Spot → Type 0
@@ -135,7 +134,7 @@ spots-within rec r = before (leaderOf rec .nvf) (le-refl _)
     before zero h = none-within rec (leaderOf rec .mfrl)
     before (suc k) h =
         rw (← add-one k, ← before-more rec k)
-        (within-snoc (leaderOf rec .mfrl) (spotsBefore rec k) (spotAt rec k) (before k (omega arith)) (field-in rec k (record { readable = r; listed = omega arith })))
+        (within-snoc (leaderOf rec .mfrl) (spotsBefore rec k) (spotAt rec k) (before k (omega arith)) (field-in rec k r (omega arith)))
 
 walked-cases : (b : Bool) (t tag : Tag) (s l start len : ℕ) → cond b End (FieldHere t s l) ≡ FieldHere tag start len
     → (b ≡ false) × (s ≡ start) × (l ≡ len)
@@ -147,7 +146,7 @@ pub walked-in : (rec : List ℕ) (i : ℕ) (tag : Tag) (start len : ℕ) → Rea
 unfolding walkedAt
 walked-in rec i tag start len r p =
     let q = walked-cases (atEnd rec i) _ tag _ _ start len p in
-    omega (arith, q, field-in rec i (record { readable = r; listed = leb-false _ _ (q .0) }))
+    omega (arith, q, field-in rec i r (leb-false _ _ (q .0)))
 
 -- ---- lists of them: what the first k fields give, written over a list's front
 
@@ -185,25 +184,24 @@ pub count-is : (rec : List ℕ) (nvf : ℕ) → nvf ≡ u16At rec 14 → nvf ≡
 unfolding leaderOf
 count-is rec nvf e = e
 
-module _ (rec : List ℕ) (i : ℕ) where
-  pub ended-is : (nvf : ℕ) → nvf ≡ leaderOf rec .nvf → leb nvf i ≡ atEnd rec i
-  ended-is nvf e = rw e
+module _ (rec : List ℕ) (i n : ℕ) (c : n ≡ leaderOf rec .nvf) where
+  -- a directory of that many entries fits in the record
+  pub count-small : Readable rec → 6 * n < 65536
+  count-small r = omega (arith, c, r .base-is, r .base-in, r .short)
 
-  pub spot-is : (base pos len : ℕ) (tag : Tag) → base ≡ u16At rec 12 → pos ≡ posAt rec i → len ≡ lenAt rec i → tag .0 ≡ tagAt rec i
-      → record { tag = tag; start = base + pos; len = len } ≡ spotAt rec i
-  unfolding leaderOf
-  spot-is base pos len tag b p l t = rw (b, p, l, ← t)
+  pub spot-is : (pos len : ℕ) (tag : Tag) → Readable rec → pos ≡ posAt rec i → len ≡ lenAt rec i → tag .0 ≡ tagAt rec i
+      → record { tag = tag; start = 18 + 6 * n + pos; len = len } ≡ spotAt rec i
+  spot-is pos len tag r p l t = rw (c, ← r .base-is, p, l, ← t)
 
-  module _ (over : Bool) (q : over ≡ atEnd rec i) where
-    pub walked-end : over ≡ true → End ≡ walkedAt rec i
-    unfolding walkedAt
-    walked-end done = rw (← q, done)
+  pub walked-end : n ≤ i → End ≡ walkedAt rec i
+  unfolding walkedAt
+  walked-end h = rw (le-leb (leaderOf rec .nvf) i (rw (← c) h))
 
-    pub walked-field : (spot : Spot) → over ≡ false → spot ≡ spotAt rec i → FieldHere (spot .tag) (spot .start) (spot .len) ≡ walkedAt rec i
-    unfolding walkedAt
-    walked-field spot left e = rw (← q, left, e)
+  pub come-to : i < n → Readable rec → AtField rec n i
+  come-to h r = record { readable = r; counted = c; listed = omega (arith, c, h) }
 
-    pub come-to : over ≡ false → Readable rec → AtField rec i
-    come-to left r = record { readable = r; listed = leb-false _ _ (sym q ∙ left) }
+  pub walked-field : (spot : Spot) → i < n → spot ≡ spotAt rec i → FieldHere (spot .tag) (spot .start) (spot .len) ≡ walkedAt rec i
+  unfolding walkedAt
+  walked-field spot h e = rw (lt-leb (leaderOf rec .nvf) i (rw (← c) h), e)
 
-pub ruleset walk-answers = (count-is, ended-is, entry-within, spot-is, walked-end, walked-field, come-to)
+pub ruleset walk-answers = (count-is, count-small, entry-within, spot-is, walked-end, walked-field, come-to)

@@ -28,62 +28,60 @@ pub fn field_count(rec: &[u8]) -> usize
     u16_at(rec, 14) as usize
 }
 
-// Whether the directory has no entry at an index.
-fn ended(rec: &[u8], index: usize) -> bool
-    requires { ⌜ Readable (now rec) ⌝ }
-    ensures { λ r. ⌜ r ≡ atEnd (now (rec .entry)) index ⌝ }
-{
-    field_count(rec) <= index
-}
-
-// The field at an index.
-fn spot_at(rec: &[u8], index: usize) -> Spot
-    requires { ⌜ AtField (now rec) index ⌝ }
+// The field at an index of a record that has `count` fields: its data begin behind that many directory entries.
+fn spot_at(rec: &[u8], count: usize, index: usize) -> Spot
+    requires { ⌜ AtField (now rec) count index ⌝ }
     ensures { λ r. ⌜ r ≡ spotAt (now (rec .entry)) index ⌝ }
 {
     Spot {
         tag: tag_at(rec, index),
-        start: u16_at(rec, 12) as usize + pos_at(rec, index),
+        start: 18 + 6 * count + pos_at(rec, index),
         len: len_at(rec, index),
     }
 }
 
-// A walk over the fields of a record: the record's bytes, and the directory index that it has come to.
+// A walk over the fields of a record: the record's bytes, how many fields it has, and the directory index that the walk has come to.
 pub struct FieldWalker<'a> {
     pub rec: &'a [u8],
+    pub count: usize,
     pub index: usize,
 }
 
 // The walker at the first field.
-fn walk<'a>(rec: &'a [u8]) -> FieldWalker<'a>
-    ensures { λ w. ⌜ (w .rec ≡ rec .entry) × (w .index ≡ 0) ⌝ }
+fn walk<'a>(rec: &'a [u8], count: usize) -> FieldWalker<'a>
+    ensures { λ w. ⌜ (w .rec ≡ rec .entry) × (w .count ≡ count) × (w .index ≡ 0) ⌝ }
 {
-    FieldWalker { rec, index: 0 }
+    FieldWalker {
+        rec,
+        count,
+        index: 0,
+    }
 }
 
 // Whether the walker has come to the end.
 fn at_end<'a>(w: FieldWalker<'a>) -> bool
-    requires { ⌜ Readable (now (w .rec)) ⌝ }
+    requires { ⌜ w .count ≡ leaderOf (now (w .rec)) .nvf ⌝ }
     ensures { λ r. ⌜ r ≡ atEnd (now (w .entry .rec)) (w .entry .index) ⌝ }
 {
-    ended(w.rec, w.index)
+    w.count <= w.index
 }
 
 // The field that it has come to.
 fn here<'a>(w: FieldWalker<'a>) -> Spot
-    requires { ⌜ AtField (now (w .rec)) (w .index) ⌝ }
+    requires { ⌜ AtField (now (w .rec)) (w .count) (w .index) ⌝ }
     ensures { λ r. ⌜ r ≡ spotAt (now (w .entry .rec)) (w .entry .index) ⌝ }
 {
-    spot_at(w.rec, w.index)
+    spot_at(w.rec, w.count, w.index)
 }
 
 // The walker at the next directory index.
 fn advance<'a>(w: FieldWalker<'a>) -> FieldWalker<'a>
-    requires { ⌜ AtField (now (w .rec)) (w .index) ⌝ }
-    ensures { λ r. ⌜ (r .rec ≡ w .entry .rec) × (r .index ≡ w .entry .index + 1) ⌝ }
+    requires { ⌜ AtField (now (w .rec)) (w .count) (w .index) ⌝ }
+    ensures { λ r. ⌜ (r .rec ≡ w .entry .rec) × (r .count ≡ w .entry .count) × (r .index ≡ w .entry .index + 1) ⌝ }
 {
     FieldWalker {
         rec: w.rec,
+        count: w.count,
         index: w.index + 1,
     }
 }
@@ -105,19 +103,20 @@ fn note(
     lens[index] = spot.len;
 }
 
-// Lists all fields of a record that begins at `at`, in one walk and in directory order: their tags, starts and lengths go to the front of
-// the three lists. Gives how many they are.
+// Lists the `count` fields of a record that begins at `at`, in one walk and in directory order: their tags, starts and lengths go to the
+// front of the three lists. Gives how many were listed.
 pub fn list_fields(
     rec: &[u8],
+    count: usize,
     at: usize,
     tags: &mut [u16],
     starts: &mut [usize],
     lens: &mut [usize],
 ) -> usize
-    requires { ⌜ Listable (now rec) at (now tags) (now starts) (now lens) ⌝ }
+    requires { ⌜ Listable (now rec) count at (now tags) (now starts) (now lens) ⌝ }
     ensures { λ r. ⌜ (r ≡ leaderOf (now (rec .entry)) .nvf) × (now (tags .exit) ≡ overwrite (now (tags .entry)) 0 (tagsOf (now (rec .entry)))) × (now (starts .exit) ≡ overwrite (now (starts .entry)) 0 (startsOf at (now (rec .entry)))) × (now (lens .exit) ≡ overwrite (now (lens .entry)) 0 (lengthsOf (now (rec .entry)))) ⌝ }
 {
-    let mut w = walk(rec);
+    let mut w = walk(rec, count);
     while !at_end(w) {
         note(here(w), w.index, at, tags, starts, lens);
         w = advance(w);
@@ -136,10 +135,11 @@ pub fn field_span(rec: &[u8], index: usize) -> Walked
     requires { ⌜ Readable (now rec) ⌝ }
     ensures { λ r. ⌜ r ≡ walkedAt (now (rec .entry)) index ⌝ }
 {
-    if ended(rec, index) {
+    let count = field_count(rec);
+    if count <= index {
         return Walked::End;
     }
-    let spot = spot_at(rec, index);
+    let spot = spot_at(rec, count, index);
     let tag = spot.tag;
     Walked::Field {
         tag,

@@ -77,11 +77,12 @@ module _ (rec : List ℕ) (at : ℕ) (ts ss ls : List ℕ) (n : ℕ) (w : Bool) 
     unfolding leftOf after numberOf
     left-done t s u p q r = rw (p, q, r, ← c, ← x, h)
 
-    pub list-able : ListedFrom rec at → Listable rec at ts ss ls
+    pub list-able : ListedFrom rec at → Listable rec n at ts ss ls
     list-able g =
         let a = all-long n (length ts) (length ss) (length ls) (sym x ∙ not-false w h) in
         record {
           readable = g .readable;
+          counted = c;
           tags-long = omega (arith, c, a .0);
           starts-long = omega (arith, c, a .1);
           lens-long = omega (arith, c, a .2);

@@ -131,7 +131,7 @@ module _ (mst : List ℕ) (at end i : ℕ) (h : ReadableAt mst at end) where
   bytes-same l =
       sym
       (part-part mst at (end - at) (leaderOf rec .base + posAt rec i) (lenAt rec i)
-      (omega (arith, field-in rec i (record { readable = h .readable; listed = l }), h .readable .record-in, part-short mst at (end - at))))
+      (omega (arith, field-in rec i (h .readable) l, h .readable .record-in, part-short mst at (end - at))))
 
   hands-out : (a : Answer) → a ≡ Done → HandsOut mst (fieldsOf rec) i (handedOut (after a (lastly NoField (atEnd rec i)) a) at rec i)
   unfolding handedOut after numberOf

@@ -49,7 +49,7 @@ fn list_record(
     if !all_long(n, tags.len(), starts.len(), lens.len()) {
         return refused_list(Answer::NoRoomInList);
     }
-    let count = record::walker::list_fields(rec, at, tags, starts, lens);
+    let count = record::walker::list_fields(rec, n, at, tags, starts, lens);
     Listed {
         answer: Answer::Done,
         count,

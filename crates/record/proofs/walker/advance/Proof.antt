@@ -1,4 +1,4 @@
--- `advance`: a walk of its MIR, by hand. A walker is made anew of the slice that the one passed holds and the next index. What the walker owns is
+-- `advance`: a walk of its MIR, by hand. A walker is made anew of the slice and the count that the one passed holds and the next index. What the walker owns is
 -- had twice: one copy is kept for the exit, and the other, with the next index's facts in the place of the index's, is the result's.
 use mathlib.Core.Path.{refl}
 use Prim.Native.Nat.{ℕ, _+_}
@@ -48,7 +48,7 @@ abbrev stayed : Stays (fn.ended .signature .params) (fn.ended .kept)
 stayed = (stay-none B yes, tt)
 
 module _ {M : Type 1} (𝓤 : URA M) (H : Heap 𝓤) (A : Atoms 𝓤) (W : Given 𝓤 H A) (mem : Memory → SProp 𝓤) (run : Routine → Fun 𝓤) (κ : Lft) (q : Share) (d : FieldWalker)
-    (s : AtField (now (d .rec)) (d .index)) where
+    (s : AtField (now (d .rec)) (d .count) (d .index)) where
   abbrev n : ℕ
   n = d .index + 1
 
@@ -56,7 +56,7 @@ module _ {M : Type 1} (𝓤 : URA M) (H : Heap 𝓤) (A : Atoms 𝓤) (W : Given
   mach = T′.lowered d
 
   abbrev next : FieldWalker
-  next = record { rec = d .rec; index = n }
+  next = record { rec = d .rec; count = d .count; index = n }
 
   abbrev at : Vals fn.signature (κ, tt)
   at = (mach ∷ [], tt)
@@ -67,26 +67,27 @@ module _ {M : Type 1} (𝓤 : URA M) (H : Heap 𝓤) (A : Atoms 𝓤) (W : Given
   exits : ent 𝓤 (onEntry 𝓤 H A fn.signature (κ, tt) (q, tt) (d, tt) at) (Post (T′.lowered next))
   exits =
       qed W ((‵ (flft κ q) ⊛ ‵ ftrue) ∷ ‵ (owns (B (κ, tt) ∷ []) (d, tt) at) ∷ []) ∵
-      suffices ! _ (ends-at 𝓤 H A fn.ended stayed (fn.clauses 𝓤 H A mem run) W (((κ, tt), (q, tt), tt, (d, tt), at), tt) (T′.lowered next) next (tt, tt) (tt, tt)) $ says ! (refl, refl) $
+      suffices ! _ (ends-at 𝓤 H A fn.ended stayed (fn.clauses 𝓤 H A mem run) W (((κ, tt), (q, tt), tt, (d, tt), at), tt) (T′.lowered next) next (tt, tt) (tt, tt)) $ says ! (refl, refl, refl) $
       frame ! $ fsplit ! $ use1 W (‵ (Own κ d) ⊛ ‵ (Own κ d)) (twice 𝓤 H A W κ d) $ split ! $ move ! (0 ∷ 2 ∷ []) $ fjoin ! $ frame ! $
       -- [what the walker owns]: the next index's facts take the place of the index's
-      owned ! usize (Is usize) (uint-makes 𝓤 H A W w64) n _ (refl, next-fits (now (d .rec)) (d .index) s) $ move ! (1 ∷ 0 ∷ []) $
-      by ! (own-put 𝓤 H A W (T.the-type (namedLft 1 0 tt (κ, tt))) (T′.the-laws (namedLft 1 0 tt (κ, tt))) 1 (d .rec, (d .index, tt)) n mach)
+      owned ! usize (Is usize) (uint-makes 𝓤 H A W w64) n _ (refl, next-fits (now (d .rec)) (d .index) (s .readable) (s .listed)) $ move ! (1 ∷ 0 ∷ []) $
+      by ! (own-put 𝓤 H A W (T.the-type (namedLft 1 0 tt (κ, tt))) (T′.the-laws (namedLft 1 0 tt (κ, tt))) 2 (d .rec, (d .count, (d .index, tt))) n mach)
 
   module _ (C : Calls 𝓤 H) (Λ : Loops 𝓤 H) where
     walk : Holds (hasTy (T′.mir (named 0)) mach) × WT mach → ent 𝓤 (onEntry 𝓤 H A fn.signature (κ, tt) (q, tt) (d, tt) at) (WpFn 𝓤 H C Λ code.function (mach ∷ []) Post)
     walk wt =
         qed W (raw (onEntry 𝓤 H A fn.signature (κ, tt) (q, tt) (d, tt) at) ∷ []) ∵ enter ! C Λ code.function (mach ∷ []) _ $
-        alloc1 ! (λ l₀. alloc1 ! (λ l₁. alloc1 ! (λ l₂. alloc1 ! (λ l₃. alloc1 ! (λ l₄. alloc0 ! $ params1 ! $ pass1 ! (init ! 6 refl wt) $ pass0 ! $
-        -- [_4; …; _3; …; _2; …; _1; …; room for _0; …]
-        assigns ! (of-opd ! (load ! (from ! (fld ! refl (stop !))) (look-in ! 6 (sub ! 0 refl (whole !))))) (from ! (stop !)) (init ! 4 refl (tt, wt .1 .0)) $
-        assigns ! (of-opd ! (load ! (from ! (fld ! refl (stop !))) (look-in ! 6 (sub ! 1 refl (whole !))))) (from ! (stop !)) (init ! 2 refl (tt, wt .1 .1 .0)) $
-        assigns ! (bin ! (load ! (from ! (stop !)) (look ! 2 refl)) (lit ! tt) (record { fits = next-fits (now (d .rec)) (d .index) s })) (from ! (stop !))
-        (init ! 0 refl (tt, record { fits = next-fits (now (d .rec)) (d .index) s })) $
-        assigns ! (agg ! (and-then ! (load ! (from ! (stop !)) (look ! 4 refl)) (and-then ! (load ! (from ! (stop !)) (look ! 0 refl)) (no-more !)))) (from ! (stop !))
-        (init ! 8 refl (tt, (wt .1 .0, (record { fits = next-fits (now (d .rec)) (d .index) s }, tt)))) $
-        returns ! (look ! 8 refl) $ forget ! 0 refl $ forget ! 2 refl $ forget ! 4 refl $ forget ! 6 refl $ forget ! 8 refl $
-        move ! (8 ∷ 9 ∷ []) $ free1 ! $ move ! (6 ∷ 7 ∷ []) $ free1 ! $ move ! (4 ∷ 5 ∷ []) $ free1 ! $ move ! (2 ∷ 3 ∷ []) $ free1 ! $ free1 ! $ free0 ! $ by ! exits)))))
+        alloc1 ! (λ l₀. alloc1 ! (λ l₁. alloc1 ! (λ l₂. alloc1 ! (λ l₃. alloc1 ! (λ l₄. alloc1 ! (λ l₅. alloc0 ! $ params1 ! $ pass1 ! (init ! 8 refl wt) $ pass0 ! $
+        -- [_5; …; _4; …; _3; …; _2; …; _1; …; room for _0; …]
+        assigns ! (of-opd ! (load ! (from ! (fld ! refl (stop !))) (look-in ! 8 (sub ! 0 refl (whole !))))) (from ! (stop !)) (init ! 6 refl (tt, wt .1 .0)) $
+        assigns ! (of-opd ! (load ! (from ! (fld ! refl (stop !))) (look-in ! 8 (sub ! 1 refl (whole !))))) (from ! (stop !)) (init ! 4 refl (tt, wt .1 .1 .0)) $
+        assigns ! (of-opd ! (load ! (from ! (fld ! refl (stop !))) (look-in ! 8 (sub ! 2 refl (whole !))))) (from ! (stop !)) (init ! 2 refl (tt, wt .1 .1 .1 .0)) $
+        assigns ! (bin ! (load ! (from ! (stop !)) (look ! 2 refl)) (lit ! tt) (record { fits = next-fits (now (d .rec)) (d .index) (s .readable) (s .listed) })) (from ! (stop !))
+        (init ! 0 refl (tt, record { fits = next-fits (now (d .rec)) (d .index) (s .readable) (s .listed) })) $
+        assigns ! (agg ! (and-then ! (load ! (from ! (stop !)) (look ! 6 refl)) (and-then ! (load ! (from ! (stop !)) (look ! 4 refl)) (and-then ! (load ! (from ! (stop !)) (look ! 0 refl)) (no-more !))))) (from ! (stop !))
+        (init ! 10 refl (tt, (wt .1 .0, (wt .1 .1 .0, (record { fits = next-fits (now (d .rec)) (d .index) (s .readable) (s .listed) }, tt))))) $
+        returns ! (look ! 10 refl) $ forget ! 0 refl $ forget ! 2 refl $ forget ! 4 refl $ forget ! 6 refl $ forget ! 8 refl $ forget ! 10 refl $
+        move ! (10 ∷ 11 ∷ []) $ free1 ! $ move ! (8 ∷ 9 ∷ []) $ free1 ! $ move ! (6 ∷ 7 ∷ []) $ free1 ! $ move ! (4 ∷ 5 ∷ []) $ free1 ! $ move ! (2 ∷ 3 ∷ []) $ free1 ! $ free1 ! $ free0 ! $ by ! exits))))))
 
 module _ {M : Type 1} (𝓤 : URA M) (H : Heap 𝓤) (A : Atoms 𝓤) (W : Given 𝓤 H A) (mem : Memory → SProp 𝓤) (run : Routine → Fun 𝓤) where
   walks : (C : Calls 𝓤 H) (Λ : Loops 𝓤 H) → Walks 𝓤 H A fn.ended stayed (WpFn 𝓤 H C Λ code.function) (fn.clauses 𝓤 H A mem run)

@@ -1,4 +1,4 @@
--- `here` passes the walker's slice and index to `spot_at`.
+-- `here` passes the walker's slice, count and index to `spot_at`.
 use mathlib.Core.Path.{_≡_}
 use contract.Running.{givenOf}
 use denote.Struct.Laws as LL
@@ -16,7 +16,7 @@ use Rattle.record.proofs.walker.here.Code as code
 pub here-spec : {M : Type 1} → stated.statement M
 unfolding code.routine
 here-spec 𝓤 H 𝓜 𝓖 𝓡 =
-    passes (here.signature .result) AtField AtField (λ κs rec i r. r ≡ spotAt rec i) 𝓤 H 𝓜 𝓖 𝓡 code.env
+    passes (here.signature .result) AtField AtField (λ κs rec n i r. r ≡ spotAt rec i) 𝓤 H 𝓜 𝓖 𝓡 code.env
     R′.mir name step.name step.routine
-    (λ rec i ok. ok) (λ κs r v is. LL.lawful R.the-type R′.the-laws 𝓤 H (𝓖 .A) (givenOf 𝓤 H 𝓜 𝓖) .typed r _ is .0)
+    (λ rec n i ok. ok) (λ κs r v is. LL.lawful R.the-type R′.the-laws 𝓤 H (𝓖 .A) (givenOf 𝓤 H 𝓜 𝓖) .typed r _ is .0)
     (code.unfolded 𝓤 H 𝓜 𝓡) code.calls-record·walker·spot-at (step-thm.met 𝓤 H 𝓜 𝓖 𝓡)

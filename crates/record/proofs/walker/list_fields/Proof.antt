@@ -48,7 +48,6 @@ use denote.Triple.Table.{entered, cited}
 use denote.Triple.Walked.{says, needs, Stays, stay-none, stay-none-slice, stay-slice, walkOf, goes-none, goes-none-slice, goes-slice, Walks, ends-at, walked, walk-meets}
 use denote.Exit.{yes}
 use Rattle.layout.specs.Leader.{leaderOf}
-use Rattle.record.specs.Record.{Readable}
 use Rattle.record.specs.Walker.{atEnd, AtField, spotAt, spotTag, spotStart, spotLength, Listable}
 use Rattle.record.specs.declared.walker.FieldWalker.{FieldWalker}
 use Rattle.record.specs.declared.walker.Spot.{Spot}
@@ -88,7 +87,7 @@ stayed = (
   stay-none-slice (0 ∷ []) tt (plain (λ _. u8)) yes,
   (
     stay-none (λ _. usize) yes,
-    (stay-slice (1 ∷ []) tt (plain (λ _. u16)), (stay-slice (2 ∷ []) tt (plain (λ _. usize)), (stay-slice (3 ∷ []) tt (plain (λ _. usize)), tt))),
+    (stay-none (λ _. usize) yes, (stay-slice (1 ∷ []) tt (plain (λ _. u16)), (stay-slice (2 ∷ []) tt (plain (λ _. usize)), (stay-slice (3 ∷ []) tt (plain (λ _. usize)), tt)))),
   ),
 )
 
@@ -108,19 +107,19 @@ behind (call f xs p) = skip
 -- ---- the functions that are called
 
 abbrev asks-end : FieldWalker → Type 0
-asks-end d = Readable (now (d .rec))
+asks-end d = d .count ≡ leaderOf (now (d .rec)) .nvf
 
 abbrev gives-end : (κs : Lfts 1) → FieldWalker → Bool → Type 0
 gives-end κs d r = r ≡ atEnd (now (d .rec)) (d .index)
 
 abbrev asks-field : FieldWalker → Type 0
-asks-field d = AtField (now (d .rec)) (d .index)
+asks-field d = AtField (now (d .rec)) (d .count) (d .index)
 
 abbrev gives-field : (κs : Lfts 1) → FieldWalker → Spot → Type 0
 gives-field κs d r = r ≡ spotAt (now (d .rec)) (d .index)
 
 abbrev gives-next : (κs : Lfts 1) → FieldWalker → FieldWalker → Type 0
-gives-next κs d r = (r .rec ≡ d .rec) × (r .index ≡ d .index + 1)
+gives-next κs d r = (r .rec ≡ d .rec) × (r .count ≡ d .count) × (r .index ≡ d .index + 1)
 
 module _ {M : Type 1} (𝓤 : URA M) (H : Heap 𝓤) (A : Atoms 𝓤) (mem : Memory → SProp 𝓤) (run : Routine → Fun 𝓤) where
   abbrev Begin : Contract 𝓤
@@ -144,8 +143,8 @@ module _ {M : Type 1} (𝓤 : URA M) (H : Heap 𝓤) (A : Atoms 𝓤) (mem : Mem
     pub notes : Triple 𝓤 (C note-def.name) (noting.Note 𝓤 H A mem run)
 
 module _ {M : Type 1} (𝓤 : URA M) (H : Heap 𝓤) (A : Atoms 𝓤) (W : Given 𝓤 H A) (mem : Memory → SProp 𝓤) (run : Routine → Fun 𝓤)
-    (κ₀ κ₁ κ₂ κ₃ : Lft) (q₀ q₁ q₂ q₃ : Share) (s : RefT (List ℕ)) (at : ℕ) (x₁ x₂ x₃ : RefT (List ℕ)) (ok : Listable (now s) at (now x₁) (now x₂) (now x₃))
-    (is : Is (Row κ₀) s (machine s ∷ [])) (at-fits : at < 2 ^ 64) (room₁ : Room u16 (length (now x₁))) (room₂ : Room usize (length (now x₂))) (room₃ : Room usize (length (now x₃))) where
+    (κ₀ κ₁ κ₂ κ₃ : Lft) (q₀ q₁ q₂ q₃ : Share) (s : RefT (List ℕ)) (count at : ℕ) (x₁ x₂ x₃ : RefT (List ℕ)) (ok : Listable (now s) count at (now x₁) (now x₂) (now x₃))
+    (is : Is (Row κ₀) s (machine s ∷ [])) (counts : count < 2 ^ 64) (at-fits : at < 2 ^ 64) (room₁ : Room u16 (length (now x₁))) (room₂ : Room usize (length (now x₂))) (room₃ : Room usize (length (now x₃))) where
   abbrev rec : List ℕ
   rec = now s
 
@@ -156,13 +155,13 @@ module _ {M : Type 1} (𝓤 : URA M) (H : Heap 𝓤) (A : Atoms 𝓤) (W : Given
   κs = (κ₀, (κ₁, (κ₂, (κ₃, tt))))
 
   abbrev Arg : Type 0
-  Arg = RefT (List ℕ) × (ℕ × (RefT (List ℕ) × (RefT (List ℕ) × (RefT (List ℕ) × Unit {0}))))
+  Arg = RefT (List ℕ) × (ℕ × (ℕ × (RefT (List ℕ) × (RefT (List ℕ) × (RefT (List ℕ) × Unit {0})))))
 
   abbrev a : Arg
-  a = (s, (at, (x₁, (x₂, (x₃, tt)))))
+  a = (s, (count, (at, (x₁, (x₂, (x₃, tt))))))
 
-  abbrev vals : List Val × (List Val × (List Val × (List Val × (List Val × Unit {0}))))
-  vals = (machine s ∷ [], (vint w64 at ∷ [], (machine x₁ ∷ [], (machine x₂ ∷ [], (machine x₃ ∷ [], tt)))))
+  abbrev vals : List Val × (List Val × (List Val × (List Val × (List Val × (List Val × Unit {0})))))
+  vals = (machine s ∷ [], (vint w64 count ∷ [], (vint w64 at ∷ [], (machine x₁ ∷ [], (machine x₂ ∷ [], (machine x₃ ∷ [], tt))))))
 
   abbrev bound : walkOf 𝓤 H A fn.ended stayed (fn.clauses 𝓤 H A mem run) .Ghost
   bound = ((κs, (q₀, (q₁, (q₂, (q₃, tt)))), tt, a, vals), tt)
@@ -172,7 +171,7 @@ module _ {M : Type 1} (𝓤 : URA M) (H : Heap 𝓤) (A : Atoms 𝓤) (W : Given
 
   -- the walker at an index, and its machine value
   abbrev walker : ℕ → FieldWalker
-  walker i = record { rec = s; index = i }
+  walker i = record { rec = s; count = count; index = i }
 
   abbrev mach : ℕ → Val
   mach i = T′.lowered (walker i)
@@ -209,20 +208,20 @@ module _ {M : Type 1} (𝓤 : URA M) (H : Heap 𝓤) (A : Atoms 𝓤) (W : Given
   lens-long i h = written-length spotLength rec (now x₃) i (omega (arith, h, ok .lens-long))
 
   typed : (i : ℕ) → i < 2 ^ 64 → Holds (hasTy (T′.mir erased) (mach i)) × WT (mach i)
-  typed i fits = (tt, (shr-slice-lawful 𝓤 H A W (named 0) κ₀ u8 .typed s (machine s ∷ []) is .0 .1, (record { fits = fits }, tt)))
+  typed i fits = (tt, (shr-slice-lawful 𝓤 H A W (named 0) κ₀ u8 .typed s (machine s ∷ []) is .0 .1, (record { fits = counts }, (record { fits = fits }, tt))))
 
-  come : (i : ℕ) → i < nvf → AtField rec i
-  come i h = record { readable = ok .readable; listed = h }
+  come : (i : ℕ) → i < nvf → AtField rec count i
+  come i h = record { readable = ok .readable; counted = ok .counted; listed = h }
 
   -- ---- the entry, and the exit
 
   opened : ent 𝓤 (onEntry 𝓤 H A fn.signature κs (q₀, (q₁, (q₂, (q₃, tt)))) a vals) (sep 𝓤 (mean 𝓤 H A Kept) (mean 𝓤 H A (Held 0)))
   opened =
       qed W ((‵ (flft κ₀ q₀) ⊛ (‵ (flft κ₁ q₁) ⊛ (‵ (flft κ₂ q₂) ⊛ (‵ (flft κ₃ q₃) ⊛ ‵ ftrue))))
-      ∷ ‵ (owns (Row κ₀ ∷ usize ∷ MutSlice (named 1) κ₁ u16 ∷ MutSlice (named 2) κ₂ usize ∷ MutSlice (named 3) κ₃ usize ∷ []) a vals) ∷ []) ∵
+      ∷ ‵ (owns (Row κ₀ ∷ usize ∷ usize ∷ MutSlice (named 1) κ₁ u16 ∷ MutSlice (named 2) κ₂ usize ∷ MutSlice (named 3) κ₃ usize ∷ []) a vals) ∷ []) ∵
       split ! $ move ! (1 ∷ []) $ split ! $ move ! (1 ∷ []) $ split ! $ move ! (1 ∷ []) $ split ! $ move ! (1 ∷ []) $ drop ! $
       -- [the four lifetimes, the last one first; what was passed]
-      move ! (4 ∷ []) $ fsplit ! $ move ! (1 ∷ []) $ fsplit ! $ drop ! $ fsplit ! $ move ! (1 ∷ []) $ fsplit ! $ move ! (1 ∷ []) $ fsplit ! $ move ! (1 ∷ []) $ drop ! $
+      move ! (4 ∷ []) $ fsplit ! $ move ! (1 ∷ []) $ fsplit ! $ drop ! $ fsplit ! $ drop ! $ fsplit ! $ move ! (1 ∷ []) $ fsplit ! $ move ! (1 ∷ []) $ fsplit ! $ move ! (1 ∷ []) $ drop ! $
       -- [lens; starts; tags; the record; the four lifetimes, the last one first]
       move ! (7 ∷ 3 ∷ []) $ join ! $ frame ! $ move ! (2 ∷ 5 ∷ []) $ fjoin ! $ move ! (2 ∷ 4 ∷ []) $ fjoin ! $ move ! (2 ∷ 3 ∷ []) $ fjoin ! $
       -- [lens; starts; tags]
@@ -234,14 +233,14 @@ module _ {M : Type 1} (𝓤 : URA M) (H : Heap 𝓤) (A : Atoms 𝓤) (W : Given
   exits : (i : ℕ) → i ≤ nvf → i ≡ nvf → ent 𝓤 (⋆ 𝓤 H A (Kept ∷ Held i ∷ [])) (Post (vint w64 i))
   exits i h e =
       qed W (Kept ∷ Held i ∷ []) ∵
-      suffices ! _ (ends-at 𝓤 H A fn.ended stayed (fn.clauses 𝓤 H A mem run) W bound (vint w64 i) i (tt, (tt, (tags i, (starts i, (lens i, tt))))) (tt, (tt, (tags-long i h, (starts-long i h, (lens-long i h, tt)))))) $
+      suffices ! _ (ends-at 𝓤 H A fn.ended stayed (fn.clauses 𝓤 H A mem run) W bound (vint w64 i) i (tt, (tt, (tt, (tags i, (starts i, (lens i, tt)))))) (tt, (tt, (tt, (tags-long i h, (starts-long i h, (lens-long i h, tt))))))) $
       says ! (e, ap tags e ∙ written-all spotTag rec (now x₁), ap starts e ∙ written-all (spotStart at) rec (now x₂), ap lens e ∙ written-all spotLength rec (now x₃)) $
       split ! $ move ! (2 ∷ []) $ split ! $ fsplit ! $ move ! (2 ∷ []) $ split ! $ fsplit ! $ move ! (2 ∷ []) $ fsplit ! $
       -- [lens; κ₃; starts; κ₂; tags; κ₁; κ₀; the record]
       nothing ! $ move ! (2 ∷ 0 ∷ []) $ join ! $ move ! (3 ∷ 0 ∷ []) $ join ! $ move ! (4 ∷ 0 ∷ []) $ join ! $ move ! (4 ∷ 0 ∷ []) $ join ! $ frame ! $
       -- [lens; starts; tags; the record]
       nothing ! $ move ! (1 ∷ 0 ∷ []) $ fjoin ! $ move ! (1 ∷ 0 ∷ []) $ fjoin ! $ move ! (1 ∷ 0 ∷ []) $ fjoin ! $
-      owned ! usize (Is usize) (uint-makes 𝓤 H A W w64) at _ (refl, at-fits) $ fjoin ! $ move ! (1 ∷ 0 ∷ []) $ fjoin ! $
+      owned ! usize (Is usize) (uint-makes 𝓤 H A W w64) at _ (refl, at-fits) $ fjoin ! $ owned ! usize (Is usize) (uint-makes 𝓤 H A W w64) count _ (refl, counts) $ fjoin ! $ move ! (1 ∷ 0 ∷ []) $ fjoin ! $
       owned ! usize (Is usize) (uint-makes 𝓤 H A W w64) i _ (refl, small i h) $ move ! (1 ∷ 0 ∷ []) $ frame ! $ done !
 
   -- ---- the loop
@@ -291,7 +290,7 @@ module _ {M : Type 1} (𝓤 : URA M) (H : Heap 𝓤) (A : Atoms 𝓤) (W : Given
   lowered r u is e = ap only (LL.tells (T.the-type (namedLft 1 0 tt (κ₀, tt))) (T′.the-laws (namedLft 1 0 tt (κ₀, tt))) r (u ∷ []) is) ∙ ap T′.lowered e
 
   landed : (i : ℕ) (r : FieldWalker) (u : Val) → gives-next (κ₀, tt) (walker i) r × Is (B (κ₀, tt)) r (u ∷ []) → u ≡ mach (i + 1)
-  landed i r u e = lowered r u (e .1) (λ j. record { rec = e .0 .0 j; index = e .0 .1 j })
+  landed i r u e = lowered r u (e .1) (λ j. record { rec = e .0 .0 j; count = e .0 .1 j; index = e .0 .2 j })
 
   abbrev Three : Type 0
   Three = List ℕ × List ℕ × List ℕ
@@ -310,29 +309,29 @@ module _ {M : Type 1} (𝓤 : URA M) (H : Heap 𝓤) (A : Atoms 𝓤) (W : Given
   -- ---- the code up to the loop
 
   abbrev AskBegin : Begin 𝓤 H A mem run .Ghost
-  AskBegin = (((κ₀, tt), (q₀, tt), tt, (s, tt), (machine s ∷ [], tt)), tt)
+  AskBegin = (((κ₀, tt), (q₀, tt), tt, (s, (count, tt)), (machine s ∷ [], (vint w64 count ∷ [], tt))), tt)
 
   begun : ent 𝓤 (mean 𝓤 H A Kept) (sep 𝓤 (Begin 𝓤 H A mem run .pre AskBegin) (mean 𝓤 H A Slice))
   begun =
       qed W (Kept ∷ []) ∵ split ! $ move ! (1 ∷ []) $
       use1 W (Slice ⊛ Slice) (shr-slice-copy 𝓤 H A W (named 0) κ₀ u8 .twice s (machine s ∷ [])) $ split ! $
-      nothing ! $ move ! (1 ∷ 0 ∷ []) $ fjoin ! $ nothing ! $ move ! (3 ∷ 0 ∷ []) $ join ! $
-      use2 W (raw (Begin 𝓤 H A mem run .pre AskBegin)) (qed W ((‵ (flft κ₀ q₀) ⊛ ‵ ftrue) ∷ ‵ (owns (Row κ₀ ∷ []) (s, tt) (machine s ∷ [], tt)) ∷ []) ∵ suffices ! (onEntry 𝓤 H A begin.signature (κ₀, tt) (q₀, tt) (s, tt) (machine s ∷ [], tt)) (∗emp 𝓤 _) $ frame ! $ done !) $ frame ! $ done !
+      nothing ! $ owned ! usize (Is usize) (uint-makes 𝓤 H A W w64) count _ (refl, counts) $ fjoin ! $ move ! (1 ∷ 0 ∷ []) $ fjoin ! $ nothing ! $ move ! (3 ∷ 0 ∷ []) $ join ! $
+      use2 W (raw (Begin 𝓤 H A mem run .pre AskBegin)) (qed W ((‵ (flft κ₀ q₀) ⊛ ‵ ftrue) ∷ ‵ (owns (Row κ₀ ∷ usize ∷ []) (s, (count, tt)) (machine s ∷ [], (vint w64 count ∷ [], tt))) ∷ []) ∵ suffices ! (onEntry 𝓤 H A begin.signature (κ₀, tt) (q₀, tt) (s, (count, tt)) (machine s ∷ [], (vint w64 count ∷ [], tt))) (∗emp 𝓤 _) $ frame ! $ done !) $ frame ! $ done !
 
   -- of what `walk` says at exit, its clause alone
-  said : (r : FieldWalker) → ent 𝓤 (ensured 𝓤 H A begin.ended (begin.clauses 𝓤 H A mem run) (κ₀, tt) (s, tt) tt r) (fact 𝓤 ((r .rec ≡ s) × (r .index ≡ 0)))
-  said r = exE 𝓤 _ (λ ws. snd∗ 𝓤 (sem 𝓤 H A (lasts begin.ended (κ₀, tt) (s, tt) ws)) (fact 𝓤 ((r .rec ≡ s) × (r .index ≡ 0))))
+  said : (r : FieldWalker) → ent 𝓤 (ensured 𝓤 H A begin.ended (begin.clauses 𝓤 H A mem run) (κ₀, tt) (s, (count, tt)) tt r) (fact 𝓤 ((r .rec ≡ s) × (r .count ≡ count) × (r .index ≡ 0)))
+  said r = exE 𝓤 _ (λ ws. snd∗ 𝓤 (sem 𝓤 H A (lasts begin.ended (κ₀, tt) (s, (count, tt)) ws)) (fact 𝓤 ((r .rec ≡ s) × (r .count ≡ count) × (r .index ≡ 0))))
 
   -- the walker that it hands back is the one at index 0
   made-of : (u : Val) → ent 𝓤 (sep 𝓤 (Begin 𝓤 H A mem run .post AskBegin u) (mean 𝓤 H A Slice)) (H .⇛ (mean 𝓤 H A (given (u ≡ mach 0) Kept)))
   made-of u =
       qed W (raw (Begin 𝓤 H A mem run .post AskBegin u) ∷ Slice ∷ []) ∵ updating ! $
-      use1 W (later (some (λ (r : FieldWalker). ((‵ (flft κ₀ q₀) ⊛ ‵ ftrue) ⊛ ‵ (B (κ₀, tt) .own r (u ∷ []))) ⊛ raw (ensured 𝓤 H A begin.ended (begin.clauses 𝓤 H A mem run) (κ₀, tt) (s, tt) tt r)))) (id⊢ 𝓤 _) $ await ! tt $ pick ! (λ r.
-      split ! $ move ! (1 ∷ []) $ use1 W (raw (fact 𝓤 ((r .rec ≡ s) × (r .index ≡ 0)))) (said r) $ heard ! ((r .rec ≡ s) × (r .index ≡ 0)) (λ e. split ! $ move ! (1 ∷ []) $
+      use1 W (later (some (λ (r : FieldWalker). ((‵ (flft κ₀ q₀) ⊛ ‵ ftrue) ⊛ ‵ (B (κ₀, tt) .own r (u ∷ []))) ⊛ raw (ensured 𝓤 H A begin.ended (begin.clauses 𝓤 H A mem run) (κ₀, tt) (s, (count, tt)) tt r)))) (id⊢ 𝓤 _) $ await ! tt $ pick ! (λ r.
+      split ! $ move ! (1 ∷ []) $ use1 W (raw (fact 𝓤 ((r .rec ≡ s) × (r .count ≡ count) × (r .index ≡ 0)))) (said r) $ heard ! ((r .rec ≡ s) × (r .count ≡ count) × (r .index ≡ 0)) (λ e. split ! $ move ! (1 ∷ []) $
       peeks ! (B (κ₀, tt)) (Is (B (κ₀, tt))) (shows 𝓤 H A (B (κ₀, tt))) r (u ∷ []) (λ is. drop ! $ split ! $
-      at-once ! $ check ! (lowered r u is (λ j. record { rec = e .0 j; index = e .1 j })) $ frame ! $ drop ! $ done !)))
+      at-once ! $ check ! (lowered r u is (λ j. record { rec = e .0 j; count = e .1 j; index = e .2 j })) $ frame ! $ drop ! $ done !)))
 
-  module _ (𝓣 : Tables 𝓤 H) (known : Known 𝓤 H A mem run (𝓣 .C)) (l₀ l₁ l₂ l₃ l₄ l₅ l₆ l₇ l₈ l₉ l₁₀ l₁₁ l₁₂ l₁₃ l₁₄ l₁₅ l₁₆ l₁₇ l₁₈ l₁₉ l₂₀ : ℕ) where
+  module _ (𝓣 : Tables 𝓤 H) (known : Known 𝓤 H A mem run (𝓣 .C)) (l₀ l₁ l₂ l₃ l₄ l₅ l₆ l₇ l₈ l₉ l₁₀ l₁₁ l₁₂ l₁₃ l₁₄ l₁₅ l₁₆ l₁₇ l₁₈ l₁₉ l₂₀ l₂₁ : ℕ) where
     abbrev C : Calls 𝓤 H
     C = 𝓣 .C
 
@@ -343,18 +342,18 @@ module _ {M : Type 1} (𝓤 : URA M) (H : Heap 𝓤) (A : Atoms 𝓤) (W : Given
     fm = fmOf 𝓤 H (W .laws) 𝓣
 
     abbrev En : Env 𝓤 H
-    En = (word, l₀) ∷ (recTy, l₁) ∷ (word, l₂) ∷ (tagsTy, l₃) ∷ (startsTy, l₄) ∷ (lensTy, l₅) ∷ (walkerTy, l₆) ∷ (tyBool, l₇) ∷ (walkerTy, l₈) ∷ (tyBool, l₉) ∷ (tyUnit, l₁₀) ∷ (S′.mir, l₁₁) ∷ (walkerTy, l₁₂) ∷ (word, l₁₃) ∷ ((tyRef erased mut (tyInt w16)), l₁₄) ∷ ((sliceTy (tyRef erased mut (tyInt w16))), l₁₅) ∷ ((tyRef erased mut word), l₁₆) ∷ ((sliceTy (tyRef erased mut word)), l₁₇) ∷ ((tyRef erased mut word), l₁₈) ∷ ((sliceTy (tyRef erased mut word)), l₁₉) ∷ (walkerTy, l₂₀) ∷ []
+    En = (word, l₀) ∷ (recTy, l₁) ∷ (word, l₂) ∷ (word, l₃) ∷ (tagsTy, l₄) ∷ (startsTy, l₅) ∷ (lensTy, l₆) ∷ (walkerTy, l₇) ∷ (tyBool, l₈) ∷ (walkerTy, l₉) ∷ (tyBool, l₁₀) ∷ (tyUnit, l₁₁) ∷ (S′.mir, l₁₂) ∷ (walkerTy, l₁₃) ∷ (word, l₁₄) ∷ ((tyRef erased mut (tyInt w16)), l₁₅) ∷ ((sliceTy (tyRef erased mut (tyInt w16))), l₁₆) ∷ ((tyRef erased mut word), l₁₇) ∷ ((sliceTy (tyRef erased mut word)), l₁₈) ∷ ((tyRef erased mut word), l₁₉) ∷ ((sliceTy (tyRef erased mut word)), l₂₀) ∷ (walkerTy, l₂₁) ∷ []
 
-    -- the locals from _7 on, then the parameters', the result's, and that each dies
+    -- the locals from _8 on, then the parameters', the result's, and that each dies
     abbrev Frame : List (Item 𝓤)
     Frame =
-        ‵ (froom tyBool l₇ 0) ∷ ‵ (froom walkerTy l₈ 0) ∷ ‵ (froom tyBool l₉ 0) ∷ ‵ (froom tyUnit l₁₀ 0) ∷ ‵ (froom S′.mir l₁₁ 0) ∷ ‵ (froom walkerTy l₁₂ 0) ∷ ‵ (froom word l₁₃ 0) ∷ ‵ (froom (tyRef erased mut (tyInt w16)) l₁₄ 0) ∷ ‵ (froom (sliceTy (tyRef erased mut (tyInt w16))) l₁₅ 0) ∷ ‵ (froom (tyRef erased mut word) l₁₆ 0) ∷ ‵ (froom (sliceTy (tyRef erased mut word)) l₁₇ 0) ∷ ‵ (froom (tyRef erased mut word) l₁₈ 0) ∷ ‵ (froom (sliceTy (tyRef erased mut word)) l₁₉ 0) ∷ ‵ (froom walkerTy l₂₀ 0)
-        ∷ ‵ (fat fullShare recTy l₁ 0 (machine s)) ∷ ‵ (fat fullShare word l₂ 0 (vint w64 at)) ∷ ‵ (fat fullShare tagsTy l₃ 0 (machine x₁))
-        ∷ ‵ (fat fullShare startsTy l₄ 0 (machine x₂)) ∷ ‵ (fat fullShare lensTy l₅ 0 (machine x₃)) ∷ ‵ (froom word l₀ 0)
-        ∷ ‵ (fdies word l₀) ∷ ‵ (fdies recTy l₁) ∷ ‵ (fdies word l₂) ∷ ‵ (fdies tagsTy l₃) ∷ ‵ (fdies startsTy l₄) ∷ ‵ (fdies lensTy l₅) ∷ ‵ (fdies walkerTy l₆) ∷ ‵ (fdies tyBool l₇) ∷ ‵ (fdies walkerTy l₈) ∷ ‵ (fdies tyBool l₉) ∷ ‵ (fdies tyUnit l₁₀) ∷ ‵ (fdies S′.mir l₁₁) ∷ ‵ (fdies walkerTy l₁₂) ∷ ‵ (fdies word l₁₃) ∷ ‵ (fdies (tyRef erased mut (tyInt w16)) l₁₄) ∷ ‵ (fdies (sliceTy (tyRef erased mut (tyInt w16))) l₁₅) ∷ ‵ (fdies (tyRef erased mut word) l₁₆) ∷ ‵ (fdies (sliceTy (tyRef erased mut word)) l₁₇) ∷ ‵ (fdies (tyRef erased mut word) l₁₈) ∷ ‵ (fdies (sliceTy (tyRef erased mut word)) l₁₉) ∷ ‵ (fdies walkerTy l₂₀) ∷ []
+        ‵ (froom tyBool l₈ 0) ∷ ‵ (froom walkerTy l₉ 0) ∷ ‵ (froom tyBool l₁₀ 0) ∷ ‵ (froom tyUnit l₁₁ 0) ∷ ‵ (froom S′.mir l₁₂ 0) ∷ ‵ (froom walkerTy l₁₃ 0) ∷ ‵ (froom word l₁₄ 0) ∷ ‵ (froom (tyRef erased mut (tyInt w16)) l₁₅ 0) ∷ ‵ (froom (sliceTy (tyRef erased mut (tyInt w16))) l₁₆ 0) ∷ ‵ (froom (tyRef erased mut word) l₁₇ 0) ∷ ‵ (froom (sliceTy (tyRef erased mut word)) l₁₈ 0) ∷ ‵ (froom (tyRef erased mut word) l₁₉ 0) ∷ ‵ (froom (sliceTy (tyRef erased mut word)) l₂₀ 0) ∷ ‵ (froom walkerTy l₂₁ 0)
+        ∷ ‵ (fat fullShare recTy l₁ 0 (machine s)) ∷ ‵ (fat fullShare word l₂ 0 (vint w64 count)) ∷ ‵ (fat fullShare word l₃ 0 (vint w64 at)) ∷ ‵ (fat fullShare tagsTy l₄ 0 (machine x₁))
+        ∷ ‵ (fat fullShare startsTy l₅ 0 (machine x₂)) ∷ ‵ (fat fullShare lensTy l₆ 0 (machine x₃)) ∷ ‵ (froom word l₀ 0)
+        ∷ ‵ (fdies word l₀) ∷ ‵ (fdies recTy l₁) ∷ ‵ (fdies word l₂) ∷ ‵ (fdies word l₃) ∷ ‵ (fdies tagsTy l₄) ∷ ‵ (fdies startsTy l₅) ∷ ‵ (fdies lensTy l₆) ∷ ‵ (fdies walkerTy l₇) ∷ ‵ (fdies tyBool l₈) ∷ ‵ (fdies walkerTy l₉) ∷ ‵ (fdies tyBool l₁₀) ∷ ‵ (fdies tyUnit l₁₁) ∷ ‵ (fdies S′.mir l₁₂) ∷ ‵ (fdies walkerTy l₁₃) ∷ ‵ (fdies word l₁₄) ∷ ‵ (fdies (tyRef erased mut (tyInt w16)) l₁₅) ∷ ‵ (fdies (sliceTy (tyRef erased mut (tyInt w16))) l₁₆) ∷ ‵ (fdies (tyRef erased mut word) l₁₇) ∷ ‵ (fdies (sliceTy (tyRef erased mut word)) l₁₈) ∷ ‵ (fdies (tyRef erased mut word) l₁₉) ∷ ‵ (fdies (sliceTy (tyRef erased mut word)) l₂₀) ∷ ‵ (fdies walkerTy l₂₁) ∷ []
 
     abbrev At : Upto → List (Item 𝓤)
-    At i = Kept ∷ Held (i .0) ∷ ‵ (fat fullShare walkerTy l₆ 0 (mach (i .0))) ∷ Frame
+    At i = Kept ∷ Held (i .0) ∷ ‵ (fat fullShare walkerTy l₇ 0 (mach (i .0))) ∷ Frame
 
     abbrev Turned : Upto → Out → SProp 𝓤
     Turned i = afterTurn 𝓤 H (Below 𝓤 H A Nearer At i) (afterBlock 𝓤 H (afterSeq 𝓤 H (Wp 𝓤 H C Λ En piece.t-3 (atReturn 𝓤 H En Post)) (atReturn 𝓤 H En Post)))
@@ -363,52 +362,52 @@ module _ {M : Type 1} (𝓤 : URA M) (H : Heap 𝓤) (A : Atoms 𝓤) (W : Given
     unfolding afterTurn
     turns i =
         assigns ! (of-opd ! (load ! (from ! (stop !)) (look ! 2 refl))) (from ! (stop !)) (init ! 4 refl (typed (i .0) fits)) $
-        use1 W (raw (AtEnd 𝓤 H A mem run .pre (AskEnd (i .0))) ⊛ Slice) (asking.asked (at-end.signature .result) asks-end gives-end 𝓤 H A W κ₀ q₀ (walker (i .0)) fits (ok .readable)) $ split ! $
+        use1 W (raw (AtEnd 𝓤 H A mem run .pre (AskEnd (i .0))) ⊛ Slice) (asking.asked (at-end.signature .result) asks-end gives-end 𝓤 H A W κ₀ q₀ (walker (i .0)) (counts, fits) (ok .counted)) $ split ! $
         calls-at ! fm (AtEnd 𝓤 H A mem run) (known .ends) (AskEnd (i .0)) (and-then ! (load ! (from ! (stop !)) (look ! 5 refl)) (no-more !)) (λ u.
         use2 W (later (some (λ (r : Bool). asking.Answer (at-end.signature .result) asks-end gives-end 𝓤 H A W κ₀ q₀ (walker (i .0)) u r))) (asking.answered (at-end.signature .result) asks-end gives-end 𝓤 H A W κ₀ q₀ (walker (i .0)) u) $
         await ! tt $ pick ! (λ r. learn ! (λ e. split ! $ drop ! $
-        land ! (from ! (stop !)) (init ! 3 refl (bool-lawful 𝓤 H A W .typed r _ (e .1) .0)) $ rewrite ! 3 (λ (v : Val). ‵ (fat fullShare tyBool l₇ 0 v)) (ap only (e .1)) refl $
+        land ! (from ! (stop !)) (init ! 3 refl (bool-lawful 𝓤 H A W .typed r _ (e .1) .0)) $ rewrite ! 3 (λ (v : Val). ‵ (fat fullShare tyBool l₈ 0 v)) (ap only (e .1)) refl $
         assigns ! (un ! (load ! (from ! (stop !)) (look ! 3 refl)) tt) (from ! (stop !)) (init ! 5 refl (tt, tt)) $
         first ! $ branches ! (load ! (from ! (stop !)) (look ! 5 refl))
         (λ more. skips ! $ exec ! C Λ En (behind (behind (behind (behind piece.turn-1)))) (anyQ (Turned i)) $
         -- the field that the walker has come to
         assigns ! (of-opd ! (load ! (from ! (stop !)) (look ! 2 refl))) (from ! (stop !)) (init ! 8 refl (typed (i .0) fits)) $
-        use1 W (raw (Here 𝓤 H A mem run .pre (AskField (i .0))) ⊛ Slice) (asking.asked (here.signature .result) asks-field gives-field 𝓤 H A W κ₀ q₀ (walker (i .0)) fits (come (i .0) (left r (e .0) more))) $ split ! $
+        use1 W (raw (Here 𝓤 H A mem run .pre (AskField (i .0))) ⊛ Slice) (asking.asked (here.signature .result) asks-field gives-field 𝓤 H A W κ₀ q₀ (walker (i .0)) (counts, fits) (come (i .0) (left r (e .0) more))) $ split ! $
         calls-at ! fm (Here 𝓤 H A mem run) (known .fields) (AskField (i .0)) (and-then ! (load ! (from ! (stop !)) (look ! 9 refl)) (no-more !)) (λ u₁.
         use2 W (later (some (λ (z : Spot). asking.Answer (here.signature .result) asks-field gives-field 𝓤 H A W κ₀ q₀ (walker (i .0)) u₁ z))) (asking.answered (here.signature .result) asks-field gives-field 𝓤 H A W κ₀ q₀ (walker (i .0)) u₁) $
         await ! tt $ pick ! (λ spot. learn ! (λ f. split ! $
         land ! (from ! (stop !)) (init ! 8 refl (LL.lawful S.the-type S′.the-laws 𝓤 H A W .typed spot _ (f .1) .0)) $
         -- the lists are lent again, and the field is noted
-        assigns ! (of-opd ! (load ! (from ! (fld ! refl (stop !))) (look-in ! 3 (sub ! 1 refl (whole !))))) (from ! (stop !)) (init ! 10 refl (tt, record { fits = fits })) $
-        assigns ! (addr ! (from ! (fld ! refl (hop ! (look-in ! 20 (sub ! 0 refl (whole !))) (stop !))))) (from ! (stop !)) (init ! 11 refl (tt, tt)) $
-        assigns ! (agg ! (and-then ! (load ! (from ! (stop !)) (look ! 11 refl)) (and-then ! (load ! (from ! (fld ! refl (stop !))) (look-in ! 20 (sub ! 1 refl (whole !)))) (no-more !)))) (from ! (stop !)) (init ! 12 refl (tt, (tt, (record { fits = room₁ .0 }, tt)))) $
-        assigns ! (addr ! (from ! (fld ! refl (hop ! (look-in ! 21 (sub ! 0 refl (whole !))) (stop !))))) (from ! (stop !)) (init ! 13 refl (tt, tt)) $
-        assigns ! (agg ! (and-then ! (load ! (from ! (stop !)) (look ! 13 refl)) (and-then ! (load ! (from ! (fld ! refl (stop !))) (look-in ! 21 (sub ! 1 refl (whole !)))) (no-more !)))) (from ! (stop !)) (init ! 14 refl (tt, (tt, (record { fits = room₂ .0 }, tt)))) $
-        assigns ! (addr ! (from ! (fld ! refl (hop ! (look-in ! 22 (sub ! 0 refl (whole !))) (stop !))))) (from ! (stop !)) (init ! 15 refl (tt, tt)) $
-        assigns ! (agg ! (and-then ! (load ! (from ! (stop !)) (look ! 15 refl)) (and-then ! (load ! (from ! (fld ! refl (stop !))) (look-in ! 22 (sub ! 1 refl (whole !)))) (no-more !)))) (from ! (stop !)) (init ! 16 refl (tt, (tt, (record { fits = room₃ .0 }, tt)))) $
+        assigns ! (of-opd ! (load ! (from ! (fld ! refl (stop !))) (look-in ! 3 (sub ! 2 refl (whole !))))) (from ! (stop !)) (init ! 10 refl (tt, record { fits = fits })) $
+        assigns ! (addr ! (from ! (fld ! refl (hop ! (look-in ! 21 (sub ! 0 refl (whole !))) (stop !))))) (from ! (stop !)) (init ! 11 refl (tt, tt)) $
+        assigns ! (agg ! (and-then ! (load ! (from ! (stop !)) (look ! 11 refl)) (and-then ! (load ! (from ! (fld ! refl (stop !))) (look-in ! 21 (sub ! 1 refl (whole !)))) (no-more !)))) (from ! (stop !)) (init ! 12 refl (tt, (tt, (record { fits = room₁ .0 }, tt)))) $
+        assigns ! (addr ! (from ! (fld ! refl (hop ! (look-in ! 22 (sub ! 0 refl (whole !))) (stop !))))) (from ! (stop !)) (init ! 13 refl (tt, tt)) $
+        assigns ! (agg ! (and-then ! (load ! (from ! (stop !)) (look ! 13 refl)) (and-then ! (load ! (from ! (fld ! refl (stop !))) (look-in ! 22 (sub ! 1 refl (whole !)))) (no-more !)))) (from ! (stop !)) (init ! 14 refl (tt, (tt, (record { fits = room₂ .0 }, tt)))) $
+        assigns ! (addr ! (from ! (fld ! refl (hop ! (look-in ! 23 (sub ! 0 refl (whole !))) (stop !))))) (from ! (stop !)) (init ! 15 refl (tt, tt)) $
+        assigns ! (agg ! (and-then ! (load ! (from ! (stop !)) (look ! 15 refl)) (and-then ! (load ! (from ! (fld ! refl (stop !))) (look-in ! 23 (sub ! 1 refl (whole !)))) (no-more !)))) (from ! (stop !)) (init ! 16 refl (tt, (tt, (record { fits = room₃ .0 }, tt)))) $
         move ! (0 ∷ 2 ∷ []) $
         use2 W (later (some (λ (p : Loans spot u₁). raw (noting.Note 𝓤 H A mem run .pre (to spot u₁ p)) ⊛ Meanwhile spot u₁ p)))
         (noting.lent κ₁ κ₂ κ₃ q₁ q₂ q₃ x₁ x₂ x₃ 𝓤 H A W mem run spot u₁ (i .0) at (tags (i .0)) (starts (i .0)) (lens (i .0)) t-long s-long l-long (room-for spot (f .0) (left r (e .0) more)) fits at-fits) $ await ! tt $ pick ! (λ p. split ! $
         calls-at ! fm (noting.Note 𝓤 H A mem run) (known .notes) (to spot u₁ p)
-        (and-then ! (load ! (from ! (stop !)) (look ! 8 refl)) (and-then ! (load ! (from ! (stop !)) (look ! 10 refl)) (and-then ! (load ! (from ! (stop !)) (look ! 19 refl))
+        (and-then ! (load ! (from ! (stop !)) (look ! 8 refl)) (and-then ! (load ! (from ! (stop !)) (look ! 10 refl)) (and-then ! (load ! (from ! (stop !)) (look ! 20 refl))
         (and-then ! (load ! (from ! (stop !)) (look ! 12 refl)) (and-then ! (load ! (from ! (stop !)) (look ! 14 refl)) (and-then ! (load ! (from ! (stop !)) (look ! 16 refl)) (no-more !))))))) (λ w.
         use2 W (later (noting.Noted κ₁ κ₂ κ₃ q₁ q₂ q₃ x₁ x₂ x₃ 𝓤 H A W mem run spot u₁ (i .0) at (tags (i .0)) (starts (i .0)) (lens (i .0)) t-long s-long l-long w))
         (noting.back κ₁ κ₂ κ₃ q₁ q₂ q₃ x₁ x₂ x₃ 𝓤 H A W mem run spot u₁ (i .0) at (tags (i .0)) (starts (i .0)) (lens (i .0)) t-long s-long l-long p w room₁ room₂ room₃) $ await ! tt $ learn ! (λ none.
         land ! (from ! (stop !)) (init ! 6 refl (nothing-lawful 𝓤 H A W .typed tt _ none .0)) $
         -- the walker moves on
         assigns ! (of-opd ! (load ! (from ! (stop !)) (look ! 2 refl))) (from ! (stop !)) (init ! 16 refl (typed (i .0) fits)) $ move ! (1 ∷ []) $
-        use1 W (raw (Advance 𝓤 H A mem run .pre (AskNext (i .0))) ⊛ Slice) (asking.asked (advance.signature .result) asks-field gives-next 𝓤 H A W κ₀ q₀ (walker (i .0)) fits (come (i .0) (left r (e .0) more))) $ split ! $
+        use1 W (raw (Advance 𝓤 H A mem run .pre (AskNext (i .0))) ⊛ Slice) (asking.asked (advance.signature .result) asks-field gives-next 𝓤 H A W κ₀ q₀ (walker (i .0)) (counts, fits) (come (i .0) (left r (e .0) more))) $ split ! $
         calls-at-last ! fm (Advance 𝓤 H A mem run) (known .moves) (AskNext (i .0)) (and-then ! (load ! (from ! (stop !)) (look ! 17 refl)) (no-more !)) (λ u₂.
         use2 W (later (some (λ (z : FieldWalker). asking.Answer (advance.signature .result) asks-field gives-next 𝓤 H A W κ₀ q₀ (walker (i .0)) u₂ z))) (asking.answered (advance.signature .result) asks-field gives-next 𝓤 H A W κ₀ q₀ (walker (i .0)) u₂) $
         await ! tt $ pick ! (λ d. learn ! (λ g. split ! $ drop ! $
         land-last ! (from ! (stop !)) (store ! 2 refl (subst (λ (v : Val). Holds (hasTy walkerTy v) × WT v) (sym (landed (i .0) d u₂ g)) (typed (i .0 + 1) (small (i .0 + 1) (next (left r (e .0) more)))))) $
-        rewrite ! 2 (λ (v : Val). ‵ (fat fullShare walkerTy l₆ 0 v)) (landed (i .0) d u₂ g) refl $
+        rewrite ! 2 (λ (v : Val). ‵ (fat fullShare walkerTy l₇ 0 v)) (landed (i .0) d u₂ g) refl $
         rewrite ! 1 (λ (z : Three). Lists (z .0) (z .1) (z .2)) (noted (i .0) (left r (e .0) more) spot (f .0)) refl $
         forget ! 3 refl $ forget ! 4 refl $ forget ! 5 refl $ forget ! 6 refl $ forget ! 7 refl $ forget ! 8 refl $ forget ! 9 refl $ forget ! 10 refl $ forget ! 11 refl $ forget ! 12 refl $ forget ! 13 refl $ forget ! 14 refl $ forget ! 15 refl $ forget ! 16 refl $ turned ! Nearer At i (i .0 + 1, next (left r (e .0) more)) (omega (arith, left r (e .0) more))))))))))))
         (λ over. jumps ! $ exec ! C Λ En piece.t-3 (atRet En Post) $
-        assigns ! (of-opd ! (load ! (from ! (fld ! refl (stop !))) (look-in ! 2 (sub ! 1 refl (whole !))))) (from ! (stop !)) (init ! 22 refl (tt, record { fits = fits })) $
-        returns ! (look ! 22 refl) $ forget ! 2 refl $ forget ! 3 refl $ forget ! 4 refl $ forget ! 5 refl $ forget ! 17 refl $ forget ! 18 refl $ forget ! 19 refl $ forget ! 20 refl $ forget ! 21 refl $ forget ! 22 refl $
-        move ! (22 ∷ 23 ∷ []) $ free1 ! $ move ! (17 ∷ 22 ∷ []) $ free1 ! $ move ! (17 ∷ 21 ∷ []) $ free1 ! $ move ! (17 ∷ 20 ∷ []) $ free1 ! $ move ! (17 ∷ 19 ∷ []) $ free1 ! $ move ! (17 ∷ 18 ∷ []) $ free1 ! $ move ! (2 ∷ 17 ∷ []) $ free1 ! $ move ! (2 ∷ 16 ∷ []) $ free1 ! $ move ! (2 ∷ 15 ∷ []) $ free1 ! $ move ! (2 ∷ 14 ∷ []) $ free1 ! $ move ! (2 ∷ 13 ∷ []) $ free1 ! $ move ! (2 ∷ 12 ∷ []) $ free1 ! $ move ! (2 ∷ 11 ∷ []) $ free1 ! $ move ! (2 ∷ 10 ∷ []) $ free1 ! $ move ! (2 ∷ 9 ∷ []) $ free1 ! $ move ! (2 ∷ 8 ∷ []) $ free1 ! $ move ! (2 ∷ 7 ∷ []) $ free1 ! $ move ! (2 ∷ 6 ∷ []) $ free1 ! $ move ! (2 ∷ 5 ∷ []) $ free1 ! $ move ! (2 ∷ 4 ∷ []) $ free1 ! $ move ! (2 ∷ 3 ∷ []) $ free1 ! $ free0 ! $ by ! (exits (i .0) (i .1) (le-antisymm (i .1) (past r (e .0) over)))))))
+        assigns ! (of-opd ! (load ! (from ! (fld ! refl (stop !))) (look-in ! 2 (sub ! 2 refl (whole !))))) (from ! (stop !)) (init ! 23 refl (tt, record { fits = fits })) $
+        returns ! (look ! 23 refl) $ forget ! 2 refl $ forget ! 3 refl $ forget ! 4 refl $ forget ! 5 refl $ forget ! 17 refl $ forget ! 18 refl $ forget ! 19 refl $ forget ! 20 refl $ forget ! 21 refl $ forget ! 22 refl $ forget ! 23 refl $
+        move ! (23 ∷ 24 ∷ []) $ free1 ! $ move ! (17 ∷ 23 ∷ []) $ free1 ! $ move ! (17 ∷ 22 ∷ []) $ free1 ! $ move ! (17 ∷ 21 ∷ []) $ free1 ! $ move ! (17 ∷ 20 ∷ []) $ free1 ! $ move ! (17 ∷ 19 ∷ []) $ free1 ! $ move ! (17 ∷ 18 ∷ []) $ free1 ! $ move ! (2 ∷ 17 ∷ []) $ free1 ! $ move ! (2 ∷ 16 ∷ []) $ free1 ! $ move ! (2 ∷ 15 ∷ []) $ free1 ! $ move ! (2 ∷ 14 ∷ []) $ free1 ! $ move ! (2 ∷ 13 ∷ []) $ free1 ! $ move ! (2 ∷ 12 ∷ []) $ free1 ! $ move ! (2 ∷ 11 ∷ []) $ free1 ! $ move ! (2 ∷ 10 ∷ []) $ free1 ! $ move ! (2 ∷ 9 ∷ []) $ free1 ! $ move ! (2 ∷ 8 ∷ []) $ free1 ! $ move ! (2 ∷ 7 ∷ []) $ free1 ! $ move ! (2 ∷ 6 ∷ []) $ free1 ! $ move ! (2 ∷ 5 ∷ []) $ free1 ! $ move ! (2 ∷ 4 ∷ []) $ free1 ! $ move ! (2 ∷ 3 ∷ []) $ free1 ! $ free0 ! $ by ! (exits (i .0) (i .1) (le-antisymm (i .1) (past r (e .0) over)))))))
       where
         fits : i .0 < 2 ^ 64
         fits = small (i .0) (i .1)
@@ -449,41 +448,41 @@ module _ {M : Type 1} (𝓤 : URA M) (H : Heap 𝓤) (A : Atoms 𝓤) (W : Given
               omega (arith, t-long, h, ok .tags-long),
               omega (arith, s-long, h, ok .starts-long),
               omega (arith, l-long, h, ok .lens-long),
-              omega (arith, z, field-in rec (i .0) (come (i .0) h), ok .fits),
+              omega (arith, z, field-in rec (i .0) (ok .readable) h, ok .fits),
             )
 
     -- the body: the walker is made, and the loop walks
-    runs-on : Sq W (Kept ∷ Held 0 ∷ ‵ (froom walkerTy l₆ 0) ∷ Frame) (runs C Λ En piece.t-1 (atRet En Post))
+    runs-on : Sq W (Kept ∷ Held 0 ∷ ‵ (froom walkerTy l₇ 0) ∷ Frame) (runs C Λ En piece.t-1 (atRet En Post))
     runs-on =
         use1 W (raw (Begin 𝓤 H A mem run .pre AskBegin) ⊛ Slice) begun $ split ! $
-        calls-at ! fm (Begin 𝓤 H A mem run) (known .begins) AskBegin (and-then ! (load ! (from ! (stop !)) (look ! 18 refl)) (no-more !)) (λ u.
+        calls-at ! fm (Begin 𝓤 H A mem run) (known .begins) AskBegin (and-then ! (load ! (from ! (stop !)) (look ! 18 refl)) (and-then ! (load ! (from ! (stop !)) (look ! 19 refl)) (no-more !))) (λ u.
         use2 W (later (given (u ≡ mach 0) Kept)) (made-of u) $ await ! tt $ learn ! (λ e.
         land ! (from ! (stop !)) (init ! 2 refl (subst (λ (v : Val). Holds (hasTy walkerTy v) × WT v) (sym e) (typed 0 (small 0 zero-le)))) $
-        rewrite ! 2 (λ (v : Val). ‵ (fat fullShare walkerTy l₆ 0 v)) e refl $
+        rewrite ! 2 (λ (v : Val). ‵ (fat fullShare walkerTy l₇ 0 v)) e refl $
         first ! $ blocks ! $ loops ! 𝓣 Nearer Nearer-wf At turns (0, zero-le)))
 
   -- ---- the whole function
 
   module _ (𝓣 : Tables 𝓤 H) (known : Known 𝓤 H A mem run (𝓣 .C)) where
     walk : ent 𝓤 (onEntry 𝓤 H A fn.signature κs (q₀, (q₁, (q₂, (q₃, tt)))) a vals)
-        (WpFn 𝓤 H (𝓣 .C) (𝓣 .Λ) code.function (machine s ∷ vint w64 at ∷ machine x₁ ∷ machine x₂ ∷ machine x₃ ∷ []) Post)
+        (WpFn 𝓤 H (𝓣 .C) (𝓣 .Λ) code.function (machine s ∷ vint w64 count ∷ vint w64 at ∷ machine x₁ ∷ machine x₂ ∷ machine x₃ ∷ []) Post)
     walk =
-        qed W (raw (onEntry 𝓤 H A fn.signature κs (q₀, (q₁, (q₂, (q₃, tt)))) a vals) ∷ []) ∵ enter ! (𝓣 .C) (𝓣 .Λ) code.function (machine s ∷ vint w64 at ∷ machine x₁ ∷ machine x₂ ∷ machine x₃ ∷ []) _ $
+        qed W (raw (onEntry 𝓤 H A fn.signature κs (q₀, (q₁, (q₂, (q₃, tt)))) a vals) ∷ []) ∵ enter ! (𝓣 .C) (𝓣 .Λ) code.function (machine s ∷ vint w64 count ∷ vint w64 at ∷ machine x₁ ∷ machine x₂ ∷ machine x₃ ∷ []) _ $
         allocates ! (code.function .locals) (λ l. params1 ! $
-        pass1 ! (init ! 38 refl (shr-slice-lawful 𝓤 H A W (named 0) κ₀ u8 .typed s (machine s ∷ []) is .0)) $ pass1 ! (init ! 36 refl (tt, record { fits = at-fits })) $
+        pass1 ! (init ! 40 refl (shr-slice-lawful 𝓤 H A W (named 0) κ₀ u8 .typed s (machine s ∷ []) is .0)) $ pass1 ! (init ! 38 refl (tt, record { fits = counts })) $ pass1 ! (init ! 36 refl (tt, record { fits = at-fits })) $
         pass1 ! (init ! 34 refl (tt, (tt, (record { fits = room₁ .0 }, tt)))) $ pass1 ! (init ! 32 refl (tt, (tt, (record { fits = room₂ .0 }, tt)))) $ pass1 ! (init ! 30 refl (tt, (tt, (record { fits = room₃ .0 }, tt)))) $ pass0 ! $
-        move ! (42 ∷ []) $ use1 W (Kept ⊛ Held 0) opened $ split ! $
-        keep ! (0 ∷ 1 ∷ 30 ∷ 28 ∷ 26 ∷ 24 ∷ 22 ∷ 20 ∷ 18 ∷ 16 ∷ 14 ∷ 12 ∷ 10 ∷ 8 ∷ 6 ∷ 4 ∷ 2 ∷ 40 ∷ 38 ∷ 36 ∷ 34 ∷ 32 ∷ 42 ∷ 43 ∷ 41 ∷ 39 ∷ 37 ∷ 35 ∷ 33 ∷ 31 ∷ 29 ∷ 27 ∷ 25 ∷ 23 ∷ 21 ∷ 19 ∷ 17 ∷ 15 ∷ 13 ∷ 11 ∷ 9 ∷ 7 ∷ 5 ∷ 3 ∷ []) $ by ! (runs-on 𝓣 known (l .0) (l .1 .0) (l .1 .1 .0) (l .1 .1 .1 .0) (l .1 .1 .1 .1 .0) (l .1 .1 .1 .1 .1 .0) (l .1 .1 .1 .1 .1 .1 .0) (l .1 .1 .1 .1 .1 .1 .1 .0) (l .1 .1 .1 .1 .1 .1 .1 .1 .0) (l .1 .1 .1 .1 .1 .1 .1 .1 .1 .0) (l .1 .1 .1 .1 .1 .1 .1 .1 .1 .1 .0) (l .1 .1 .1 .1 .1 .1 .1 .1 .1 .1 .1 .0) (l .1 .1 .1 .1 .1 .1 .1 .1 .1 .1 .1 .1 .0) (l .1 .1 .1 .1 .1 .1 .1 .1 .1 .1 .1 .1 .1 .0) (l .1 .1 .1 .1 .1 .1 .1 .1 .1 .1 .1 .1 .1 .1 .0) (l .1 .1 .1 .1 .1 .1 .1 .1 .1 .1 .1 .1 .1 .1 .1 .0) (l .1 .1 .1 .1 .1 .1 .1 .1 .1 .1 .1 .1 .1 .1 .1 .1 .0) (l .1 .1 .1 .1 .1 .1 .1 .1 .1 .1 .1 .1 .1 .1 .1 .1 .1 .0) (l .1 .1 .1 .1 .1 .1 .1 .1 .1 .1 .1 .1 .1 .1 .1 .1 .1 .1 .0) (l .1 .1 .1 .1 .1 .1 .1 .1 .1 .1 .1 .1 .1 .1 .1 .1 .1 .1 .1 .0) (l .1 .1 .1 .1 .1 .1 .1 .1 .1 .1 .1 .1 .1 .1 .1 .1 .1 .1 .1 .1 .0) .prf))
+        move ! (44 ∷ []) $ use1 W (Kept ⊛ Held 0) opened $ split ! $
+        keep ! (0 ∷ 1 ∷ 30 ∷ 28 ∷ 26 ∷ 24 ∷ 22 ∷ 20 ∷ 18 ∷ 16 ∷ 14 ∷ 12 ∷ 10 ∷ 8 ∷ 6 ∷ 4 ∷ 2 ∷ 42 ∷ 40 ∷ 38 ∷ 36 ∷ 34 ∷ 32 ∷ 44 ∷ 45 ∷ 43 ∷ 41 ∷ 39 ∷ 37 ∷ 35 ∷ 33 ∷ 31 ∷ 29 ∷ 27 ∷ 25 ∷ 23 ∷ 21 ∷ 19 ∷ 17 ∷ 15 ∷ 13 ∷ 11 ∷ 9 ∷ 7 ∷ 5 ∷ 3 ∷ []) $ by ! (runs-on 𝓣 known (l .0) (l .1 .0) (l .1 .1 .0) (l .1 .1 .1 .0) (l .1 .1 .1 .1 .0) (l .1 .1 .1 .1 .1 .0) (l .1 .1 .1 .1 .1 .1 .0) (l .1 .1 .1 .1 .1 .1 .1 .0) (l .1 .1 .1 .1 .1 .1 .1 .1 .0) (l .1 .1 .1 .1 .1 .1 .1 .1 .1 .0) (l .1 .1 .1 .1 .1 .1 .1 .1 .1 .1 .0) (l .1 .1 .1 .1 .1 .1 .1 .1 .1 .1 .1 .0) (l .1 .1 .1 .1 .1 .1 .1 .1 .1 .1 .1 .1 .0) (l .1 .1 .1 .1 .1 .1 .1 .1 .1 .1 .1 .1 .1 .0) (l .1 .1 .1 .1 .1 .1 .1 .1 .1 .1 .1 .1 .1 .1 .0) (l .1 .1 .1 .1 .1 .1 .1 .1 .1 .1 .1 .1 .1 .1 .1 .0) (l .1 .1 .1 .1 .1 .1 .1 .1 .1 .1 .1 .1 .1 .1 .1 .1 .0) (l .1 .1 .1 .1 .1 .1 .1 .1 .1 .1 .1 .1 .1 .1 .1 .1 .1 .0) (l .1 .1 .1 .1 .1 .1 .1 .1 .1 .1 .1 .1 .1 .1 .1 .1 .1 .1 .0) (l .1 .1 .1 .1 .1 .1 .1 .1 .1 .1 .1 .1 .1 .1 .1 .1 .1 .1 .1 .0) (l .1 .1 .1 .1 .1 .1 .1 .1 .1 .1 .1 .1 .1 .1 .1 .1 .1 .1 .1 .1 .0) (l .1 .1 .1 .1 .1 .1 .1 .1 .1 .1 .1 .1 .1 .1 .1 .1 .1 .1 .1 .1 .1 .0) .prf))
 
 module _ {M : Type 1} (𝓤 : URA M) (H : Heap 𝓤) (A : Atoms 𝓤) (W : Given 𝓤 H A) (mem : Memory → SProp 𝓤) (run : Routine → Fun 𝓤) (𝓣 : Tables 𝓤 H) (known : Known 𝓤 H A mem run (𝓣 .C)) where
   walks : Walks 𝓤 H A fn.ended stayed (WpFn 𝓤 H (𝓣 .C) (𝓣 .Λ) code.function) (fn.clauses 𝓤 H A mem run)
   walks =
       walked 𝓤 H A fn.ended stayed (fn.clauses 𝓤 H A mem run) (WpFn 𝓤 H (𝓣 .C) (𝓣 .Λ) code.function)
-      (λ κs. (slice-vals, (uint-vals w64, (slice-vals, (slice-vals, (slice-vals, tt))))))
-      (λ κs. (shr-slice-tells (named 0) (κs .0) u8, (uint-tells w64, (mut-slice-tells (named 1) (κs .1 .0) u16, (mut-slice-tells (named 2) (κs .1 .1 .0) usize, (mut-slice-tells (named 3) (κs .1 .1 .1 .0) usize, tt))))))
+      (λ κs. (slice-vals, (uint-vals w64, (uint-vals w64, (slice-vals, (slice-vals, (slice-vals, tt)))))))
+      (λ κs. (shr-slice-tells (named 0) (κs .0) u8, (uint-tells w64, (uint-tells w64, (mut-slice-tells (named 1) (κs .1 .0) u16, (mut-slice-tells (named 2) (κs .1 .1 .0) usize, (mut-slice-tells (named 3) (κs .1 .1 .1 .0) usize, tt)))))))
       (λ κs qs bounds a g are. needs 𝓤 _ _ (λ ok.
-      walk 𝓤 H A W mem run (κs .0) (κs .1 .0) (κs .1 .1 .0) (κs .1 .1 .1 .0) (qs .0) (qs .1 .0) (qs .1 .1 .0) (qs .1 .1 .1 .0) (a .0) (a .1 .0) (a .1 .1 .0) (a .1 .1 .1 .0) (a .1 .1 .1 .1 .0) ok
-      (are .0) (are .1 .0 .1) (are .1 .1 .0 .0 .1) (are .1 .1 .1 .0 .0 .1) (are .1 .1 .1 .1 .0 .0 .1) 𝓣 known))
+      walk 𝓤 H A W mem run (κs .0) (κs .1 .0) (κs .1 .1 .0) (κs .1 .1 .1 .0) (qs .0) (qs .1 .0) (qs .1 .1 .0) (qs .1 .1 .1 .0) (a .0) (a .1 .0) (a .1 .1 .0) (a .1 .1 .1 .0) (a .1 .1 .1 .1 .0) (a .1 .1 .1 .1 .1 .0) ok
+      (are .0) (are .1 .0 .1) (are .1 .1 .0 .1) (are .1 .1 .1 .0 .0 .1) (are .1 .1 .1 .1 .0 .0 .1) (are .1 .1 .1 .1 .1 .0 .0 .1) 𝓣 known))
 
   meets : Meets 𝓤 H A fn.signature (WpFn 𝓤 H (𝓣 .C) (𝓣 .Λ) code.function) (fn.spec 𝓤 H A mem run)
   meets =
@@ -491,7 +490,7 @@ module _ {M : Type 1} (𝓤 : URA M) (H : Heap 𝓤) (A : Atoms 𝓤) (W : Given
         goes-none-slice 𝓤 H A W 4 (0 ∷ []) tt (plain (λ _. u8)) yes,
         (
           goes-none 𝓤 H A W 4 (λ _. usize) yes (λ κs x f. refl),
-          (goes-slice 𝓤 H A W 4 1 tt (plain (λ _. u16)), (goes-slice 𝓤 H A W 4 2 tt (plain (λ _. usize)), (goes-slice 𝓤 H A W 4 3 tt (plain (λ _. usize)), tt))),
+          (goes-none 𝓤 H A W 4 (λ _. usize) yes (λ κs x f. refl), (goes-slice 𝓤 H A W 4 1 tt (plain (λ _. u16)), (goes-slice 𝓤 H A W 4 2 tt (plain (λ _. usize)), (goes-slice 𝓤 H A W 4 3 tt (plain (λ _. usize)), tt)))),
         ),
       )
       (fn.clauses 𝓤 H A mem run) (WpFn 𝓤 H (𝓣 .C) (𝓣 .Λ) code.function) (WpFn-mono 𝓤 H (W .laws) 𝓣 code.function) walks
