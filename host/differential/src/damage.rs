@@ -160,14 +160,14 @@ fn entry_damage(random: &mut Random, run: &Run) -> Poke {
     let at = slot_at(mfn);
     let old = long_at(xrf, at);
     let places = places(run);
-    let value = match random.below(8) {
+    let value = match random.below(10) {
         0 if !places.is_empty() => random.pick(&places).encode(),
         1 => 0,
-        2 => -2048,
+        2..=4 => -2048,
         // The same place under another mark, or deleted, or alive again.
-        3 => old ^ random.pick(&[512, 1024, 1536]),
-        4 => old.wrapping_sub(2 * old.div_euclid(2048).wrapping_mul(2048)),
-        5 => old.rem_euclid(2048),
+        5 => old ^ random.pick(&[512, 1024, 1536]),
+        6 => old.wrapping_sub(2 * old.div_euclid(2048).wrapping_mul(2048)),
+        7 => old.rem_euclid(2048),
         _ => near_long(random, old),
     };
     (true, at, value.to_le_bytes().to_vec())

@@ -231,7 +231,7 @@ fn one_element_too_many_of_a_list() {
 
 #[test]
 fn a_list_without_room_that_is_written_all_the_same() {
-    found(&mut FromFormat::new(), 3, |_, seen| {
+    found(&mut FromFormat::new(), 4, |_, seen| {
         if let Call::Fields { mfn, .. } = *seen.call
             && seen.given.number == 17
             && let Some(first) = seen.given.lists.tags.first_mut()
@@ -243,7 +243,7 @@ fn a_list_without_room_that_is_written_all_the_same() {
 
 #[test]
 fn only_the_list_of_tags_looked_at_for_room() {
-    found(&mut FromFormat::new(), 3, |_, seen| {
+    found(&mut FromFormat::new(), 4, |_, seen| {
         if let Call::FieldsSettled { mfn, room } = seen.call
             && seen.given.number == 17
         {
@@ -258,7 +258,7 @@ fn only_the_list_of_tags_looked_at_for_room() {
 
 #[test]
 fn a_number_of_fields_that_stands_beside_a_refusal() {
-    found(&mut FromFormat::new(), 3, |_, seen| {
+    found(&mut FromFormat::new(), 4, |_, seen| {
         if seen.given.number == 17 {
             seen.given.count = 1;
         }
@@ -298,7 +298,7 @@ fn the_length_of_the_mst_for_the_end() {
 
 #[test]
 fn the_state_of_a_damaged_record() {
-    found(&mut Damaged::default(), 8, |_, seen| {
+    found(&mut Damaged::default(), 10, |_, seen| {
         if matches!(seen.call, Call::State(_)) && seen.given.number == 8 {
             seen.given.number = 0;
         }

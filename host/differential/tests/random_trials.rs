@@ -67,7 +67,7 @@ fn random_cards() {
 #[test]
 fn hostile_arguments() {
     let tally = run("hostile arguments", &mut Hostile, HOSTILE);
-    for (call, number) in [(3, 3), (4, 3), (9, 12), (10, 12), (13, 17), (14, 17)] {
+    for (call, number) in [(3, 3), (4, 3), (9, 12), (10, 12), (13, 17)] {
         came(&tally, call, number, calls(100));
     }
 }
