@@ -7,7 +7,7 @@ use model::OwnedDraft;
 use model::ask::RUBBISH;
 use std::marker::PhantomData;
 
-/// A pointer to a lent area; where the area is empty, NULL half of the times.
+/// A pointer to a lent area: NULL for an empty one at the front guard page.
 pub fn pointer(area: &mut [u8], side: Side) -> *mut u8 {
     match (area, side) {
         ([], Side::Front) => std::ptr::null_mut(),

@@ -1,7 +1,7 @@
-//! After random lists from format, all fields of both versions of every MFN, one after
-//! the other through the wrapper: they are the ledger's.
+//! After random lists from format, all fields of both versions of every MFN, its state, and
+//! what the next create is given, through the wrapper: they are the ledger's.
 
-use isis::{Answer, Card, Fields, Lists};
+use isis::{Answer, Card, Fields, Lists, Mark};
 use model::call::{Call, OwnedDraft, on_ledger};
 use model::ledger::{Ledger, Standing};
 use model::lists::{self, Taste};
@@ -31,6 +31,17 @@ fn kept(ledger: &Ledger, mfn: u32) -> (Version, Version) {
         Standing::New { .. } => Err(11),
     };
     (live(), settled)
+}
+
+/// The state of an MFN that was given out, by the ledger.
+fn state(ledger: &Ledger, mfn: u32) -> (Mark, bool) {
+    let item = ledger.item(mfn as usize).expect("an MFN given out");
+    let mark = match item.standing {
+        Standing::Settled => Mark::Settled,
+        Standing::Changed { .. } => Mark::Changed,
+        Standing::New { .. } => Mark::New,
+    };
+    (mark, item.deleted)
 }
 
 /// A draft as the wrapper takes it.
@@ -69,10 +80,14 @@ fn run(seed: u64, taste: Taste, blocks: usize) -> usize {
         let reads = matches!(call, Call::View { .. } | Call::ViewSettled { .. });
         assert!(reads || number == wanted, "seed {seed}: {call:?}");
     }
+    let next = card.next().map(|next| (next.mfn as usize, next.end));
+    assert_eq!(next, Ok((ledger.next_mfn(), ledger.end())), "seed {seed}");
     let mut there = 0;
     for mfn in 1..ledger.next_mfn() as u32 {
         let (current, settled) = kept(&ledger, mfn);
         there += usize::from(current.is_ok()) + usize::from(settled.is_ok());
+        let told = card.state(mfn).map(|state| (state.mark, state.deleted));
+        assert_eq!(told, Ok(state(&ledger, mfn)), "seed {seed}");
         assert_eq!(handed_out(card.fields(mfn)), current, "seed {seed}");
         assert_eq!(handed_out(card.fields_settled(mfn)), settled, "seed {seed}");
     }
@@ -80,7 +95,7 @@ fn run(seed: u64, taste: Taste, blocks: usize) -> usize {
 }
 
 #[test]
-fn all_fields_of_all_versions_are_the_ledgers() {
+fn all_fields_of_all_versions_and_all_states_are_the_ledgers() {
     let seeds = 1..=100;
     let short: usize = seeds.clone().map(|seed| run(seed, Taste::SHORT, 12)).sum();
     let long: usize = seeds.map(|seed| run(seed, Taste::LONG, 200)).sum();
