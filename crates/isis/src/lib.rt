@@ -257,7 +257,7 @@ pub extern "C" fn isis_revert(mst: &mut [u8], xrf: &mut [u8], mfn: u32) -> u32
 // Checks the whole store.
 #[no_mangle]
 pub extern "C" fn isis_check(mst: &[u8], xrf: &[u8]) -> u32
-    ensures { λ r. ⌜ r ≡ numberOf (checkAnswer (now (mst .entry)) (now (xrf .entry))) ⌝ }
+    ensures { λ r. ⌜ r ≡ numberOf (checkAnswer (store (now (mst .entry)) (now (xrf .entry)))) ⌝ }
 {
     number(soundness::check::check(mst, xrf))
 }

@@ -11,7 +11,8 @@ use Rattle.store.specs.declared.answer.Answer.{Answer}
 use Rattle.store.specs.declared.answer.Answer.the-variants.{Done}
 use Rattle.store.proofs.Gates.{after-cases}
 use Rattle.writing.specs.Refusals.{createAnswer, updateAnswer, deleteAnswer, settleAnswer, revertAnswer}
-use Rattle.writing.specs.Calls.{createLeaves, createdMst, createdXrf, updateLeaves, updatedMst, updatedXrf, deleteLeaves, deletedMst, deletedXrf, settleLeaves, settledMst, settledXrf, revertLeaves, revertedXrf}
+use Rattle.writing.specs.Calls.{createLeaves, updateLeaves, deleteLeaves, settleLeaves, revertLeaves}
+use Rattle.versions.specs.Written.{createdMst, createdXrf, updatedMst, updatedXrf, deletedMst, deletedXrf, settledMst, settledXrf, revertedXrf}
 use Rattle.soundness.specs.Touching.{MayChange, TouchesOnly}
 use Rattle.soundness.proofs.Touching.{calls-touch-only, nothing-touched}
 use Rattle.ledger.specs.Call.{format, view, viewSettled, create, update, delete, settle, revert, check}
