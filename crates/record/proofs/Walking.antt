@@ -4,10 +4,9 @@ use Prim.Native.Nat.{ℕ, zero, suc, _+_, _*_, _-_, _<_, _≤_, _^_}
 use native.Mathlib.Nat.{add-zero, zero-add, le-refl}
 use native.Mathlib.Numerals.{add-one}
 use native.Mathlib.Omega.{arith}
-use mathlib.Core.Path.{_≡_, refl, sym, _∙_}
+use mathlib.Core.Path.{_≡_, refl, _∙_}
 use mathlib.Core.Bool.{Bool, true, false, cond}
 use mathlib.Core.List.{List, [], _∷_, _++_, map}
-use lib.Dec.{leb}
 use lib.ListN.{length, take, drop, set, length-map, length-append}
 use lib.Seq.{drop-nil}
 use borrow.Author.Tests.{le-leb, lt-leb, leb-false}
@@ -16,10 +15,11 @@ use Rattle.word.specs.Overwrite.{overwrite}
 use Rattle.word.proofs.Overwrite.{overwrite-none, overwrite-more, overwrite-length}
 use Rattle.layout.specs.Leader.{leaderOf}
 use Rattle.layout.specs.declared.sizes.Tag.{Tag}
+use Rattle.record.specs.Inner.{AtField}
 use Rattle.record.specs.Directory.{tagAt, posAt, lenAt, directoryRight}
 use Rattle.record.specs.Fields.{fieldAt, fieldsFrom, fieldsOf}
 use Rattle.record.specs.Record.{Readable}
-use Rattle.record.specs.Walker.{atEnd, AtField, spotAt, fieldIn, spotsBefore, spotsOf, walkedAt, walkedFields}
+use Rattle.record.specs.Walker.{atEnd, spotAt, fieldIn, spotsBefore, spotsOf, walkedAt, walkedFields}
 use Rattle.record.specs.declared.walker.Spot.{Spot}
 use Rattle.record.specs.declared.walker.Walked.the-variants.{Field as FieldHere, End}
 use Rattle.record.proofs.Facts.{entry-facts}

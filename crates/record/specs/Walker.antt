@@ -1,16 +1,13 @@
 -- The walk over a record's fields. Document 01, "Records": a field walker keeps the record it walks and its place in the directory, and hands
 -- out tag and field in directory order. Its place is a directory index, counted from 0.
-use Prim.Native.Nat.{ℕ, zero, suc, _+_, _<_, _≤_, _^_}
-use mathlib.Core.Path.{_≡_}
+use Prim.Native.Nat.{ℕ, zero, suc, _+_}
 use mathlib.Core.Bool.{Bool, cond}
 use mathlib.Core.List.{List, [], _∷_, _++_, map}
 use lib.Dec.{leb}
-use lib.ListN.{length}
 use Rattle.word.specs.Overwrite.{part}
 use Rattle.layout.specs.Leader.{leaderOf}
 use Rattle.record.specs.Directory.{tagAt, posAt, lenAt}
 use Rattle.record.specs.Fields.{Field}
-use Rattle.record.specs.Record.{Readable}
 use Rattle.record.specs.declared.walker.Spot.{Spot}
 use Rattle.record.specs.declared.walker.Walked.{Walked}
 use Rattle.record.specs.declared.walker.Walked.the-variants.{Field as FieldHere, End}
@@ -18,12 +15,6 @@ use Rattle.record.specs.declared.walker.Walked.the-variants.{Field as Fi
 -- the directory has no entry i: the walk is over
 abbrev pub atEnd : List ℕ → ℕ → Bool
 atEnd rec i = leb (leaderOf rec .nvf) i
-
--- the walk has come to a field: the record can be read, its number of fields is known, and its directory has entry i
-pub record AtField (rec : List ℕ) (count i : ℕ) : Type 0 where
-  pub readable : Readable rec
-  pub counted : count ≡ leaderOf rec .nvf
-  pub listed : i < leaderOf rec .nvf
 
 -- the field at index i, as a walk hands it out: its tag, and where in the record it lies
 abbrev pub spotAt : List ℕ → ℕ → Spot
@@ -61,15 +52,6 @@ startsOf at rec = map (spotStart at) (spotsOf rec)
 
 abbrev pub lengthsOf : List ℕ → List ℕ
 lengthsOf rec = map spotLength (spotsOf rec)
-
--- what is enough to list a record's fields: it can be read, its number of fields is known, each list has room for all of them, and where it ends is a number
-pub record Listable (rec : List ℕ) (count at : ℕ) (tags starts lens : List ℕ) : Type 0 where
-  pub readable : Readable rec
-  pub counted : count ≡ leaderOf rec .nvf
-  pub tags-long : leaderOf rec .nvf ≤ length tags
-  pub starts-long : leaderOf rec .nvf ≤ length starts
-  pub lens-long : leaderOf rec .nvf ≤ length lens
-  pub fits : at + leaderOf rec .mfrl < 2 ^ 64
 
 -- what stands at index i, whatever the index: the field there, or the end
 unfoldable pub walkedAt : List ℕ → ℕ → Walked

@@ -1,5 +1,5 @@
-// The field walker: it keeps the record that it walks and its place in the directory, and hands out tag and field in directory order.
-// The steps take a plain slice and an index; the walker's own functions only take the struct apart and call one of them.
+// The field walker: it keeps the record that it walks, how many fields that has and its place in the directory, and hands out tag and
+// field in directory order. What reads the record takes a plain slice; the walker's own functions are thin, and `list_fields` walks.
 use crate::directory::len_at;
 use crate::directory::pos_at;
 use crate::directory::tag_at;
@@ -10,8 +10,9 @@ ghost use Prim.Native.Nat.{_+_, _<_, _^_};
 ghost use lib.ListN.{length, set};
 ghost use Rattle.word.specs.Overwrite.{overwrite};
 ghost use Rattle.layout.specs.Leader.{leaderOf};
+ghost use Rattle.record.specs.Inner.{AtField, Listable};
 ghost use Rattle.record.specs.Record.{Readable};
-ghost use Rattle.record.specs.Walker.{atEnd, AtField, spotAt, spotTag, spotStart, spotLength, walkedAt, Listable, tagsOf, startsOf, lengthsOf};
+ghost use Rattle.record.specs.Walker.{atEnd, spotAt, spotTag, spotStart, spotLength, walkedAt, tagsOf, startsOf, lengthsOf};
 
 // A field as a walk hands it out: its tag, and where in the record it lies.
 pub struct Spot {

@@ -12,18 +12,18 @@ use Rattle.word.proofs.Overwrite.{overwrite-front, overwrite-drop-after, part-p
 use Rattle.layout.specs.Entry.{placeAddress}
 use Rattle.layout.specs.Control.{endOf}
 use Rattle.layout.specs.Leader.{leaderOf}
-use Rattle.record.specs.Fields.{Field, fieldsOf}
+use Rattle.record.specs.Fields.{fieldsOf}
 use Rattle.record.specs.Walker.{fieldIn, spotsOf, spotTag, spotStart, spotLength}
 use Rattle.record.specs.declared.walker.Spot.{Spot}
 use Rattle.record.proofs.FieldData.{fields-count}
 use Rattle.record.proofs.Walking.{spots-are, spots-length, Within, spots-within}
-use Rattle.store.specs.Answer.{numberOf, lowest, after}
+use Rattle.store.specs.Answer.{numberOf, after}
 use Rattle.store.specs.Reading.{placeFor, recordAt, shownSettled, currentFields}
 use Rattle.store.specs.Store.{store}
 use Rattle.store.specs.declared.answer.Answer.{Answer}
 use Rattle.store.specs.declared.answer.Answer.the-variants.{Done, NoRoomInList}
 use Rattle.store.proofs.Gates.{Refusing, after-refused, after-cases}
-use Rattle.views.specs.Views.{onCurrent, onSettled, settledAddress}
+use Rattle.views.specs.Views.{settledAddress}
 use Rattle.views.specs.Listing.{Lists, shortFor, counted, leaves, allFieldsAnswer, allFieldsOf, allFieldsLeaves, settledAllFieldsAnswer, settledAllFieldsOf, settledAllFieldsLeaves, fieldsNamed, NamesAll}
 use Rattle.views.specs.Versions.{ReadableAt}
 use Rattle.views.proofs.VersionAnswers.{current-then, settled-then, settled-from, current-readable, settled-readable}

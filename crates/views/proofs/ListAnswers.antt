@@ -1,10 +1,10 @@
 -- What the calls that hand out all fields at once list of the version that they read. Each law's premises are what is known at one place of the
 -- code, so that `search list-answers` finds them there.
-use Prim.Native.Nat.{ℕ, _+_, _-_, _^_, _≤_, _<_}
+use Prim.Native.Nat.{ℕ, _-_, _^_, _≤_, _<_}
 use native.Mathlib.Omega.{arith}
-use mathlib.Core.Path.{_≡_, refl, sym, _∙_, ap}
-use mathlib.Core.Bool.{Bool, true, false, not, _&&_, cond}
-use mathlib.Core.List.{List, [], _∷_}
+use mathlib.Core.Path.{_≡_, refl, sym, _∙_}
+use mathlib.Core.Bool.{Bool, true, false, not}
+use mathlib.Core.List.{List, []}
 use lib.Dec.{leb}
 use lib.ListN.{length}
 use borrow.Author.Tests.{le-leb, lt-leb, leb-true}
@@ -15,16 +15,17 @@ use Rattle.layout.specs.Control.{endOf}
 use Rattle.layout.specs.Leader.{leaderOf}
 use Rattle.layout.proofs.Tests.{and-iff}
 use Rattle.layout.specs.declared.entry.Place.{Place}
-use Rattle.record.specs.Walker.{Listable, tagsOf, startsOf, lengthsOf}
+use Rattle.record.specs.Inner.{Listable}
+use Rattle.record.specs.Walker.{tagsOf, startsOf, lengthsOf}
 use Rattle.store.specs.Answer.{numberOf, lowest, after}
-use Rattle.store.specs.Reading.{placeFor, recordAt, recordFrom, shownSettled}
+use Rattle.store.specs.Reading.{placeFor, recordAt, recordFrom}
 use Rattle.store.specs.Store.{store}
 use Rattle.store.specs.declared.answer.Answer.{Answer}
 use Rattle.store.specs.declared.answer.Answer.the-variants.{Done, NoRoomInList}
 use Rattle.store.proofs.Gates.{Refusing, after-refused}
 use Rattle.views.specs.Views.{onCurrent, onSettled, settledAddress}
 use Rattle.views.specs.Listing.{Lists, lists, allAtLeast, shortFor, counted, leaves, allFieldsAnswer, allFieldsOf, allFieldsLeaves, settledAllFieldsAnswer, settledAllFieldsOf, settledAllFieldsLeaves}
-use Rattle.views.specs.Versions.{lastly, versionIf, versionAnswer, currentVersion, settledVersion, ReadableAt, Legible, ListedFrom, refusedList, listedOf, leftOf, listedIn, leftIn}
+use Rattle.views.specs.Versions.{lastly, versionIf, versionAnswer, currentVersion, settledVersion, Legible, ListedFrom, refusedList, listedOf, leftOf, listedIn, leftIn}
 use Rattle.views.specs.declared.listing.Listed.{Listed}
 use Rattle.views.specs.declared.views.Version.{Version}
 use Rattle.views.specs.declared.views.Version.the-variants.{Begins, Refused as NoVersion}

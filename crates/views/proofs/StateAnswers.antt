@@ -1,7 +1,7 @@
 -- What the calls show that ask for the next MFN and for the state of a record, by what the gate and the record's test found.
 use Prim.Native.Nat.{ℕ}
-use mathlib.Core.Path.{_≡_, refl, sym, ap, _∙_}
-use mathlib.Core.Bool.{Bool, true, false, cond}
+use mathlib.Core.Path.{_≡_, sym, ap, _∙_}
+use mathlib.Core.Bool.{Bool, false}
 use mathlib.Core.List.{List, []}
 use Rattle.layout.specs.Control.{nextOf, endOf}
 use Rattle.layout.specs.declared.sizes.Mfn.{Mfn}
@@ -9,10 +9,9 @@ use Rattle.layout.specs.declared.entry.Mark.{Mark}
 use Rattle.layout.specs.declared.entry.Mark.the-variants.{Settled}
 use Rattle.layout.specs.declared.entry.Place.{Place}
 use Rattle.layout.specs.declared.leader.Leader.{Leader}
-use Rattle.store.specs.Answer.{numberOf, lowest, after}
+use Rattle.store.specs.Answer.{numberOf, after}
 use Rattle.store.specs.Gate.{gateOf, gateAnswer, reachedOf, reachedAnswer}
 use Rattle.store.specs.Reading.{placeFor}
-use Rattle.store.specs.Refusals.{gated, named, fine}
 use Rattle.store.specs.Store.{store}
 use Rattle.store.specs.declared.answer.Answer.{Answer}
 use Rattle.store.specs.declared.answer.Answer.the-variants.{Done}
@@ -20,7 +19,7 @@ use Rattle.store.specs.declared.gate.Gate.{Gate}
 use Rattle.store.specs.declared.gate.Gate.the-variants.{Open, Shut}
 use Rattle.store.specs.declared.gate.Reached.{Reached}
 use Rattle.store.specs.declared.gate.Reached.the-variants.{There, Refused as Unreached}
-use Rattle.store.proofs.Gates.{Refusing, after-refused, gate-shut, gate-open}
+use Rattle.store.proofs.Gates.{after-refused, gate-shut, gate-open}
 use Rattle.store.proofs.Reaching.{reach-refused, reached-facts}
 use Rattle.views.specs.State.{nextFreeOf, nextFreeAnswer, stateOf, stateAnswer}
 

@@ -13,7 +13,6 @@ use Rattle.word.proofs.Overwrite.{part-short}
 use Rattle.layout.specs.Entry.{placeAddress}
 use Rattle.layout.specs.Leader.{leaderOf}
 use Rattle.layout.specs.Control.{nextOf, endOf}
-use Rattle.layout.specs.declared.sizes.Mfn.{Mfn}
 use Rattle.layout.specs.declared.entry.Mark.{Mark}
 use Rattle.layout.specs.declared.entry.Mark.the-variants.{Settled, Changed, New}
 use Rattle.layout.specs.declared.entry.Place.{Place}
@@ -27,7 +26,7 @@ use Rattle.views.specs.Views.{onCurrent, onSettled, settledAddress}
 use Rattle.store.specs.Gate.{knownIf, knownOf, knownBoth, reachedOf, reachedBoth, reachedAnswer}
 use Rattle.views.specs.Versions.{lastly, versionIf, currentVersion, settledVersion, settledOf, Located, ReadableAt, Legible}
 use Rattle.store.specs.declared.answer.Answer.{Answer}
-use Rattle.store.specs.declared.answer.Answer.the-variants.{Done, Deleted, NeverSettled, NoField}
+use Rattle.store.specs.declared.answer.Answer.the-variants.{Done, Deleted, NeverSettled}
 use Rattle.store.specs.declared.gate.Reached.{Reached}
 use Rattle.store.specs.declared.gate.Reached.the-variants.{There, Refused as Unreached}
 use Rattle.views.specs.declared.views.Version.{Version}

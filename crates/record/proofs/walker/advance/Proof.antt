@@ -33,7 +33,7 @@ use denote.Triple.Spec.{Meets, tripleOf}
 use denote.Triple.Table.{entered}
 use denote.Triple.Walked.{says, needs, Stays, stay-none, walkOf, goes-none, Walks, ends-at, walked, walk-meets}
 use denote.Exit.{yes}
-use Rattle.record.specs.Walker.{AtField}
+use Rattle.record.specs.Inner.{AtField}
 use Rattle.record.specs.declared.walker.FieldWalker.{FieldWalker}
 use Rattle.record.proofs.walker.FieldWalker as T
 use Rattle.record.proofs.walker.FieldWalker.Laws as T′

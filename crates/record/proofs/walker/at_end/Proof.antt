@@ -1,5 +1,5 @@
 -- `at_end`: a walk of its MIR, by hand. The walker's count and index are read and compared; what the walker owns is kept for the exit.
-use mathlib.Core.Path.{_≡_, refl, sym, ap}
+use mathlib.Core.Path.{_≡_, refl, ap}
 use mathlib.Core.Bool.{Bool}
 use mathlib.Core.List.{[], _∷_}
 use lib.Dec.{T as Holds, leb}

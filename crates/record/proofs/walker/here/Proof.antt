@@ -2,7 +2,8 @@
 use mathlib.Core.Path.{_≡_}
 use contract.Running.{givenOf}
 use denote.Struct.Laws as LL
-use Rattle.record.specs.Walker.{AtField, spotAt}
+use Rattle.record.specs.Inner.{AtField}
+use Rattle.record.specs.Walker.{spotAt}
 use Rattle.record.proofs.walker.Spot as R
 use Rattle.record.proofs.walker.Spot.Laws as R′
 use Rattle.record.proofs.TakenApart.{passes}

@@ -48,7 +48,8 @@ use denote.Triple.Table.{entered, cited}
 use denote.Triple.Walked.{says, needs, Stays, stay-none, stay-none-slice, stay-slice, walkOf, goes-none, goes-none-slice, goes-slice, Walks, ends-at, walked, walk-meets}
 use denote.Exit.{yes}
 use Rattle.layout.specs.Leader.{leaderOf}
-use Rattle.record.specs.Walker.{atEnd, AtField, spotAt, spotTag, spotStart, spotLength, Listable}
+use Rattle.record.specs.Inner.{AtField, Listable}
+use Rattle.record.specs.Walker.{atEnd, spotAt, spotTag, spotStart, spotLength}
 use Rattle.record.specs.declared.walker.FieldWalker.{FieldWalker}
 use Rattle.record.specs.declared.walker.Spot.{Spot}
 use Rattle.record.proofs.walker.FieldWalker as T
@@ -342,15 +343,23 @@ module _ {M : Type 1} (𝓤 : URA M) (H : Heap 𝓤) (A : Atoms 𝓤) (W : Given
     fm = fmOf 𝓤 H (W .laws) 𝓣
 
     abbrev En : Env 𝓤 H
-    En = (word, l₀) ∷ (recTy, l₁) ∷ (word, l₂) ∷ (word, l₃) ∷ (tagsTy, l₄) ∷ (startsTy, l₅) ∷ (lensTy, l₆) ∷ (walkerTy, l₇) ∷ (tyBool, l₈) ∷ (walkerTy, l₉) ∷ (tyBool, l₁₀) ∷ (tyUnit, l₁₁) ∷ (S′.mir, l₁₂) ∷ (walkerTy, l₁₃) ∷ (word, l₁₄) ∷ ((tyRef erased mut (tyInt w16)), l₁₅) ∷ ((sliceTy (tyRef erased mut (tyInt w16))), l₁₆) ∷ ((tyRef erased mut word), l₁₇) ∷ ((sliceTy (tyRef erased mut word)), l₁₈) ∷ ((tyRef erased mut word), l₁₉) ∷ ((sliceTy (tyRef erased mut word)), l₂₀) ∷ (walkerTy, l₂₁) ∷ []
+    En =
+        (word, l₀) ∷ (recTy, l₁) ∷ (word, l₂) ∷ (word, l₃) ∷ (tagsTy, l₄) ∷ (startsTy, l₅) ∷ (lensTy, l₆) ∷ (walkerTy, l₇) ∷ (tyBool, l₈) ∷ (walkerTy, l₉) ∷ (tyBool, l₁₀) ∷ (tyUnit, l₁₁)
+        ∷ (S′.mir, l₁₂) ∷ (walkerTy, l₁₃) ∷ (word, l₁₄) ∷ ((tyRef erased mut (tyInt w16)), l₁₅) ∷ ((sliceTy (tyRef erased mut (tyInt w16))), l₁₆) ∷ ((tyRef erased mut word), l₁₇)
+        ∷ ((sliceTy (tyRef erased mut word)), l₁₈) ∷ ((tyRef erased mut word), l₁₉) ∷ ((sliceTy (tyRef erased mut word)), l₂₀) ∷ (walkerTy, l₂₁) ∷ []
 
     -- the locals from _8 on, then the parameters', the result's, and that each dies
     abbrev Frame : List (Item 𝓤)
     Frame =
-        ‵ (froom tyBool l₈ 0) ∷ ‵ (froom walkerTy l₉ 0) ∷ ‵ (froom tyBool l₁₀ 0) ∷ ‵ (froom tyUnit l₁₁ 0) ∷ ‵ (froom S′.mir l₁₂ 0) ∷ ‵ (froom walkerTy l₁₃ 0) ∷ ‵ (froom word l₁₄ 0) ∷ ‵ (froom (tyRef erased mut (tyInt w16)) l₁₅ 0) ∷ ‵ (froom (sliceTy (tyRef erased mut (tyInt w16))) l₁₆ 0) ∷ ‵ (froom (tyRef erased mut word) l₁₇ 0) ∷ ‵ (froom (sliceTy (tyRef erased mut word)) l₁₈ 0) ∷ ‵ (froom (tyRef erased mut word) l₁₉ 0) ∷ ‵ (froom (sliceTy (tyRef erased mut word)) l₂₀ 0) ∷ ‵ (froom walkerTy l₂₁ 0)
+        ‵ (froom tyBool l₈ 0) ∷ ‵ (froom walkerTy l₉ 0) ∷ ‵ (froom tyBool l₁₀ 0) ∷ ‵ (froom tyUnit l₁₁ 0) ∷ ‵ (froom S′.mir l₁₂ 0) ∷ ‵ (froom walkerTy l₁₃ 0) ∷ ‵ (froom word l₁₄ 0)
+        ∷ ‵ (froom (tyRef erased mut (tyInt w16)) l₁₅ 0) ∷ ‵ (froom (sliceTy (tyRef erased mut (tyInt w16))) l₁₆ 0) ∷ ‵ (froom (tyRef erased mut word) l₁₇ 0)
+        ∷ ‵ (froom (sliceTy (tyRef erased mut word)) l₁₈ 0) ∷ ‵ (froom (tyRef erased mut word) l₁₉ 0) ∷ ‵ (froom (sliceTy (tyRef erased mut word)) l₂₀ 0) ∷ ‵ (froom walkerTy l₂₁ 0)
         ∷ ‵ (fat fullShare recTy l₁ 0 (machine s)) ∷ ‵ (fat fullShare word l₂ 0 (vint w64 count)) ∷ ‵ (fat fullShare word l₃ 0 (vint w64 at)) ∷ ‵ (fat fullShare tagsTy l₄ 0 (machine x₁))
         ∷ ‵ (fat fullShare startsTy l₅ 0 (machine x₂)) ∷ ‵ (fat fullShare lensTy l₆ 0 (machine x₃)) ∷ ‵ (froom word l₀ 0)
-        ∷ ‵ (fdies word l₀) ∷ ‵ (fdies recTy l₁) ∷ ‵ (fdies word l₂) ∷ ‵ (fdies word l₃) ∷ ‵ (fdies tagsTy l₄) ∷ ‵ (fdies startsTy l₅) ∷ ‵ (fdies lensTy l₆) ∷ ‵ (fdies walkerTy l₇) ∷ ‵ (fdies tyBool l₈) ∷ ‵ (fdies walkerTy l₉) ∷ ‵ (fdies tyBool l₁₀) ∷ ‵ (fdies tyUnit l₁₁) ∷ ‵ (fdies S′.mir l₁₂) ∷ ‵ (fdies walkerTy l₁₃) ∷ ‵ (fdies word l₁₄) ∷ ‵ (fdies (tyRef erased mut (tyInt w16)) l₁₅) ∷ ‵ (fdies (sliceTy (tyRef erased mut (tyInt w16))) l₁₆) ∷ ‵ (fdies (tyRef erased mut word) l₁₇) ∷ ‵ (fdies (sliceTy (tyRef erased mut word)) l₁₈) ∷ ‵ (fdies (tyRef erased mut word) l₁₉) ∷ ‵ (fdies (sliceTy (tyRef erased mut word)) l₂₀) ∷ ‵ (fdies walkerTy l₂₁) ∷ []
+        ∷ ‵ (fdies word l₀) ∷ ‵ (fdies recTy l₁) ∷ ‵ (fdies word l₂) ∷ ‵ (fdies word l₃) ∷ ‵ (fdies tagsTy l₄) ∷ ‵ (fdies startsTy l₅) ∷ ‵ (fdies lensTy l₆) ∷ ‵ (fdies walkerTy l₇)
+        ∷ ‵ (fdies tyBool l₈) ∷ ‵ (fdies walkerTy l₉) ∷ ‵ (fdies tyBool l₁₀) ∷ ‵ (fdies tyUnit l₁₁) ∷ ‵ (fdies S′.mir l₁₂) ∷ ‵ (fdies walkerTy l₁₃) ∷ ‵ (fdies word l₁₄)
+        ∷ ‵ (fdies (tyRef erased mut (tyInt w16)) l₁₅) ∷ ‵ (fdies (sliceTy (tyRef erased mut (tyInt w16))) l₁₆) ∷ ‵ (fdies (tyRef erased mut word) l₁₇)
+        ∷ ‵ (fdies (sliceTy (tyRef erased mut word)) l₁₈) ∷ ‵ (fdies (tyRef erased mut word) l₁₉) ∷ ‵ (fdies (sliceTy (tyRef erased mut word)) l₂₀) ∷ ‵ (fdies walkerTy l₂₁) ∷ []
 
     abbrev At : Upto → List (Item 𝓤)
     At i = Kept ∷ Held (i .0) ∷ ‵ (fat fullShare walkerTy l₇ 0 (mach (i .0))) ∷ Frame
@@ -403,11 +412,16 @@ module _ {M : Type 1} (𝓤 : URA M) (H : Heap 𝓤) (A : Atoms 𝓤) (W : Given
         land-last ! (from ! (stop !)) (store ! 2 refl (subst (λ (v : Val). Holds (hasTy walkerTy v) × WT v) (sym (landed (i .0) d u₂ g)) (typed (i .0 + 1) (small (i .0 + 1) (next (left r (e .0) more)))))) $
         rewrite ! 2 (λ (v : Val). ‵ (fat fullShare walkerTy l₇ 0 v)) (landed (i .0) d u₂ g) refl $
         rewrite ! 1 (λ (z : Three). Lists (z .0) (z .1) (z .2)) (noted (i .0) (left r (e .0) more) spot (f .0)) refl $
-        forget ! 3 refl $ forget ! 4 refl $ forget ! 5 refl $ forget ! 6 refl $ forget ! 7 refl $ forget ! 8 refl $ forget ! 9 refl $ forget ! 10 refl $ forget ! 11 refl $ forget ! 12 refl $ forget ! 13 refl $ forget ! 14 refl $ forget ! 15 refl $ forget ! 16 refl $ turned ! Nearer At i (i .0 + 1, next (left r (e .0) more)) (omega (arith, left r (e .0) more))))))))))))
+        forget ! 3 refl $ forget ! 4 refl $ forget ! 5 refl $ forget ! 6 refl $ forget ! 7 refl $ forget ! 8 refl $ forget ! 9 refl $ forget ! 10 refl $ forget ! 11 refl $ forget ! 12 refl $
+        forget ! 13 refl $ forget ! 14 refl $ forget ! 15 refl $ forget ! 16 refl $ turned ! Nearer At i (i .0 + 1, next (left r (e .0) more)) (omega (arith, left r (e .0) more))))))))))))
         (λ over. jumps ! $ exec ! C Λ En piece.t-3 (atRet En Post) $
         assigns ! (of-opd ! (load ! (from ! (fld ! refl (stop !))) (look-in ! 2 (sub ! 2 refl (whole !))))) (from ! (stop !)) (init ! 23 refl (tt, record { fits = fits })) $
         returns ! (look ! 23 refl) $ forget ! 2 refl $ forget ! 3 refl $ forget ! 4 refl $ forget ! 5 refl $ forget ! 17 refl $ forget ! 18 refl $ forget ! 19 refl $ forget ! 20 refl $ forget ! 21 refl $ forget ! 22 refl $ forget ! 23 refl $
-        move ! (23 ∷ 24 ∷ []) $ free1 ! $ move ! (17 ∷ 23 ∷ []) $ free1 ! $ move ! (17 ∷ 22 ∷ []) $ free1 ! $ move ! (17 ∷ 21 ∷ []) $ free1 ! $ move ! (17 ∷ 20 ∷ []) $ free1 ! $ move ! (17 ∷ 19 ∷ []) $ free1 ! $ move ! (17 ∷ 18 ∷ []) $ free1 ! $ move ! (2 ∷ 17 ∷ []) $ free1 ! $ move ! (2 ∷ 16 ∷ []) $ free1 ! $ move ! (2 ∷ 15 ∷ []) $ free1 ! $ move ! (2 ∷ 14 ∷ []) $ free1 ! $ move ! (2 ∷ 13 ∷ []) $ free1 ! $ move ! (2 ∷ 12 ∷ []) $ free1 ! $ move ! (2 ∷ 11 ∷ []) $ free1 ! $ move ! (2 ∷ 10 ∷ []) $ free1 ! $ move ! (2 ∷ 9 ∷ []) $ free1 ! $ move ! (2 ∷ 8 ∷ []) $ free1 ! $ move ! (2 ∷ 7 ∷ []) $ free1 ! $ move ! (2 ∷ 6 ∷ []) $ free1 ! $ move ! (2 ∷ 5 ∷ []) $ free1 ! $ move ! (2 ∷ 4 ∷ []) $ free1 ! $ move ! (2 ∷ 3 ∷ []) $ free1 ! $ free0 ! $ by ! (exits (i .0) (i .1) (le-antisymm (i .1) (past r (e .0) over)))))))
+        move ! (23 ∷ 24 ∷ []) $ free1 ! $ move ! (17 ∷ 23 ∷ []) $ free1 ! $ move ! (17 ∷ 22 ∷ []) $ free1 ! $ move ! (17 ∷ 21 ∷ []) $ free1 ! $ move ! (17 ∷ 20 ∷ []) $ free1 ! $
+        move ! (17 ∷ 19 ∷ []) $ free1 ! $ move ! (17 ∷ 18 ∷ []) $ free1 ! $ move ! (2 ∷ 17 ∷ []) $ free1 ! $ move ! (2 ∷ 16 ∷ []) $ free1 ! $ move ! (2 ∷ 15 ∷ []) $ free1 ! $
+        move ! (2 ∷ 14 ∷ []) $ free1 ! $ move ! (2 ∷ 13 ∷ []) $ free1 ! $ move ! (2 ∷ 12 ∷ []) $ free1 ! $ move ! (2 ∷ 11 ∷ []) $ free1 ! $ move ! (2 ∷ 10 ∷ []) $ free1 ! $
+        move ! (2 ∷ 9 ∷ []) $ free1 ! $ move ! (2 ∷ 8 ∷ []) $ free1 ! $ move ! (2 ∷ 7 ∷ []) $ free1 ! $ move ! (2 ∷ 6 ∷ []) $ free1 ! $ move ! (2 ∷ 5 ∷ []) $ free1 ! $ move ! (2 ∷ 4 ∷ []) $
+        free1 ! $ move ! (2 ∷ 3 ∷ []) $ free1 ! $ free0 ! $ by ! (exits (i .0) (i .1) (le-antisymm (i .1) (past r (e .0) over)))))))
       where
         fits : i .0 < 2 ^ 64
         fits = small (i .0) (i .1)
@@ -472,7 +486,14 @@ module _ {M : Type 1} (𝓤 : URA M) (H : Heap 𝓤) (A : Atoms 𝓤) (W : Given
         pass1 ! (init ! 40 refl (shr-slice-lawful 𝓤 H A W (named 0) κ₀ u8 .typed s (machine s ∷ []) is .0)) $ pass1 ! (init ! 38 refl (tt, record { fits = counts })) $ pass1 ! (init ! 36 refl (tt, record { fits = at-fits })) $
         pass1 ! (init ! 34 refl (tt, (tt, (record { fits = room₁ .0 }, tt)))) $ pass1 ! (init ! 32 refl (tt, (tt, (record { fits = room₂ .0 }, tt)))) $ pass1 ! (init ! 30 refl (tt, (tt, (record { fits = room₃ .0 }, tt)))) $ pass0 ! $
         move ! (44 ∷ []) $ use1 W (Kept ⊛ Held 0) opened $ split ! $
-        keep ! (0 ∷ 1 ∷ 30 ∷ 28 ∷ 26 ∷ 24 ∷ 22 ∷ 20 ∷ 18 ∷ 16 ∷ 14 ∷ 12 ∷ 10 ∷ 8 ∷ 6 ∷ 4 ∷ 2 ∷ 42 ∷ 40 ∷ 38 ∷ 36 ∷ 34 ∷ 32 ∷ 44 ∷ 45 ∷ 43 ∷ 41 ∷ 39 ∷ 37 ∷ 35 ∷ 33 ∷ 31 ∷ 29 ∷ 27 ∷ 25 ∷ 23 ∷ 21 ∷ 19 ∷ 17 ∷ 15 ∷ 13 ∷ 11 ∷ 9 ∷ 7 ∷ 5 ∷ 3 ∷ []) $ by ! (runs-on 𝓣 known (l .0) (l .1 .0) (l .1 .1 .0) (l .1 .1 .1 .0) (l .1 .1 .1 .1 .0) (l .1 .1 .1 .1 .1 .0) (l .1 .1 .1 .1 .1 .1 .0) (l .1 .1 .1 .1 .1 .1 .1 .0) (l .1 .1 .1 .1 .1 .1 .1 .1 .0) (l .1 .1 .1 .1 .1 .1 .1 .1 .1 .0) (l .1 .1 .1 .1 .1 .1 .1 .1 .1 .1 .0) (l .1 .1 .1 .1 .1 .1 .1 .1 .1 .1 .1 .0) (l .1 .1 .1 .1 .1 .1 .1 .1 .1 .1 .1 .1 .0) (l .1 .1 .1 .1 .1 .1 .1 .1 .1 .1 .1 .1 .1 .0) (l .1 .1 .1 .1 .1 .1 .1 .1 .1 .1 .1 .1 .1 .1 .0) (l .1 .1 .1 .1 .1 .1 .1 .1 .1 .1 .1 .1 .1 .1 .1 .0) (l .1 .1 .1 .1 .1 .1 .1 .1 .1 .1 .1 .1 .1 .1 .1 .1 .0) (l .1 .1 .1 .1 .1 .1 .1 .1 .1 .1 .1 .1 .1 .1 .1 .1 .1 .0) (l .1 .1 .1 .1 .1 .1 .1 .1 .1 .1 .1 .1 .1 .1 .1 .1 .1 .1 .0) (l .1 .1 .1 .1 .1 .1 .1 .1 .1 .1 .1 .1 .1 .1 .1 .1 .1 .1 .1 .0) (l .1 .1 .1 .1 .1 .1 .1 .1 .1 .1 .1 .1 .1 .1 .1 .1 .1 .1 .1 .1 .0) (l .1 .1 .1 .1 .1 .1 .1 .1 .1 .1 .1 .1 .1 .1 .1 .1 .1 .1 .1 .1 .1 .0) .prf))
+        keep ! (0 ∷ 1 ∷ 30 ∷ 28 ∷ 26 ∷ 24 ∷ 22 ∷ 20 ∷ 18 ∷ 16 ∷ 14 ∷ 12 ∷ 10 ∷ 8 ∷ 6 ∷ 4 ∷ 2 ∷ 42 ∷ 40 ∷ 38 ∷ 36 ∷ 34 ∷ 32 ∷ 44 ∷ 45 ∷ 43 ∷ 41 ∷ 39 ∷ 37 ∷ 35 ∷ 33 ∷ 31 ∷ 29 ∷ 27 ∷ 25 ∷ 23
+        ∷ 21 ∷ 19 ∷ 17 ∷ 15 ∷ 13 ∷ 11 ∷ 9 ∷ 7 ∷ 5 ∷ 3 ∷ []) $
+        by ! (runs-on 𝓣 known (l .0) (l .1 .0) (l .1 .1 .0) (l .1 .1 .1 .0) (l .1 .1 .1 .1 .0) (l .1 .1 .1 .1 .1 .0) (l .1 .1 .1 .1 .1 .1 .0) (l .1 .1 .1 .1 .1 .1 .1 .0)
+        (l .1 .1 .1 .1 .1 .1 .1 .1 .0) (l .1 .1 .1 .1 .1 .1 .1 .1 .1 .0) (l .1 .1 .1 .1 .1 .1 .1 .1 .1 .1 .0) (l .1 .1 .1 .1 .1 .1 .1 .1 .1 .1 .1 .0)
+        (l .1 .1 .1 .1 .1 .1 .1 .1 .1 .1 .1 .1 .0) (l .1 .1 .1 .1 .1 .1 .1 .1 .1 .1 .1 .1 .1 .0) (l .1 .1 .1 .1 .1 .1 .1 .1 .1 .1 .1 .1 .1 .1 .0)
+        (l .1 .1 .1 .1 .1 .1 .1 .1 .1 .1 .1 .1 .1 .1 .1 .0) (l .1 .1 .1 .1 .1 .1 .1 .1 .1 .1 .1 .1 .1 .1 .1 .1 .0) (l .1 .1 .1 .1 .1 .1 .1 .1 .1 .1 .1 .1 .1 .1 .1 .1 .1 .0)
+        (l .1 .1 .1 .1 .1 .1 .1 .1 .1 .1 .1 .1 .1 .1 .1 .1 .1 .1 .0) (l .1 .1 .1 .1 .1 .1 .1 .1 .1 .1 .1 .1 .1 .1 .1 .1 .1 .1 .1 .0)
+        (l .1 .1 .1 .1 .1 .1 .1 .1 .1 .1 .1 .1 .1 .1 .1 .1 .1 .1 .1 .1 .0) (l .1 .1 .1 .1 .1 .1 .1 .1 .1 .1 .1 .1 .1 .1 .1 .1 .1 .1 .1 .1 .1 .0) .prf))
 
 module _ {M : Type 1} (𝓤 : URA M) (H : Heap 𝓤) (A : Atoms 𝓤) (W : Given 𝓤 H A) (mem : Memory → SProp 𝓤) (run : Routine → Fun 𝓤) (𝓣 : Tables 𝓤 H) (known : Known 𝓤 H A mem run (𝓣 .C)) where
   walks : Walks 𝓤 H A fn.ended stayed (WpFn 𝓤 H (𝓣 .C) (𝓣 .Λ) code.function) (fn.clauses 𝓤 H A mem run)
