@@ -11,7 +11,8 @@ ghost use Rattle.views.specs.Fields.{fieldOf, settledFieldOf};
 ghost use Rattle.views.specs.Listing.{lists, allFieldsOf, allFieldsLeaves, settledAllFieldsOf, settledAllFieldsLeaves};
 ghost use Rattle.views.specs.State.{nextFreeOf, stateOf, markNumber, deletedNumber};
 ghost use Rattle.soundness.specs.Sound.{checkAnswer};
-ghost use Rattle.store.specs.Store.{store, draft};
+ghost use Rattle.store.specs.Store.{store};
+ghost use Rattle.drafts.specs.Draft.{draft};
 
 // Empties both buffers.
 #[no_mangle]

@@ -1,11 +1,6 @@
 pub mod Tests
 pub mod Facts
-pub mod Zero
 pub mod Floor
 pub mod Codec
-pub mod ControlRecord
-pub mod ControlMoves
-pub mod CrossReference
 pub mod LeaderBytes
 pub mod Answers
-pub mod Rows

@@ -2,7 +2,6 @@
 use crate::sizes::Block;
 use crate::sizes::OFFSET_MOST;
 ghost use mathlib.Core.Path.{_≡_};
-ghost use mathlib.Core.Bool.{true};
 ghost use Prim.Native.Nat.{_+_, _≤_};
 ghost use lib.IntN.{natAbs};
 ghost use Rattle.layout.specs.Sizes.{mstBlocks, offsetMost};
@@ -112,7 +111,7 @@ fn place_of(end: usize, block: u32, deleted: bool, low: u32) -> Entry
 }
 
 // Which kind of entry `e` is, with the end known.
-pub(crate) fn decode(end: usize, e: i32) -> Entry
+pub fn decode(end: usize, e: i32) -> Entry
     ensures { λ r. ⌜ r ≡ entryOf end e ⌝ }
 {
     if e == -2048 {
@@ -133,7 +132,7 @@ fn mark_bits(m: Mark) -> u32
 }
 
 // The entry that names a place.
-pub(crate) fn encode(p: Place) -> i32
+pub fn encode(p: Place) -> i32
     requires { ⌜ (1 ≤ p .block .0) × (p .block .0 ≤ mstBlocks) × (p .offset ≤ offsetMost) ⌝ }
     ensures { λ r. ⌜ r ≡ encodeOf p ⌝ }
 {

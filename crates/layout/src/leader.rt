@@ -2,7 +2,7 @@
 use crate::sizes::Block;
 use crate::sizes::Mfn;
 ghost use mathlib.Core.Path.{_≡_};
-ghost use Prim.Native.Nat.{_+_, _*_, _≤_};
+ghost use Prim.Native.Nat.{_≤_};
 ghost use lib.ListN.{length};
 ghost use Rattle.word.specs.Overwrite.{overwrite};
 ghost use Rattle.layout.specs.Leader.{leaderBytes, leaderOf};

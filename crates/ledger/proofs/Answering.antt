@@ -7,14 +7,14 @@ use mathlib.Core.List.{List}
 use lib.Dec.{eqb, ltb}
 use lib.ListN.{length}
 use Rattle.layout.specs.Sizes.{capacityOf}
-use Rattle.layout.specs.CrossReference.{xrfBlock, headRight, slotFree}
-use Rattle.layout.specs.Control.{nextOf}
+use Rattle.files.specs.CrossReference.{xrfBlock, headRight, slotFree}
+use Rattle.files.specs.Control.{nextOf}
 use Rattle.layout.specs.declared.entry.Mark.{Mark}
 use Rattle.layout.specs.declared.entry.Mark.the-variants.{Settled, Changed, New}
 use Rattle.layout.specs.declared.entry.Place.{Place}
 use Rattle.layout.specs.declared.entry.Entry.the-variants.{Gone, At}
 use Rattle.record.specs.Fields.{fieldsOf}
-use Rattle.record.specs.Bytes.{needFor}
+use Rattle.drafts.specs.Bytes.{needFor}
 use Rattle.store.specs.Reading.{mfnInRange, entryFor, isMalformed, isGone, isSettled, isChanged, isNew, recordAt, leaderAt, recordFine, settledRecord, versionFine, shownSettled, currentFields}
 use Rattle.store.specs.Refusals.{fine, bothFine}
 use Rattle.store.specs.declared.answer.Answer.{Answer}
@@ -23,7 +23,8 @@ use Rattle.versions.specs.Written.{updateAppends}
 use Rattle.views.specs.Views.{viewAnswer, settledViewAnswer}
 use Rattle.store.specs.declared.answer.Answer.the-variants.{Done, BadDraft, NoMfn, NoSlot, BadEntry, Gone as GoneAnswer, BadRecord, NoRoom}
 use Rattle.soundness.specs.Sound.{bodySound, checkAnswer}
-use Rattle.store.specs.Store.{Store, Draft, isRight, fieldsIn}
+use Rattle.store.specs.Store.{Store}
+use Rattle.drafts.specs.Draft.{Draft, isRight, fieldsIn}
 use Rattle.ledger.specs.Call.{format, view, viewSettled, create, update, delete, settle, revert, check}
 use Rattle.ledger.specs.Ledger.{gone, held, mfnIn, itemOf, isGoneItem, isSettledMark, isNewMark, settledOr}
 use Rattle.ledger.specs.LedgerAnswers.{overfull, appends, refusalsL, numberL}

@@ -4,11 +4,12 @@ use mathlib.Core.Path.{refl}
 use mathlib.Core.Bool.{false}
 use mathlib.Core.List.{List, []}
 use Rattle.layout.specs.Sizes.{endMoved}
-use Rattle.layout.specs.Control.{nextOf, endOf}
+use Rattle.files.specs.Control.{nextOf, endOf}
 use Rattle.layout.specs.declared.entry.Mark.the-variants.{New}
-use Rattle.record.specs.Bytes.{needFor}
-use Rattle.record.proofs.Draftable.{draft-draftable}
-use Rattle.store.specs.Store.{store, Draft, fieldsIn}
+use Rattle.drafts.specs.Bytes.{needFor}
+use Rattle.drafts.proofs.Draftable.{draft-draftable}
+use Rattle.store.specs.Store.{store}
+use Rattle.drafts.specs.Draft.{Draft, fieldsIn}
 use Rattle.versions.specs.Written.{placeAtEnd, createdMst, createdXrf}
 use Rattle.soundness.proofs.SoundEntries.{Sound, sound}
 use Rattle.soundness.proofs.Leaving.{Leaves}

@@ -5,10 +5,10 @@ use mathlib.Core.Bool.{true}
 use mathlib.Core.List.{List}
 use lib.ListN.{length}
 use Rattle.layout.specs.Sizes.{mstPermitted, xrfPermitted}
-use Rattle.layout.specs.CrossReference.{formattedXrf}
-use Rattle.layout.specs.Control.{nextOf, endOf, formattedMst}
-use Rattle.layout.proofs.ControlRecord.{formatted-length, formatted-next, formatted-end}
-use Rattle.layout.proofs.CrossReference.{formatted-xrf-length}
+use Rattle.files.specs.CrossReference.{formattedXrf}
+use Rattle.files.specs.Control.{nextOf, endOf, formattedMst}
+use Rattle.files.proofs.ControlRecord.{formatted-length, formatted-next, formatted-end}
+use Rattle.files.proofs.CrossReference.{formatted-xrf-length}
 use Rattle.store.specs.Reading.{lengthsPermitted}
 use Rattle.writing.specs.Refusals.{formatAnswer}
 use Rattle.writing.specs.Calls.{formatLeaves}

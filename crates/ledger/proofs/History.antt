@@ -8,7 +8,8 @@ use Rattle.layout.specs.declared.entry.Place.{Place}
 use Rattle.record.specs.Fields.{Field}
 use Rattle.store.specs.Reading.{currentFields}
 use Rattle.store.specs.declared.answer.Answer.the-variants.{Done}
-use Rattle.store.specs.Store.{Store, Draft}
+use Rattle.store.specs.Store.{Store}
+use Rattle.drafts.specs.Draft.{Draft}
 use Rattle.ledger.specs.Call.{Call, view, viewSettled, create, revert, Outcome, plain}
 use Rattle.ledger.specs.Ledger.{Marking, settled, held, Ledger, nextMfn, itemOf}
 use Rattle.ledger.specs.LedgerAnswers.{numberL, Given, nothing, theMfn, theField, givesL, outcomeOf, answerL}

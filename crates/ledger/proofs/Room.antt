@@ -9,11 +9,12 @@ use lib.Dec.{eqb, ltb}
 use borrow.Author.Tests.{lt-ltb}
 use Rattle.layout.specs.Sizes.{capacityOf}
 use Rattle.layout.proofs.Tests.{tests, false-true}
-use Rattle.record.specs.Bytes.{needFor}
+use Rattle.drafts.specs.Bytes.{needFor}
 use Rattle.store.specs.Answer.{Refusal, refuse, lowest, numberOf}
 use Rattle.store.specs.declared.answer.Answer.{Answer}
 use Rattle.store.specs.declared.answer.Answer.the-variants.{Done, BadLength, BadDraft, NoMfn, NoSlot, Gone as GoneAnswer, Deleted, NoRoom}
-use Rattle.store.specs.Store.{Store, Draft, isRight, fieldsIn}
+use Rattle.store.specs.Store.{Store}
+use Rattle.drafts.specs.Draft.{Draft, isRight, fieldsIn}
 use Rattle.ledger.specs.Call.{Call, create, update, delete, Outcome}
 use Rattle.ledger.specs.Ledger.{Ledger, nextMfn, lengthsFine, mfnIn, itemOf, isGoneItem, keptFields, keptDeleted, keptMark, isSettledMark}
 use Rattle.ledger.specs.LedgerAnswers.{measured, named, overfull, appends, refusalsL, numberL}

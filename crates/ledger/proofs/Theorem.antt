@@ -7,9 +7,9 @@ use mathlib.Core.Path.{_≡_, refl, sym, ap, _∙_}
 use mathlib.Core.Bool.{Bool, true, false}
 use mathlib.Core.List.{List, []}
 use lib.ListN.{length}
-use Rattle.layout.specs.Control.{nextOf, endOf, formattedMst}
-use Rattle.layout.specs.CrossReference.{formattedXrf}
-use Rattle.record.proofs.Draftable.{draft-draftable}
+use Rattle.files.specs.Control.{nextOf, endOf, formattedMst}
+use Rattle.files.specs.CrossReference.{formattedXrf}
+use Rattle.drafts.proofs.Draftable.{draft-draftable}
 use Rattle.store.specs.Answer.{after}
 use Rattle.store.specs.Reading.{lengthsPermitted, mfnInRange}
 use Rattle.writing.specs.Refusals.{formatAnswer, createAnswer, updateAnswer, deleteAnswer, settleAnswer, revertAnswer}
@@ -19,7 +19,8 @@ use Rattle.store.specs.declared.answer.Answer.the-variants.{Done}
 use Rattle.store.proofs.Gates.{after-same}
 use Rattle.soundness.proofs.SoundEntries.{Sound, stands, body-sound, EntryStands, is-gone, is-at, known-stands, create-row, below-capacity, version-fine}
 use Rattle.soundness.proofs.Asked.{create-asked, update-asked, delete-asked, settle-asked, revert-asked}
-use Rattle.store.specs.Store.{Store, store, Draft}
+use Rattle.store.specs.Store.{Store, store}
+use Rattle.drafts.specs.Draft.{Draft}
 use Rattle.ledger.specs.Call.{Call, format, view, viewSettled, create, update, delete, settle, revert, check, outcome, plain}
 use Rattle.ledger.specs.Ledger.{Ledger, nextMfn, empty}
 use Rattle.ledger.specs.LedgerAnswers.{numberL, givesL, outcomeOf, answerL}

@@ -3,8 +3,9 @@
 use Prim.Native.Nat.{ℕ}
 use mathlib.Core.Path.{_≡_, refl}
 use mathlib.Core.Logic.{⊎-elim}
-use Rattle.layout.specs.Control.{nextOf}
-use Rattle.store.specs.Store.{Store, store, fieldsIn}
+use Rattle.files.specs.Control.{nextOf}
+use Rattle.store.specs.Store.{Store, store}
+use Rattle.drafts.specs.Draft.{fieldsIn}
 use Rattle.store.specs.Answer.{after}
 use Rattle.store.specs.Reading.{placeFor, currentFields}
 use Rattle.store.specs.declared.answer.Answer.{Answer}

@@ -6,11 +6,11 @@ use mathlib.Core.Path.{_≡_, refl, ap}
 use mathlib.Core.Bool.{Bool, true, false, _&&_, cond}
 use mathlib.Core.List.{List}
 use Rattle.record.specs.Fields.{Field, fieldNamed}
-use Rattle.record.specs.Bytes.{needFor}
+use Rattle.drafts.specs.Bytes.{needFor}
 use Rattle.store.specs.Answer.{numberOf, after}
 use Rattle.store.specs.declared.answer.Answer.the-variants.{Done, Deleted, NeverSettled, NoField}
 use Rattle.store.proofs.Gates.{after-done}
-use Rattle.store.specs.Store.{Draft, fieldsIn}
+use Rattle.drafts.specs.Draft.{Draft, fieldsIn}
 use Rattle.ledger.specs.Call.{Call, view, viewSettled, create, update, delete, revert, Outcome, plain}
 use Rattle.ledger.specs.Ledger.{Marking, settled, new, changed, Item, held, Ledger, nextMfn, lengthsFine, itemOf, settledFields}
 use Rattle.ledger.specs.LedgerAnswers.{isNone, bytesOf, appends, refusalsL, numberL, theField, givesL, outcomeOf, answerL}

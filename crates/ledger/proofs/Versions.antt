@@ -6,15 +6,15 @@ use mathlib.Core.Bool.{Bool, true, false, _||_, cond}
 use mathlib.Core.List.{List}
 use lib.Dec.{ltb}
 use lib.ListN.{length}
-use Rattle.layout.specs.Control.{nextOf, endOf}
+use Rattle.files.specs.Control.{nextOf, endOf}
 use Rattle.layout.specs.declared.entry.Mark.{Mark}
 use Rattle.layout.specs.declared.entry.Mark.the-variants.{Settled, Changed, New}
 use Rattle.layout.specs.declared.entry.Place.{Place}
 use Rattle.layout.specs.declared.leader.Leader.{Leader}
 use Rattle.layout.proofs.Tests.{false-true}
 use Rattle.record.specs.Fields.{Field, fieldsOf}
-use Rattle.record.specs.Bytes.{needFor}
-use Rattle.record.proofs.Draftable.{Draftable}
+use Rattle.drafts.specs.Bytes.{needFor}
+use Rattle.drafts.proofs.Draftable.{Draftable}
 use Rattle.store.specs.Reading.{placeFor, isSettled, isChanged, recordAt, leaderAt, settledRecord, currentFields}
 use Rattle.versions.specs.Written.{updateAppends, pendingMark, updatedMst, updatedXrf, deletedMst, deletedXrf, settledMst, settledXrf, revertedXrf}
 use Rattle.store.proofs.Gates.{MfnFacts, mfn-facts}
@@ -26,7 +26,8 @@ use Rattle.ledger.specs.Call.{update, delete, settle, revert}
 use Rattle.ledger.specs.Ledger.{settled, changed, held, Ledger, itemOf, keptLength, settledOr, settledFields}
 use Rattle.ledger.specs.LedgerAnswers.{appends}
 use Rattle.ledger.specs.LedgerSteps.{Effect, itemSet, applied, versionMark, effectOf}
-use Rattle.store.specs.Store.{store, Draft, fieldsIn}
+use Rattle.store.specs.Store.{store}
+use Rattle.drafts.specs.Draft.{Draft, fieldsIn}
 use Rattle.ledger.specs.LedgerOf.{markingAt, ledgerOf}
 use Rattle.ledger.proofs.Reading.{Opened}
 use Rattle.ledger.proofs.Answering.{settled-mark, appends-is, item-at}

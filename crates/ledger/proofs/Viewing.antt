@@ -6,7 +6,7 @@ use mathlib.Core.List.{List, []}
 use native.Mathlib.Omega.{arith}
 use lib.Dec.{eqb}
 use Rattle.word.specs.Overwrite.{part}
-use Rattle.layout.specs.Control.{endOf}
+use Rattle.files.specs.Control.{endOf}
 use Rattle.layout.specs.Entry.{placeAddress}
 use Rattle.layout.specs.declared.entry.Mark.{Mark}
 use Rattle.layout.specs.declared.entry.Mark.the-variants.{Settled, Changed, New}

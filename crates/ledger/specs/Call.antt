@@ -2,7 +2,7 @@
 use Prim.Native.Nat.{ℕ}
 use mathlib.Core.List.{List, []}
 use Rattle.store.specs.declared.answer.Answer.{Answer}
-use Rattle.store.specs.Store.{Draft}
+use Rattle.drafts.specs.Draft.{Draft}
 
 pub data Call : Type 0 where
   format : Call

@@ -4,7 +4,7 @@ use Prim.Native.Nat.{ℕ}
 use mathlib.Core.Path.{_≡_}
 use mathlib.Core.List.{List}
 use lib.ListN.{length}
-use Rattle.layout.specs.Control.{nextOf, endOf}
+use Rattle.files.specs.Control.{nextOf, endOf}
 use Rattle.store.specs.Store.{Store, store}
 use Rattle.ledger.specs.Call.{Call, format}
 use Rattle.ledger.specs.Ledger.{Ledger, nextMfn, empty}

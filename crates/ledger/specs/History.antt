@@ -8,12 +8,13 @@ use lib.Dec.{eqb, ltb}
 use Rattle.layout.specs.declared.entry.Mark.the-variants.{Settled}
 use Rattle.layout.specs.declared.entry.Place.{Place}
 use Rattle.layout.specs.declared.entry.Entry.the-variants.{At}
-use Rattle.record.specs.Bytes.{needFor}
+use Rattle.drafts.specs.Bytes.{needFor}
 use Rattle.store.specs.Answer.{numberOf, Refusal}
 use Rattle.store.specs.Reading.{mfnInRange, entryFor, placeFor}
 use Rattle.store.specs.declared.answer.Answer.{Answer}
 use Rattle.store.specs.declared.answer.Answer.the-variants.{Done, NeverSettled, NoRoom}
-use Rattle.store.specs.Store.{Store, store, Draft, fieldsIn}
+use Rattle.store.specs.Store.{Store, store}
+use Rattle.drafts.specs.Draft.{Draft, fieldsIn}
 use Rattle.ledger.specs.Call.{Call, format, view, viewSettled, create, update, delete, settle, revert, check, Outcome, plain}
 use Rattle.ledger.specs.Ledger.{itemOf, keptFields, keptMark, isSettledMark}
 use Rattle.ledger.specs.LedgerAnswers.{appends, refusalsL}

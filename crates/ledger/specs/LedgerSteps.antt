@@ -7,9 +7,9 @@ use lib.Dec.{eqb}
 use lib.ListN.{set}
 use Rattle.layout.specs.Sizes.{endMoved}
 use Rattle.record.specs.Fields.{Field}
-use Rattle.record.specs.Bytes.{needFor}
+use Rattle.drafts.specs.Bytes.{needFor}
 use Rattle.store.specs.Answer.{after}
-use Rattle.store.specs.Store.{fieldsIn}
+use Rattle.drafts.specs.Draft.{fieldsIn}
 use Rattle.ledger.specs.Call.{Call, format, view, viewSettled, create, update, delete, settle, revert, check, Outcome}
 use Rattle.ledger.specs.Ledger.{Marking, settled, new, changed, Item, held, Ledger, nextMfn, empty, itemOf, keptFields, keptDeleted, keptMark, isSettledMark, keptLength, settledFields}
 use Rattle.ledger.specs.LedgerAnswers.{appends, numberL, answerL}

@@ -1,7 +1,7 @@
 -- What a call of demand 3's list touches in a sound store: any call but format, whether it is done or refused. Document 01, "A sound store".
 use Prim.Native.Nat.{ℕ}
 use mathlib.Core.Path.{_≡_}
-use Rattle.layout.specs.Control.{nextOf}
+use Rattle.files.specs.Control.{nextOf}
 use Rattle.store.specs.Store.{Store}
 use Rattle.soundness.specs.Touching.{TouchesOnly}
 use Rattle.ledger.specs.Call.{Call, format, view, viewSettled, create, update, delete, settle, revert, check}

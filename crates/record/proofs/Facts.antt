@@ -15,7 +15,6 @@ use Rattle.layout.proofs.Facts.{record-length-facts}
 use Rattle.record.specs.Directory.{tagAt, posAt, lenAt, entryRight, entriesRight, directoryRight}
 use Rattle.record.specs.Record.{leaderRight, extentRight, baseRight, fieldsRight, statusFor, statusRight, backFine, wellFormed, recordRight, noBack, Readable}
 use Rattle.record.specs.Inner.{testOf}
-use Rattle.record.specs.Draft.{sum, tagsPermitted, needOf, draftRight}
 use Rattle.record.specs.declared.test.Tested.the-variants.{WellFormed, Broken}
 
 -- ---- the directory
@@ -94,6 +93,11 @@ well-formed-both rec end m p =
     ap (λ (x : Bool). x && backFine end p (leaderOf rec))
     (and-last (extentRight m (length rec) (leaderOf rec)) (baseRight (leaderOf rec)) (fieldsRight rec (leaderOf rec)) (statusRight (p .deleted) (leaderOf rec)))
 
+-- a record is as long as it says whatever MFN it is asked for
+own-extent : (m left : ℕ) (l : Leader) → extentRight m left l ≡ true → extentRight (l .mfn .0) left l ≡ true
+unfolding extentRight
+own-extent m left l e = let q = simp tests at e in simp tests ((refl, q .0 .1), q .1)
+
 module _ (rec : List ℕ) (m : ℕ) (deleted : Bool) where
   pub right-facts : recordRight rec m deleted ≡ true → RightFacts rec m deleted
   unfolding recordRight
@@ -107,15 +111,31 @@ module _ (rec : List ℕ) (m : ℕ) (deleted : Bool) where
   right-from a b = simp tests (a, b)
 
   pub right-readable : recordRight rec m deleted ≡ true → Readable rec
+  unfolding recordRight leaderRight
   right-readable e =
-      let f = right-facts e in
-      record {
-        base-is = f .leader .base-is;
-        base-in = f .leader .base-in;
-        record-in = f .leader .record-in;
-        short = f .leader .high;
-        directory = f .directory;
-      }
+      let q = simp tests at e in
+      record { extent = own-extent m (length rec) (leaderOf rec) (q .0 .0 .0); base = q .0 .0 .1; fields = q .1 }
+
+-- what the sentences of a record that can be read say in numbers
+pub record ReadableFacts (rec : List ℕ) : Type 0 where
+  pub base-is : leaderOf rec .base ≡ 18 + 6 * leaderOf rec .nvf
+  pub base-in : leaderOf rec .base ≤ leaderOf rec .mfrl
+  pub record-in : leaderOf rec .mfrl ≤ length rec
+  pub short : leaderOf rec .mfrl ≤ recordMost
+  pub directory : directoryRight rec (leaderOf rec .mfrl - leaderOf rec .base) (leaderOf rec .nvf) 0 0 ≡ true
+
+pub readable-facts : {rec : List ℕ} → Readable rec → ReadableFacts rec
+unfolding extentRight baseRight
+readable-facts {rec} r =
+    let a = simp tests at (r .extent) in
+    let b = simp tests at (r .base) in
+    record {
+      base-is = b .0;
+      base-in = b .1;
+      record-in = a .1;
+      short = record-length-facts (leaderOf rec .mfrl) (a .0 .1) .high;
+      directory = r .fields;
+    }
 
 -- ---- the test and the back pointer
 
@@ -142,18 +162,3 @@ module _ (l : Leader) where
   pub no-back-from : l .mfbwb .0 ≡ 0 → l .mfbwp ≡ 0 → noBack l ≡ true
   unfolding noBack
   no-back-from a b = simp tests (a, b)
-
--- ---- the draft
-
--- a right draft
-pub record DraftFacts (tags lens bytes : List ℕ) : Type 0 where
-  pub equal : length tags ≡ length lens
-  pub tags-right : tagsPermitted tags ≡ true
-  pub total : sum lens ≡ length bytes
-  pub need : needOf (length tags) (length bytes) ≤ recordMost
-
-pub draft-facts : (tags lens bytes : List ℕ) → draftRight tags lens bytes ≡ true → DraftFacts tags lens bytes
-unfolding draftRight
-draft-facts tags lens bytes e =
-    let q = simp tests at e in
-    record { equal = q .0 .0 .0; tags-right = q .0 .0 .1; total = q .0 .1; need = q .1 }

@@ -1,22 +1,19 @@
 -- The fields that a right directory names. Each law goes entry by entry: the bytes of a field are as long as its LEN, the data of the
 -- fields is one part of the record, from BASE on, and the directory of the fields is the record's own.
-use Prim.Native.Nat.{ℕ, zero, suc, _+_, _*_, _-_, _≤_}
+use Prim.Native.Nat.{ℕ, zero, suc, _+_, _-_, _≤_}
 use native.Mathlib.Nat.{add-zero, zero-add, add-assoc}
 use native.Mathlib.Omega.{arith}
 use mathlib.Core.Path.{_≡_, refl, sym, ap, _∙_}
 use mathlib.Core.Bool.{true}
-use mathlib.Core.List.{List, [], _∷_, _++_}
+use mathlib.Core.List.{List, _++_}
 use lib.ListN.{length, length-append}
-use Rattle.word.specs.Integer.{le}
 use Rattle.word.specs.Overwrite.{part}
 use Rattle.word.proofs.Overwrite.{part-length, part-add}
-use Rattle.word.proofs.Integers.{Bytes, u16-back}
 use Rattle.layout.specs.Leader.{leaderOf}
-use Rattle.record.specs.Directory.{tagAt, posAt, lenAt, directoryRight}
-use Rattle.record.specs.Fields.{Field, fieldAt, fieldsFrom, fieldsOf}
-use Rattle.record.specs.Bytes.{dataOf, entryBytes, directoryBytes, usedBy}
+use Rattle.record.specs.Directory.{posAt, lenAt, directoryRight}
+use Rattle.record.specs.Fields.{fieldAt, fieldsFrom, fieldsOf, dataOf}
 use Rattle.record.specs.Record.{Readable}
-use Rattle.record.proofs.Facts.{entry-facts}
+use Rattle.record.proofs.Facts.{entry-facts, readable-facts}
 
 -- ---- lengths
 
@@ -29,40 +26,19 @@ pub fields-count : (rec : List ℕ) → length (fieldsOf rec) ≡ leaderOf rec .
 unfolding fieldsOf
 fields-count rec = fields-length rec (leaderOf rec .base) (leaderOf rec .nvf) 0
 
-pub directory-length : (pos : ℕ) (fs : List Field) → length (directoryBytes pos fs) ≡ 6 * length fs
-unfolding directoryBytes
-directory-length pos [] = refl
-directory-length pos (f ∷ fs) = let e = directory-length (pos + length (f .bytes)) fs in omega arith
-
 -- no fields, no data
 pub data-none : (rec : List ℕ) (base i : ℕ) → length (dataOf (fieldsFrom rec base 0 i)) ≡ 0
 unfolding fieldsFrom dataOf
 data-none rec base i = refl
 
--- the bytes of an entry are those that stand there
-pub entry-is : (rec : List ℕ) → Bytes rec → (i : ℕ) → 24 + 6 * i ≤ length rec
-    → entryBytes (tagAt rec i) (posAt rec i) (lenAt rec i) ≡ part rec (18 + 6 * i) 6
-entry-is rec small i h =
-    let at : ℕ = 18 + 6 * i in
-    let p : 20 + 6 * i ≡ at + 2 = omega arith in
-    let q : 22 + 6 * i ≡ at + 4 = omega arith in
-    let tag : le 2 (tagAt rec i) ≡ part rec at 2 = u16-back rec at small (omega arith) in
-    let pos : le 2 (posAt rec i) ≡ part rec (at + 2) 2 = u16-back rec (20 + 6 * i) small (omega arith) ∙ ap (λ (a : ℕ). part rec a 2) p in
-    let len : le 2 (lenAt rec i) ≡ part rec (at + 4) 2 = u16-back rec (22 + 6 * i) small (omega arith) ∙ ap (λ (a : ℕ). part rec a 2) q in
-    ap (λ (x : List ℕ). x ++ le 2 (posAt rec i) ++ le 2 (lenAt rec i)) tag
-    ∙ ap (λ (x : List ℕ). part rec at 2 ++ x ++ le 2 (lenAt rec i)) pos
-    ∙ ap (λ (x : List ℕ). part rec at 2 ++ part rec (at + 2) 2 ++ x) len
-    ∙ ap (λ (x : List ℕ). x ++ part rec (at + 4) 2) (sym (part-add rec at 2 2))
-    ∙ sym (part-add rec at 4 2)
-
--- ---- the data and the directory of the fields, in a record that holds `room` bytes behind `base`
+-- ---- the data of the fields, in a record that holds `room` bytes behind `base`
 
 module _ (rec : List ℕ) (base room : ℕ) (within : base + room ≤ length rec) where
   pub field-length : (i : ℕ) → posAt rec i + lenAt rec i ≤ room → length (part rec (base + posAt rec i) (lenAt rec i)) ≡ lenAt rec i
   field-length i h = part-length rec (base + posAt rec i) (lenAt rec i) (omega arith)
 
   -- the first field, where the entries from i on are right
-  first-length : (k i pos : ℕ) → directoryRight rec room (suc k) i pos ≡ true → length (fieldAt rec base i .bytes) ≡ lenAt rec i
+  pub first-length : (k i pos : ℕ) → directoryRight rec room (suc k) i pos ≡ true → length (fieldAt rec base i .bytes) ≡ lenAt rec i
   first-length k i pos d = let f = entry-facts rec room k i pos d in field-length i (omega arith)
 
   data-size : (k i pos : ℕ) → directoryRight rec room (suc k) i pos ≡ true
@@ -104,31 +80,11 @@ module _ (rec : List ℕ) (base room : ℕ) (within : base + room ≤ length rec
       ∙ sym (part-add rec (base + pos) n (length rest))
       ∙ ap (part rec (base + pos)) (sym (data-size k i pos d))
 
-  -- the directory of the fields is the record's own
-  module _ (small : Bytes rec) where
-    pub directory-is : (k i pos : ℕ) → directoryRight rec room k i pos ≡ true → 18 + 6 * (i + k) ≤ length rec
-        → directoryBytes pos (fieldsFrom rec base k i) ≡ part rec (18 + 6 * i) (6 * k)
-    unfolding fieldsFrom directoryBytes
-    directory-is zero i pos d h = refl
-    directory-is (suc k) i pos d h =
-        let f = entry-facts rec room k i pos d in
-        let n : ℕ = lenAt rec i in
-        let rest : List ℕ = directoryBytes (pos + n) (fieldsFrom rec base k (i + 1)) in
-        let next : 18 + 6 * (i + 1) ≡ 18 + 6 * i + 6 = omega arith in
-        let all : 6 + 6 * k ≡ 6 * suc k = omega arith in
-        ap (λ (m : ℕ). entryBytes (tagAt rec i) pos m ++ directoryBytes (pos + m) (fieldsFrom rec base k (i + 1))) (first-length k i pos d)
-        ∙ ap (λ (p : ℕ). entryBytes (tagAt rec i) p n ++ rest) (sym (f .pos-is))
-        ∙ ap (λ (x : List ℕ). x ++ rest) (entry-is rec small i (omega arith))
-        ∙ ap (λ (x : List ℕ). part rec (18 + 6 * i) 6 ++ x)
-        (directory-is k (i + 1) (pos + n) (f .rest) (omega arith) ∙ ap (λ (a : ℕ). part rec a (6 * k)) next)
-        ∙ sym (part-add rec (18 + 6 * i) 6 (6 * k))
-        ∙ ap (part rec (18 + 6 * i)) all
-
 -- ---- a record that can be read
 
 module _ (rec : List ℕ) (r : Readable rec) where
-  directory-room : leaderOf rec .base + (leaderOf rec .mfrl - leaderOf rec .base) ≤ length rec
-  directory-room = omega (arith, r .base-in, r .record-in)
+  pub directory-room : leaderOf rec .base + (leaderOf rec .mfrl - leaderOf rec .base) ≤ length rec
+  directory-room = omega (arith, readable-facts r .base-in, readable-facts r .record-in)
 
   -- the data lies behind BASE, and ends within MFRL
   pub data-within : leaderOf rec .base + length (dataOf (fieldsOf rec)) ≤ leaderOf rec .mfrl
@@ -136,34 +92,15 @@ module _ (rec : List ℕ) (r : Readable rec) where
   data-within =
       omega (
         arith,
-        r .base-in,
-        data-in rec (leaderOf rec .base) (leaderOf rec .mfrl - leaderOf rec .base) directory-room (leaderOf rec .nvf) 0 0 (r .directory) (omega arith),
+        readable-facts r .base-in,
+        data-in rec (leaderOf rec .base) (leaderOf rec .mfrl - leaderOf rec .base) directory-room (leaderOf rec .nvf) 0 0 (readable-facts r .directory) (omega arith),
       )
-
-  pub used-is : usedBy (fieldsOf rec) ≡ leaderOf rec .base + length (dataOf (fieldsOf rec))
-  used-is = omega (arith, r .base-is, fields-count rec)
 
   pub data-part : dataOf (fieldsOf rec) ≡ part rec (leaderOf rec .base) (length (dataOf (fieldsOf rec)))
   unfolding fieldsOf
   data-part =
-      data-is rec (leaderOf rec .base) (leaderOf rec .mfrl - leaderOf rec .base) directory-room (leaderOf rec .nvf) 0 0 (r .directory)
+      data-is rec (leaderOf rec .base) (leaderOf rec .mfrl - leaderOf rec .base) directory-room (leaderOf rec .nvf) 0 0 (readable-facts r .directory)
       ∙ ap (λ (a : ℕ). part rec a (length (dataOf (fieldsOf rec)))) (add-zero (leaderOf rec .base))
-
-  pub directory-part : Bytes rec → directoryBytes 0 (fieldsOf rec) ≡ part rec 18 (6 * leaderOf rec .nvf)
-  unfolding fieldsOf
-  directory-part small =
-      directory-is rec (leaderOf rec .base) (leaderOf rec .mfrl - leaderOf rec .base) directory-room small (leaderOf rec .nvf) 0 0 (r .directory)
-      (omega (arith, r .base-is, r .base-in, r .record-in))
-
-  -- directory and data together are what stands behind the leader
-  pub body-part : Bytes rec → directoryBytes 0 (fieldsOf rec) ++ dataOf (fieldsOf rec) ≡ part rec 18 (usedBy (fieldsOf rec) - 18)
-  body-part small =
-      let n : ℕ = length (dataOf (fieldsOf rec)) in
-      let e : 6 * leaderOf rec .nvf + n ≡ usedBy (fieldsOf rec) - 18 = omega (arith, fields-count rec) in
-      ap (λ (x : List ℕ). x ++ dataOf (fieldsOf rec)) (directory-part small)
-      ∙ ap (λ (x : List ℕ). part rec 18 (6 * leaderOf rec .nvf) ++ x) (data-part ∙ ap (λ (a : ℕ). part rec a n) (r .base-is))
-      ∙ sym (part-add rec 18 (6 * leaderOf rec .nvf) n)
-      ∙ ap (part rec 18) e
 
   -- how long the data is: by the last entry
   pub data-empty : leaderOf rec .nvf ≡ 0 → length (dataOf (fieldsOf rec)) ≡ 0
@@ -173,5 +110,5 @@ module _ (rec : List ℕ) (r : Readable rec) where
   pub data-end : (k : ℕ) → leaderOf rec .nvf ≡ suc k → length (dataOf (fieldsOf rec)) ≡ posAt rec k + lenAt rec k
   unfolding fieldsOf
   data-end k e =
-      let d = rw e at (r .directory) in
+      let d = rw e at (readable-facts r .directory) in
       rw e (simp zero-add at (data-last rec (leaderOf rec .base) (leaderOf rec .mfrl - leaderOf rec .base) directory-room k 0 0 d))

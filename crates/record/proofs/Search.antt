@@ -14,7 +14,7 @@ use Rattle.record.specs.Fields.{fieldsFrom, fieldsOf, fieldNamed, findFr
 use Rattle.record.specs.Record.{Readable}
 use Rattle.record.specs.declared.fields.Found.{Found}
 use Rattle.record.specs.declared.fields.Found.the-variants.{Span, Missing}
-use Rattle.record.proofs.Facts.{entry-facts}
+use Rattle.record.proofs.Facts.{entry-facts, readable-facts}
 use Rattle.record.proofs.DirectoryTest.{rest-step}
 
 -- ---- what is found, as bytes
@@ -59,7 +59,7 @@ pub found-in : (rec : List ℕ) (tag occ s n : ℕ) → Readable rec → findOf 
 unfolding findOf
 found-in rec tag occ s n r e =
     let base : ℕ = leaderOf rec .base in
-    omega (arith, r .base-in, find-from-in rec base (leaderOf rec .mfrl - base) tag (leaderOf rec .nvf) 0 0 occ s n (r .directory) e)
+    omega (arith, readable-facts r .base-in, find-from-in rec base (leaderOf rec .mfrl - base) tag (leaderOf rec .nvf) 0 0 occ s n (readable-facts r .directory) e)
 
 -- ---- the turns of the loop
 

@@ -1,7 +1,7 @@
 -- The fields that a record's directory names, and the search among them. Document 01, "Records" and answer 12.
 use Prim.Native.Nat.{ℕ, zero, suc, _+_, _-_}
 use mathlib.Core.Bool.{cond}
-use mathlib.Core.List.{List, [], _∷_}
+use mathlib.Core.List.{List, [], _∷_, _++_}
 use mathlib.Core.Option.{Option, some, none}
 use lib.Dec.{eqb}
 use Rattle.word.specs.Overwrite.{part}
@@ -49,3 +49,8 @@ findOf rec tag occ = findFrom rec (leaderOf rec .base) (leaderOf rec .nvf) 0 tag
 abbrev pub foundBytes : List ℕ → Found → Option (List ℕ)
 foundBytes rec (Span start len) = some (part rec start len)
 foundBytes rec Missing = none
+
+-- the data of fields, one after the other
+unfoldable pub dataOf : List Field → List ℕ
+dataOf [] = []
+dataOf (f ∷ fs) = f .bytes ++ dataOf fs

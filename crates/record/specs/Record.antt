@@ -5,7 +5,7 @@ use mathlib.Core.Bool.{Bool, true, not, _&&_, cond}
 use mathlib.Core.List.{List}
 use lib.Dec.{eqb, leb}
 use lib.ListN.{length}
-use Rattle.layout.specs.Sizes.{recordMost, addressOf, recordLength}
+use Rattle.layout.specs.Sizes.{addressOf, recordLength}
 use Rattle.layout.specs.Entry.{wellPlaced, placeAddress, isChanged}
 use Rattle.layout.specs.Leader.{leaderOf}
 use Rattle.layout.specs.declared.entry.Mark.{Mark}
@@ -71,10 +71,8 @@ leaderRight m deleted left l = extentRight m left l && baseRight l && statusRigh
 unfoldable pub recordRight : List ℕ → ℕ → Bool → Bool
 recordRight rec m deleted = leaderRight m deleted (length rec) (leaderOf rec) && fieldsRight rec (leaderOf rec)
 
--- what follows of the sentences for whoever reads the fields, in numbers (`right-readable` of proofs/Facts)
+-- a record whose fields can be read: the first three sentences hold, whatever its MFN, its STATUS and its back pointer
 pub record Readable (rec : List ℕ) : Type 0 where
-  pub base-is : leaderOf rec .base ≡ 18 + 6 * leaderOf rec .nvf
-  pub base-in : leaderOf rec .base ≤ leaderOf rec .mfrl
-  pub record-in : leaderOf rec .mfrl ≤ length rec
-  pub short : leaderOf rec .mfrl ≤ recordMost
-  pub directory : directoryRight rec (leaderOf rec .mfrl - leaderOf rec .base) (leaderOf rec .nvf) 0 0 ≡ true
+  pub extent : extentRight (leaderOf rec .mfn .0) (length rec) (leaderOf rec) ≡ true
+  pub base : baseRight (leaderOf rec) ≡ true
+  pub fields : fieldsRight rec (leaderOf rec) ≡ true

@@ -14,7 +14,7 @@ pub struct DirectoryEntry {
 }
 
 // TAG of entry `i`, counted from 0.
-pub(crate) fn tag_at(rec: &[u8], i: usize) -> Tag
+pub fn tag_at(rec: &[u8], i: usize) -> Tag
     requires { ⌜ 24 + 6 * i ≤ length (now rec) ⌝ }
     ensures { λ r. ⌜ r .0 ≡ tagAt (now (rec .entry)) i ⌝ }
 {
@@ -22,7 +22,7 @@ pub(crate) fn tag_at(rec: &[u8], i: usize) -> Tag
 }
 
 // POS of entry `i`.
-pub(crate) fn pos_at(rec: &[u8], i: usize) -> usize
+pub fn pos_at(rec: &[u8], i: usize) -> usize
     requires { ⌜ 24 + 6 * i ≤ length (now rec) ⌝ }
     ensures { λ r. ⌜ (r ≡ posAt (now (rec .entry)) i) × (r < 65536) ⌝ }
 {
@@ -30,7 +30,7 @@ pub(crate) fn pos_at(rec: &[u8], i: usize) -> usize
 }
 
 // LEN of entry `i`.
-pub(crate) fn len_at(rec: &[u8], i: usize) -> usize
+pub fn len_at(rec: &[u8], i: usize) -> usize
     requires { ⌜ 24 + 6 * i ≤ length (now rec) ⌝ }
     ensures { λ r. ⌜ (r ≡ lenAt (now (rec .entry)) i) × (r < 65536) ⌝ }
 {

@@ -5,11 +5,9 @@ use crate::directory::tag_at;
 use layout::sizes::Tag;
 use word::integer::u16_at;
 ghost use mathlib.Core.Path.{_≡_};
-ghost use Prim.Native.Nat.{_+_, _*_, _-_, _≤_, _<_};
+ghost use Prim.Native.Nat.{_<_};
 ghost use lib.ListN.{length, getD};
-ghost use Rattle.word.specs.Overwrite.{part};
-ghost use Rattle.record.specs.Fields.{fieldsOf, findOf};
-ghost use Rattle.record.specs.Bytes.{dataOf};
+ghost use Rattle.record.specs.Fields.{fieldsOf, findOf, dataOf};
 ghost use Rattle.record.specs.Record.{Readable};
 
 // Where in its record a field lies.
@@ -44,15 +42,6 @@ pub fn find_field(rec: &[u8], tag: Tag, occurrence: u32) -> Found
         i += 1;
     }
     Found::Missing
-}
-
-// The bytes of a field that was found.
-pub(crate) fn field_part(rec: &[u8], start: usize, len: usize) -> &[u8]
-    requires { ⌜ start + len ≤ length (now rec) ⌝ }
-    ensures { λ r. ⌜ now r ≡ part (now (rec .entry)) start len ⌝ }
-{
-    let end = start + len;
-    &rec[start..end]
 }
 
 // One byte of a record.

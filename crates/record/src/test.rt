@@ -3,8 +3,7 @@ use layout::entry::Mark;
 use layout::leader::Leader;
 use layout::sizes::Mfn;
 ghost use mathlib.Core.Path.{_≡_};
-ghost use Prim.Native.Nat.{_+_, _≤_};
-ghost use lib.ListN.{length};
+ghost use Prim.Native.Nat.{_+_};
 ghost use Rattle.record.specs.Record.{leaderRight, statusFor, noBack, backRight};
 ghost use Rattle.record.specs.Inner.{testOf};
 
@@ -14,7 +13,7 @@ pub enum Tested {
 }
 
 // The STATUS of a record that is deleted or not.
-pub(crate) fn status_for(deleted: bool) -> u16
+pub fn status_for(deleted: bool) -> u16
     ensures { λ r. ⌜ r ≡ statusFor deleted ⌝ }
 {
     if deleted { 1 } else { 0 }

@@ -29,7 +29,8 @@ use Rattle.layout.specs.declared.sizes.Mfn.{Mfn}
 use Rattle.layout.specs.declared.sizes.Tag.{Tag}
 use Rattle.record.specs.declared.fields.Found.{Found}
 use Rattle.soundness.specs.Sound.{checkAnswer}
-use Rattle.store.specs.Store.{Store, store, Draft}
+use Rattle.store.specs.Store.{Store, store}
+use Rattle.drafts.specs.Draft.{Draft}
 use Rattle.ledger.specs.Call.{Call, create, update, Outcome}
 use Rattle.ledger.specs.StoreRun.{shownOutcome, answerS, nextS}
 use Rattle.replay.specs.Calls.{callSize, Script, noDraft, opIn, readingCall, writingCall, draftOf, takenBy, callOf, leftOf, firstOp, firstCall}

@@ -19,7 +19,7 @@ use lib.Dec.{eqb, leb}
 use lib.ListN.{length, getD, take, drop}
 use Rattle.layout.specs.declared.sizes.Mfn.{Mfn}
 use Rattle.layout.specs.declared.sizes.Tag.{Tag}
-use Rattle.store.specs.Store.{draft}
+use Rattle.drafts.specs.Draft.{draft}
 use Rattle.ledger.specs.Call.{Call, format, view, viewSettled, create, update, delete, settle, revert, check}
 use Rattle.replay.specs.declared.calls.Counts.{Counts}
 use Rattle.replay.specs.declared.calls.Reading.{Reading}

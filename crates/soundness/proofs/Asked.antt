@@ -8,12 +8,13 @@ use lib.Dec.{eqb}
 use lib.ListN.{length}
 use borrow.Author.Tests.{ltb-false}
 use Rattle.layout.specs.Sizes.{capacityOf}
-use Rattle.layout.specs.CrossReference.{xrfBlock, headRight, slotFree}
-use Rattle.layout.specs.Control.{nextOf, endOf}
+use Rattle.files.specs.CrossReference.{xrfBlock, headRight, slotFree}
+use Rattle.files.specs.Control.{nextOf, endOf}
 use Rattle.layout.specs.declared.entry.Mark.the-variants.{Changed}
 use Rattle.layout.specs.declared.entry.Entry.the-variants.{At}
-use Rattle.record.specs.Bytes.{needFor}
-use Rattle.store.specs.Store.{store, Draft, isRight, fieldsIn}
+use Rattle.drafts.specs.Bytes.{needFor}
+use Rattle.store.specs.Store.{store}
+use Rattle.drafts.specs.Draft.{Draft, isRight, fieldsIn}
 use Rattle.store.specs.Answer.{Refusal, refuse, lowest, numberOf}
 use Rattle.store.specs.Reading.{mfnInRange, entryFor, placeFor, isGone, isSettled, isNew, leaderAt, currentFields}
 use Rattle.store.specs.Refusals.{named, fine, bothFine}

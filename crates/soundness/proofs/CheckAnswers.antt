@@ -8,7 +8,7 @@ use mathlib.Core.List.{List, [], _∷_}
 use lib.ListN.{length}
 use borrow.Author.Tests.{not-true, not-false}
 use Rattle.layout.specs.Sizes.{capacityOf}
-use Rattle.layout.specs.Control.{nextOf}
+use Rattle.files.specs.Control.{nextOf}
 use Rattle.layout.specs.declared.sizes.Mfn.{Mfn}
 use Rattle.layout.proofs.Tests.{and-false}
 use Rattle.store.specs.Answer.{refuse}

@@ -14,10 +14,10 @@ use Rattle.word.specs.Overwrite.{overwrite, part}
 use Rattle.word.proofs.Overwrite.{overwrite-length, overwrite-other}
 use Rattle.layout.specs.Sizes.{capacityOf, blockAt, offsetAt, endMoved}
 use Rattle.layout.specs.Entry.{wellPlaced, placed, placeAddress}
-use Rattle.layout.specs.CrossReference.{xrfBlock, withEntry}
-use Rattle.layout.specs.Control.{nextOf, endOf, controlRight}
+use Rattle.files.specs.CrossReference.{xrfBlock, withEntry}
+use Rattle.files.specs.Control.{nextOf, endOf, controlRight}
 use Rattle.layout.specs.Leader.{leaderOf}
-use Rattle.layout.specs.NamedBytes.{NoByte, EndByte}
+use Rattle.files.specs.NamedBytes.{NoByte, EndByte}
 use Rattle.layout.specs.declared.entry.Mark.{Mark}
 use Rattle.layout.specs.declared.entry.Mark.the-variants.{Settled, Changed, New}
 use Rattle.layout.specs.declared.entry.Place.{Place}
@@ -25,14 +25,14 @@ use Rattle.layout.specs.declared.entry.Entry.the-variants.{At}
 use Rattle.layout.specs.declared.leader.Leader.{Leader}
 use Rattle.layout.proofs.Tests.{tests, false-true}
 use Rattle.layout.proofs.Facts.{address-of-at, well-placed-at, RecordLengthFacts, record-length-facts, EndMovedFacts, end-moved-facts, end-moved-in}
-use Rattle.layout.proofs.ControlRecord.{control-facts, next-placed, control-right-placed}
-use Rattle.layout.proofs.ControlMoves.{control-front, EndPlace, ControlMoved, end-moved}
-use Rattle.layout.proofs.CrossReference.{slot-in, block-in, entry-well-placed, with-entry-same}
+use Rattle.files.proofs.ControlRecord.{control-facts, next-placed, control-right-placed}
+use Rattle.files.proofs.ControlMoves.{control-front, EndPlace, ControlMoved, end-moved}
+use Rattle.files.proofs.CrossReference.{slot-in, block-in, entry-well-placed, with-entry-same}
 use Rattle.record.specs.Fields.{Field, fieldsOf}
 use Rattle.record.specs.Record.{recordRight, noBack, backRight}
-use Rattle.record.specs.Bytes.{recordBytes, leaderFor}
+use Rattle.drafts.specs.Bytes.{recordBytes, leaderFor}
 use Rattle.record.proofs.Local.{ReadsAs, reads-window}
-use Rattle.record.proofs.Trip.{Writable, written-length, written-placed}
+use Rattle.drafts.proofs.Trip.{Writable, written-length, written-placed}
 use Rattle.store.specs.Reading.{entryFor, isChanged, recordFrom, recordAt, leaderAt, backAddress, backFine, settledRecord, currentFields}
 use Rattle.versions.specs.Written.{appended, placeAtEnd}
 use Rattle.soundness.specs.Sound.{elem, mfrlAt, steps}

@@ -15,10 +15,10 @@ use Rattle.word.specs.Overwrite.{overwrite}
 use Rattle.word.proofs.Overwrite.{lt-or-ge, overwrite-length, overwrite-other}
 use Rattle.layout.specs.Sizes.{capacityOf, endMoved, recordLength}
 use Rattle.layout.specs.Entry.{placeAddress}
-use Rattle.layout.specs.CrossReference.{slotAt, headRight, entryAt, slotFree, withEntry}
-use Rattle.layout.specs.Control.{nextOf, endOf}
+use Rattle.files.specs.CrossReference.{slotAt, headRight, entryAt, slotFree, withEntry}
+use Rattle.files.specs.Control.{nextOf, endOf}
 use Rattle.layout.specs.Leader.{leaderOf}
-use Rattle.layout.specs.NamedBytes.{Within, NoByte, ControlByte}
+use Rattle.files.specs.NamedBytes.{Within, NoByte, ControlByte}
 use Rattle.layout.specs.declared.entry.Mark.{Mark}
 use Rattle.layout.specs.declared.entry.Mark.the-variants.{Settled, Changed, New}
 use Rattle.layout.specs.declared.entry.Place.{Place}
@@ -26,9 +26,9 @@ use Rattle.layout.specs.declared.entry.Entry.the-variants.{At}
 use Rattle.layout.specs.declared.leader.Leader.{Leader}
 use Rattle.layout.proofs.Tests.{tests}
 use Rattle.layout.proofs.Facts.{well-placed-later, end-moved-facts}
-use Rattle.layout.proofs.ControlRecord.{control-facts, next-placed, end-placed, control-right-placed}
-use Rattle.layout.proofs.ControlMoves.{out-of, control-front}
-use Rattle.layout.proofs.CrossReference.{slot-in, entry-later, entry-gone, with-entry-length, with-entry-byte, with-entry-head, with-entry-free, with-entry-other}
+use Rattle.files.proofs.ControlRecord.{control-facts, next-placed, end-placed, control-right-placed}
+use Rattle.files.proofs.ControlMoves.{out-of, control-front}
+use Rattle.files.proofs.CrossReference.{slot-in, entry-later, entry-gone, with-entry-length, with-entry-byte, with-entry-head, with-entry-free, with-entry-other}
 use Rattle.record.specs.Fields.{Field, fieldsOf}
 use Rattle.record.specs.Record.{recordRight, noBack, backRight}
 use Rattle.record.proofs.Local.{ReadsAs, reads-mfn, reads-window}

@@ -15,8 +15,8 @@ use denote.Enum.Declared.{tagOf}
 use Rattle.word.specs.Overwrite.{part}
 use Rattle.layout.specs.Sizes.{mstMost, mfnMost, capacityOf, addressOf, endMoved, recordLength}
 use Rattle.layout.specs.Entry.{placeAddress}
-use Rattle.layout.specs.CrossReference.{slotFree, entryAt}
-use Rattle.layout.specs.Control.{nextOf, endOf}
+use Rattle.files.specs.CrossReference.{slotFree, entryAt}
+use Rattle.files.specs.Control.{nextOf, endOf}
 use Rattle.layout.specs.Leader.{leaderOf}
 use Rattle.layout.specs.declared.sizes.Mfn.{Mfn}
 use Rattle.layout.specs.declared.entry.Mark.{Mark}
@@ -29,7 +29,7 @@ use Rattle.layout.proofs.entry.Entry as entry
 use Rattle.layout.proofs.entry.Mark as mark
 use Rattle.layout.proofs.Tests.{and-false, and-left}
 use Rattle.layout.proofs.Facts.{well-placed-facts}
-use Rattle.layout.proofs.CrossReference.{entry-well-placed}
+use Rattle.files.proofs.CrossReference.{entry-well-placed}
 use Rattle.store.specs.Answer.{numberOf, after}
 use Rattle.store.specs.Reading.{mfnInRange, entryFor, placeIn, isMalformed, isGone, isChanged, recordFrom, leaderAt, backAddress, recordFine, versionFine}
 use Rattle.store.specs.Gate.{gateOf, knownIf, knownBoth, knownAnswer}

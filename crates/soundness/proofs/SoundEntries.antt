@@ -13,16 +13,16 @@ use borrow.Author.Tests.{le-leb, eqb-false}
 use Rattle.word.proofs.Overwrite.{lt-or-ge}
 use Rattle.layout.specs.Sizes.{capacityOf}
 use Rattle.layout.specs.Entry.{placeAddress}
-use Rattle.layout.specs.CrossReference.{xrfBlock, headRight, slotFree}
-use Rattle.layout.specs.Control.{nextOf}
+use Rattle.files.specs.CrossReference.{xrfBlock, headRight, slotFree}
+use Rattle.files.specs.Control.{nextOf}
 use Rattle.layout.specs.declared.entry.Mark.{Mark}
 use Rattle.layout.specs.declared.entry.Mark.the-variants.{Settled, Changed, New}
 use Rattle.layout.specs.declared.entry.Place.{Place}
 use Rattle.layout.specs.declared.entry.Entry.{Entry}
 use Rattle.layout.specs.declared.entry.Entry.the-variants.{Gone, Malformed, At}
 use Rattle.layout.proofs.Tests.{tests, false-true}
-use Rattle.layout.proofs.ControlRecord.{ControlFacts, control-facts}
-use Rattle.layout.proofs.CrossReference.{block-in}
+use Rattle.files.proofs.ControlRecord.{ControlFacts, control-facts}
+use Rattle.files.proofs.CrossReference.{block-in}
 use Rattle.store.specs.Answer.{Refusal, refuse, lowest}
 use Rattle.store.specs.Reading.{lengthsPermitted, controlFine, mfnInRange, entryFor, placeFor, isMalformed, isGone, isChanged, leaderAt, backAddress, recordFine, settledFine, versionFine}
 use Rattle.store.specs.Refusals.{gated, named, fine, bothFine}

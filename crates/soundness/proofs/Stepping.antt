@@ -13,7 +13,7 @@ use lib.Dec.{eqb, leb}
 use lib.ListN.{getD, drop}
 use borrow.Author.Tests.{le-leb, lt-leb, eqb-true, eq-eqb, ne-eqb}
 use Rattle.layout.specs.Sizes.{recordMost, endMoved, recordLength}
-use Rattle.layout.specs.Control.{endOf}
+use Rattle.files.specs.Control.{endOf}
 use Rattle.layout.specs.Leader.{leaderOf}
 use Rattle.layout.specs.declared.leader.Leader.{Leader}
 use Rattle.layout.proofs.Tests.{tests, false-true}

@@ -8,13 +8,14 @@ use mathlib.Core.List.{List}
 use lib.ListN.{length, replicate}
 use Rattle.word.proofs.Overwrite.{overwrite-other}
 use Rattle.layout.specs.Entry.{placeAddress}
-use Rattle.layout.specs.Control.{nextOf}
-use Rattle.layout.specs.NamedBytes.{NoByte, BackByte}
+use Rattle.files.specs.Control.{nextOf}
+use Rattle.files.specs.NamedBytes.{NoByte, BackByte}
 use Rattle.layout.specs.declared.entry.Place.{Place}
-use Rattle.layout.proofs.ControlMoves.{out-of}
-use Rattle.record.specs.Bytes.{needFor}
-use Rattle.record.proofs.Draftable.{draft-draftable}
-use Rattle.store.specs.Store.{Store, store, Draft, fieldsIn}
+use Rattle.files.proofs.ControlMoves.{out-of}
+use Rattle.drafts.specs.Bytes.{needFor}
+use Rattle.drafts.proofs.Draftable.{draft-draftable}
+use Rattle.store.specs.Store.{Store, store}
+use Rattle.drafts.specs.Draft.{Draft, fieldsIn}
 use Rattle.store.specs.Reading.{placeFor, isSettled, leaderAt, currentFields}
 use Rattle.store.specs.declared.answer.Answer.the-variants.{Done}
 use Rattle.store.proofs.Gates.{MfnFacts, mfn-facts, after-done}

@@ -12,10 +12,10 @@ use borrow.Author.Tests.{eq-eqb, ltb-false}
 use Rattle.word.specs.Overwrite.{overwrite, part}
 use Rattle.layout.specs.Sizes.{mstPermitted, xrfPermitted, capacityOf, addressOf, endMoved}
 use Rattle.layout.specs.Entry.{wellPlaced, placed, placeAddress}
-use Rattle.layout.specs.CrossReference.{withEntry, formattedXrf}
-use Rattle.layout.specs.Control.{nextOf, endOf, formattedMst}
+use Rattle.files.specs.CrossReference.{withEntry, formattedXrf}
+use Rattle.files.specs.Control.{nextOf, endOf, formattedMst}
 use Rattle.layout.specs.Leader.{leaderOf}
-use Rattle.layout.specs.NamedBytes.{ControlByte}
+use Rattle.files.specs.NamedBytes.{ControlByte}
 use Rattle.layout.specs.declared.entry.Mark.{Mark}
 use Rattle.layout.specs.declared.entry.Mark.the-variants.{Settled, Changed, New}
 use Rattle.layout.specs.declared.entry.Place.{Place}
@@ -23,15 +23,15 @@ use Rattle.layout.specs.declared.entry.Entry.the-variants.{At}
 use Rattle.layout.specs.declared.leader.Leader.{Leader}
 use Rattle.layout.proofs.Tests.{false-true, or-false}
 use Rattle.layout.proofs.Facts.{well-placed-facts, well-placed-later, encodable}
-use Rattle.layout.proofs.ControlRecord.{formatted-length, formatted-next, formatted-end, formatted-right}
-use Rattle.layout.proofs.ControlMoves.{ControlMoved, both-moved}
-use Rattle.layout.proofs.CrossReference.{entry-well-placed, formatted-xrf-length, formatted-head, formatted-free}
+use Rattle.files.proofs.ControlRecord.{formatted-length, formatted-next, formatted-end, formatted-right}
+use Rattle.files.proofs.ControlMoves.{ControlMoved, both-moved}
+use Rattle.files.proofs.CrossReference.{entry-well-placed, formatted-xrf-length, formatted-head, formatted-free}
 use Rattle.record.specs.Fields.{Field, fieldsOf}
-use Rattle.record.specs.Bytes.{needFor, recordBytes, leaderFor}
+use Rattle.drafts.specs.Bytes.{needFor, recordBytes, leaderFor}
 use Rattle.record.proofs.Facts.{LeaderFacts, no-back-from}
-use Rattle.record.proofs.Draftable.{Draftable, reads-draftable, reads-need}
+use Rattle.drafts.proofs.Draftable.{Draftable, reads-draftable, reads-need}
 use Rattle.record.proofs.Local.{ReadsAs, reads-leader, reads-settled, withBack}
-use Rattle.record.proofs.Trip.{Writable, need-writable, written-length, written-placed}
+use Rattle.drafts.proofs.Trip.{Writable, need-writable, written-length, written-placed}
 use Rattle.store.specs.Reading.{lengthsPermitted, entryFor, isSettled, recordAt, leaderAt, backAddress, backFine, settledRecord, shownSettled, currentFields}
 use Rattle.versions.specs.Written.{withRecord, appended, placeAtEnd, createdMst, createdXrf, newBackBlock, newBackOffset, pendingMark, versionLeader, versionAppended, versionInPlace, updatedMst, updatedXrf, deletedMst, deletedXrf, settledMst, settledXrf, revertedXrf, updateAppends}
 use Rattle.store.proofs.Gates.{lengths-both, fine-facts, back-changed, back-settled, back-new, settled-facts}

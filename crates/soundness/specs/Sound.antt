@@ -6,8 +6,8 @@ use lib.Dec.{eqb, leb}
 use lib.ListN.{length}
 use Rattle.layout.specs.Sizes.{capacityOf, endMoved, recordLength}
 use Rattle.layout.specs.Entry.{placeAddress}
-use Rattle.layout.specs.CrossReference.{headRight, slotFree}
-use Rattle.layout.specs.Control.{nextOf, endOf}
+use Rattle.files.specs.CrossReference.{headRight, slotFree}
+use Rattle.files.specs.Control.{nextOf, endOf}
 use Rattle.layout.specs.Leader.{leaderOf}
 use Rattle.layout.specs.declared.entry.Place.{Place}
 use Rattle.layout.specs.declared.entry.Entry.{Entry}

@@ -4,12 +4,13 @@ use Prim.Native.Nat.{ℕ, _≤_, _<_}
 use mathlib.Core.Path.{_≡_}
 use lib.ListN.{length, getD}
 use Rattle.layout.specs.Entry.{placeAddress}
-use Rattle.layout.specs.CrossReference.{slotAt}
-use Rattle.layout.specs.Control.{nextOf, endOf}
-use Rattle.layout.specs.NamedBytes.{Within, NoByte, ControlByte, BackByte}
+use Rattle.files.specs.CrossReference.{slotAt}
+use Rattle.files.specs.Control.{nextOf, endOf}
+use Rattle.files.specs.NamedBytes.{Within, NoByte, ControlByte, BackByte}
 use Rattle.layout.specs.declared.entry.Place.{Place}
 use Rattle.layout.specs.declared.entry.Entry.the-variants.{At}
-use Rattle.store.specs.Store.{Store, Draft}
+use Rattle.store.specs.Store.{Store}
+use Rattle.drafts.specs.Draft.{Draft}
 use Rattle.store.specs.Reading.{entryFor, placeFor, leaderAt}
 use Rattle.store.specs.declared.answer.Answer.the-variants.{Done}
 use Rattle.writing.specs.Refusals.{createAnswer, updateAnswer, deleteAnswer, settleAnswer, revertAnswer}

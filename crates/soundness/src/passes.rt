@@ -33,7 +33,7 @@ pub(crate) fn heads_right(xrf: &[u8]) -> bool
     let n = xrf.len() / 512;
     let mut k: usize = 1;
     while k <= n {
-        if !layout::cross_reference::head_right(xrf, k) {
+        if !files::cross_reference::head_right(xrf, k) {
             return false;
         }
         k += 1;
@@ -49,7 +49,7 @@ pub(crate) fn rest_free(xrf: &[u8], next: Mfn) -> bool
     let last = layout::sizes::capacity(xrf.len()) as u32;
     let mut m = next.0;
     while m <= last {
-        if !layout::cross_reference::slot_free(xrf, Mfn(m)) {
+        if !files::cross_reference::slot_free(xrf, Mfn(m)) {
             return false;
         }
         m += 1;
@@ -147,7 +147,7 @@ fn step_hit(mst: &[u8], xrf: &[u8], next: Mfn, end: usize, s: usize) -> usize
     if next.0 <= m.0 {
         return 0;
     }
-    let e = layout::cross_reference::entry_at(xrf, end, m);
+    let e = files::cross_reference::entry_at(xrf, end, m);
     let Entry::At(p) = e else {
         return 0;
     };

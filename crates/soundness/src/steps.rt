@@ -3,7 +3,7 @@ ghost use mathlib.Core.Path.{_≡_};
 ghost use Prim.Native.Nat.{_+_, _≤_};
 ghost use lib.ListN.{length};
 ghost use Rattle.layout.specs.Sizes.{mstMost};
-ghost use Rattle.layout.specs.Control.{endOf};
+ghost use Rattle.files.specs.Control.{endOf};
 ghost use Rattle.soundness.specs.Sound.{nextStep};
 
 // The step after `s`; past the end where MFRL is not right.

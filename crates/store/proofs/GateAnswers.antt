@@ -14,13 +14,13 @@ use denote.Enum.Declared.{tagOf}
 use Rattle.word.specs.Overwrite.{part}
 use Rattle.layout.specs.Sizes.{mstPermitted, xrfPermitted, capacityOf, addressOf}
 use Rattle.layout.specs.Entry.{wellPlaced, placeAddress}
-use Rattle.layout.specs.CrossReference.{entryAt}
-use Rattle.layout.specs.Control.{endOf, nextOf}
-use Rattle.layout.specs.Inner.{controlOf}
+use Rattle.files.specs.CrossReference.{entryAt}
+use Rattle.files.specs.Control.{endOf, nextOf}
+use Rattle.files.specs.Inner.{controlOf}
 use Rattle.layout.specs.Leader.{leaderOf}
 use Rattle.layout.specs.declared.sizes.Mfn.{Mfn}
-use Rattle.layout.specs.declared.control.Control.{Control}
-use Rattle.layout.specs.declared.control.Control.the-variants.{Right, Wrong}
+use Rattle.files.specs.declared.control.Control.{Control}
+use Rattle.files.specs.declared.control.Control.the-variants.{Right, Wrong}
 use Rattle.layout.specs.declared.entry.Mark.{Mark}
 use Rattle.layout.specs.declared.entry.Mark.the-variants.{Settled, Changed, New}
 use Rattle.layout.specs.declared.entry.Place.{Place}
@@ -31,8 +31,8 @@ use Rattle.layout.proofs.entry.Entry as entry
 use Rattle.layout.proofs.entry.Mark as mark
 use Rattle.layout.proofs.Tests.{and-false}
 use Rattle.layout.proofs.Facts.{well-placed-facts}
-use Rattle.layout.proofs.ControlRecord.{control-read}
-use Rattle.layout.proofs.CrossReference.{entry-well-placed}
+use Rattle.files.proofs.ControlRecord.{control-read}
+use Rattle.files.proofs.CrossReference.{entry-well-placed}
 use Rattle.record.specs.Record.{recordRight, noBack, backRight}
 use Rattle.record.specs.Inner.{testOf}
 use Rattle.record.specs.declared.test.Tested.{Tested}

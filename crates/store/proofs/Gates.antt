@@ -13,8 +13,8 @@ use Rattle.word.specs.Overwrite.{part}
 use Rattle.word.proofs.Overwrite.{part-short}
 use Rattle.layout.specs.Sizes.{mstMost, xrfMost, mstBlocks, mstPermitted, xrfPermitted, capacityOf}
 use Rattle.layout.specs.Entry.{wellPlaced, placed, placeAddress}
-use Rattle.layout.specs.Control.{nextOf, endOf}
-use Rattle.layout.specs.CrossReference.{entryAt}
+use Rattle.files.specs.Control.{nextOf, endOf}
+use Rattle.files.specs.CrossReference.{entryAt}
 use Rattle.layout.specs.Leader.{leaderOf}
 use Rattle.layout.specs.declared.sizes.Mfn.{Mfn}
 use Rattle.layout.specs.declared.entry.Mark.the-variants.{Settled, Changed, New}
@@ -24,8 +24,8 @@ use Rattle.layout.specs.declared.entry.Entry.the-variants.{Gone, Malformed, At}
 use Rattle.layout.specs.declared.leader.Leader.{Leader}
 use Rattle.layout.proofs.Tests.{tests, false-true, not-both, cond-holds}
 use Rattle.layout.proofs.Facts.{blocks-facts, WellPlacedFacts, well-placed-facts}
-use Rattle.layout.proofs.ControlRecord.{control-facts}
-use Rattle.layout.proofs.CrossReference.{entry-well-placed}
+use Rattle.files.proofs.ControlRecord.{control-facts}
+use Rattle.files.proofs.CrossReference.{entry-well-placed}
 use Rattle.record.specs.Record.{recordRight, noBack, backRight, Readable}
 use Rattle.record.specs.Fields.{fieldsOf}
 use Rattle.record.proofs.Local.{ReadsAs, right-reads}

@@ -9,7 +9,7 @@ use mathlib.Core.List.{List, []}
 use native.Mathlib.Nat.{le-refl}
 use lib.ListN.{length, take}
 use lib.Seq.{take-all}
-use Rattle.layout.specs.Control.{nextOf, endOf}
+use Rattle.files.specs.Control.{nextOf, endOf}
 use Rattle.layout.specs.declared.sizes.Mfn.{Mfn}
 use Rattle.layout.specs.declared.entry.Place.{Place}
 use Rattle.layout.specs.declared.entry.Entry.the-variants.{At}

@@ -1,18 +1,17 @@
 -- What is read of a store, in the order of the answer numbers: lengths, control record, MFN, entry, record, settled version.
 -- Document 01, "Cross-reference entries", "Records" and "Answer numbers".
 use Prim.Native.Nat.{ℕ, _-_}
-use mathlib.Core.Bool.{Bool, true, false, not, _&&_, cond}
+use mathlib.Core.Bool.{Bool, true, false, _&&_, cond}
 use mathlib.Core.List.{List}
-use lib.Dec.{eqb, leb, ltb}
+use lib.Dec.{leb, ltb}
 use lib.ListN.{length}
 use Rattle.word.specs.Overwrite.{part}
-use Rattle.layout.specs.Sizes.{mstPermitted, xrfPermitted, capacityOf, addressOf}
+use Rattle.layout.specs.Sizes.{mstPermitted, xrfPermitted, capacityOf}
 use Rattle.layout.specs.Entry.{placed, placeAddress}
-use Rattle.layout.specs.CrossReference.{entryAt}
-use Rattle.layout.specs.Control.{nextOf, endOf, controlRight}
+use Rattle.files.specs.CrossReference.{entryAt}
+use Rattle.files.specs.Control.{nextOf, endOf, controlRight}
 use Rattle.layout.specs.Leader.{leaderOf}
-use Rattle.layout.specs.declared.entry.Mark.{Mark}
-use Rattle.layout.specs.declared.entry.Mark.the-variants.{Settled, Changed, New}
+use Rattle.layout.specs.declared.entry.Mark.the-variants.{Settled}
 use Rattle.layout.specs.declared.entry.Place.{Place}
 use Rattle.layout.specs.declared.entry.Entry.{Entry}
 use Rattle.layout.specs.declared.entry.Entry.the-variants.{Gone, Malformed, At}

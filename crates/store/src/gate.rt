@@ -1,6 +1,6 @@
 // What every call asks first: the lengths and the control record, then, of an MFN, its range, its entry and its record.
 use crate::answer::Answer;
-use layout::control::Control;
+use files::control::Control;
 use layout::entry::Entry;
 use layout::entry::Mark;
 use layout::entry::Place;
@@ -11,7 +11,7 @@ ghost use mathlib.Core.Path.{_≡_};
 ghost use mathlib.Core.Bool.{true};
 ghost use Prim.Native.Nat.{_+_, _≤_};
 ghost use lib.ListN.{length};
-ghost use Rattle.layout.specs.Control.{endOf};
+ghost use Rattle.files.specs.Control.{endOf};
 ghost use Rattle.layout.specs.Entry.{wellPlaced};
 ghost use Rattle.store.specs.Reading.{lengthsPermitted, backFine};
 ghost use Rattle.store.specs.Gate.{gateOf, gateAnswer, knownOf, knownBoth, knownAnswer, reachedOf, reachedBoth, reachedAnswer, entryAnswer, placeKnown, settledFrom};
@@ -92,7 +92,7 @@ pub fn open_gate(mst: &[u8], xrf: &[u8]) -> Gate
     if !lengths_permitted(mst, xrf) {
         return Gate::Shut(Answer::BadLength);
     }
-    let c = layout::control::read_control(mst, layout::sizes::capacity(xrf.len()));
+    let c = files::control::read_control(mst, layout::sizes::capacity(xrf.len()));
     let Control::Right { next, end } = c else {
         return Gate::Shut(Answer::BadControl);
     };
@@ -156,7 +156,7 @@ pub fn find_record(mst: &[u8], xrf: &[u8], next: Mfn, end: usize, m: Mfn) -> Kno
     if next.0 <= m.0 {
         return Known::Refused(Answer::NoMfn);
     }
-    let e = layout::cross_reference::entry_at(xrf, end, m);
+    let e = files::cross_reference::entry_at(xrf, end, m);
     let Entry::At(p) = e else {
         return Known::Refused(entry_answer(e));
     };

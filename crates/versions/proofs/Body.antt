@@ -11,8 +11,9 @@ use Rattle.word.proofs.Overwrite.{part-short, part-byte, overwrite-none, overwr
 use Rattle.word.proofs.Runs.{within-more}
 use Rattle.record.specs.Fields.{fieldsOf}
 use Rattle.record.specs.Record.{Readable}
-use Rattle.record.specs.Bytes.{usedBy, needFor}
-use Rattle.record.proofs.Draftable.{need-used, readable-used}
+use Rattle.record.proofs.Facts.{readable-facts}
+use Rattle.drafts.specs.Bytes.{usedBy, needFor}
+use Rattle.drafts.proofs.Draftable.{need-used, readable-used}
 
 -- one byte, out of the part that starts at the old record and into the part that starts at the new one
 pub byte-copied : {last : List ℕ} (d : List ℕ) (at end i b : ℕ) → at + i < end → b ≡ getD (midOf at (end - at) d) i 0
@@ -41,4 +42,4 @@ pub body-in : (d : List ℕ) (at end room used : ℕ) → Readable (part d at (e
     → needFor (fieldsOf (part d at (end - at))) ≤ room → (18 ≤ used) × (at + used ≤ end) × (used ≤ room)
 body-in d at end room used r u h k =
     let rec : List ℕ = part d at (end - at) in
-    omega (arith, readable-used rec r, r .record-in, part-short d at (end - at), need-used (fieldsOf rec))
+    omega (arith, readable-used rec r, readable-facts r .record-in, part-short d at (end - at), need-used (fieldsOf rec))

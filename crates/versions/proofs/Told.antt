@@ -9,12 +9,12 @@ use types.Run.{OneOf, miss}
 use lib.ListN.{length}
 use borrow.Author.Tests.{not-false}
 use Rattle.layout.specs.Sizes.{fieldsMost, recordMost}
-use Rattle.layout.specs.Control.{endOf}
+use Rattle.files.specs.Control.{endOf}
 use Rattle.layout.specs.declared.sizes.Mfn.{Mfn}
 use Rattle.layout.specs.declared.entry.Place.{Place}
 use Rattle.layout.specs.declared.leader.Leader.{Leader}
-use Rattle.record.specs.Draft.{needOf, draftRight}
-use Rattle.record.proofs.Facts.{draft-facts}
+use Rattle.drafts.specs.Draft.{needOf, draftRight}
+use Rattle.drafts.proofs.DraftFacts.{draft-facts}
 use Rattle.store.specs.Reading.{isSettled, leaderAt}
 use Rattle.layout.proofs.entry.Mark as mark
 use Rattle.layout.specs.declared.entry.Mark.{Mark}

@@ -12,8 +12,8 @@ use Rattle.word.specs.Overwrite.{overwrite}
 use Rattle.word.proofs.Overwrite.{returned-front, returned-tail, tail-back}
 use Rattle.layout.specs.Sizes.{addressLimit, recordMost, mstMost, mstBlocks, capacityOf, blockAt, offsetAt, endMoved}
 use Rattle.layout.specs.Entry.{placed, placeAddress}
-use Rattle.layout.specs.Control.{nextOf, endOf, withNext, withEnd}
-use Rattle.layout.specs.CrossReference.{withEntry}
+use Rattle.files.specs.Control.{nextOf, endOf, withNext, withEnd}
+use Rattle.files.specs.CrossReference.{withEntry}
 use Rattle.layout.specs.Leader.{leaderOf}
 use Rattle.layout.specs.declared.sizes.Block.{Block}
 use Rattle.layout.specs.declared.entry.Mark.{Mark}
@@ -21,14 +21,14 @@ use Rattle.layout.specs.declared.entry.Mark.the-variants.{Settled, New}
 use Rattle.layout.specs.declared.entry.Place.{Place}
 use Rattle.layout.specs.declared.leader.Leader.{Leader}
 use Rattle.layout.proofs.Facts.{end-moved-facts}
-use Rattle.record.specs.Fields.{Field, fieldsOf}
+use Rattle.record.specs.Fields.{Field, fieldsOf, dataOf}
 use Rattle.record.specs.Record.{Readable}
-use Rattle.record.specs.Draft.{needOf, draftRight, draftFields}
-use Rattle.record.specs.Bytes.{dataOf, needFor, recordBytes, leaderFor}
-use Rattle.record.proofs.Facts.{right-readable}
+use Rattle.drafts.specs.Draft.{needOf, draftRight, draftFields}
+use Rattle.drafts.specs.Bytes.{needFor, recordBytes, leaderFor}
+use Rattle.record.proofs.Facts.{right-readable, readable-facts}
 use Rattle.record.proofs.FieldData.{fields-count, data-within}
 use Rattle.record.proofs.Local.{ReadsAs, right-reads, reads-bound}
-use Rattle.record.proofs.Draftable.{draft-need, draft-count, readable-draftable}
+use Rattle.drafts.proofs.Draftable.{draft-need, draft-count, readable-draftable}
 use Rattle.store.specs.Reading.{isSettled, recordAt, leaderAt, currentFields}
 use Rattle.versions.specs.Written.{appended, placeAtEnd, createdMst, createdXrf, versionLeader, versionAppended, versionInPlace, settledMst, settledXrf}
 use Rattle.versions.specs.Asked.{HasSlot, AtEnd, DraftFits, RecordRead}
@@ -124,7 +124,7 @@ module _ (mst : List ℕ) (end : ℕ) (p : Place) (l : Leader) (r : RecordRead m
       own-size = s ∙ ap (λ (x : List ℕ). length (dataOf (fieldsOf x))) own-lent
 
       pub own-counted : (l .nvf ≤ 65535) × (size ≤ 65535)
-      own-counted = omega (arith, own-size, data-within (recordAt mst p) own-readable, own-readable .short)
+      own-counted = omega (arith, own-size, data-within (recordAt mst p) own-readable, readable-facts own-readable .short)
 
       pub own-need : (n : ℕ) → n ≡ needOf (l .nvf) size → (n ≡ needFor (currentFields mst p)) × (18 ≤ n) × (n ≤ recordMost)
       own-need n h =

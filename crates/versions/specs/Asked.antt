@@ -6,11 +6,11 @@ use mathlib.Core.Bool.{true}
 use mathlib.Core.List.{List}
 use lib.ListN.{length}
 use Rattle.layout.specs.Sizes.{mstMost, fieldsMost, recordMost, mstBlocks, capacityOf}
-use Rattle.layout.specs.Control.{endOf}
+use Rattle.files.specs.Control.{endOf}
 use Rattle.layout.specs.Entry.{placeAddress}
 use Rattle.layout.specs.declared.entry.Place.{Place}
 use Rattle.layout.specs.declared.leader.Leader.{Leader}
-use Rattle.record.specs.Draft.{needOf, draftRight}
+use Rattle.drafts.specs.Draft.{needOf, draftRight}
 use Rattle.record.specs.Record.{recordRight}
 use Rattle.store.specs.Reading.{recordAt, leaderAt}
 

@@ -6,14 +6,14 @@ use lib.ListN.{length, replicate}
 use Rattle.word.specs.Overwrite.{overwrite}
 use Rattle.layout.specs.Sizes.{blockAt, offsetAt, endMoved}
 use Rattle.layout.specs.Entry.{placed, placeAddress}
-use Rattle.layout.specs.CrossReference.{withEntry}
-use Rattle.layout.specs.Control.{nextOf, endOf, withNext, withEnd}
+use Rattle.files.specs.CrossReference.{withEntry}
+use Rattle.files.specs.Control.{nextOf, endOf, withNext, withEnd}
 use Rattle.layout.specs.declared.entry.Mark.{Mark}
 use Rattle.layout.specs.declared.entry.Mark.the-variants.{Settled, Changed, New}
 use Rattle.layout.specs.declared.entry.Place.{Place}
 use Rattle.layout.specs.declared.leader.Leader.{Leader}
 use Rattle.record.specs.Fields.{Field}
-use Rattle.record.specs.Bytes.{needFor, recordBytes, leaderFor}
+use Rattle.drafts.specs.Bytes.{needFor, recordBytes, leaderFor}
 use Rattle.store.specs.Reading.{isSettled, leaderAt}
 use lib.Dec.{ltb}
 

@@ -7,11 +7,11 @@ ghost use mathlib.Core.Path.{_≡_};
 ghost use mathlib.Core.Bool.{true, false};
 ghost use Prim.Native.Nat.{_+_, _≤_};
 ghost use lib.ListN.{length};
-ghost use Rattle.layout.specs.Control.{endOf};
-ghost use Rattle.layout.specs.CrossReference.{withEntry};
+ghost use Rattle.files.specs.Control.{endOf};
+ghost use Rattle.files.specs.CrossReference.{withEntry};
 ghost use Rattle.layout.specs.Entry.{placed, placeAddress};
-ghost use Rattle.record.specs.Draft.{needOf, draftFields};
-ghost use Rattle.record.specs.Bytes.{needFor};
+ghost use Rattle.drafts.specs.Draft.{needOf, draftFields};
+ghost use Rattle.drafts.specs.Bytes.{needFor};
 ghost use Rattle.store.specs.Reading.{leaderAt, currentFields};
 ghost use Rattle.versions.specs.Written.{appended, placeAtEnd, pendingMark, versionLeader, versionAppended, versionInPlace};
 ghost use Rattle.versions.specs.Asked.{HasSlot, AtEnd, DraftFits, RecordRead};
@@ -23,7 +23,7 @@ pub fn own_need(mst: &[u8], end: usize, place: Place, leader: Leader) -> usize
     ensures { λ r. ⌜ (r ≡ needFor (currentFields (now (mst .entry)) place)) × (18 ≤ r) × (r ≤ recordMost) ⌝ }
 {
     let at = layout::entry::place_address(place);
-    record::draft::need(
+    drafts::draft::need(
         leader.nvf as usize,
         record::fields::data_length(&mst[at..end]),
     )
@@ -45,10 +45,10 @@ fn version_leader(
     let mark = place.mark;
     let Mark::Settled = mark else {
         let b = leader.mfbwb;
-        return record::writer::leader_for(m, mfrl, b, leader.mfbwp, deleted, nvf);
+        return drafts::writer::leader_for(m, mfrl, b, leader.mfbwp, deleted, nvf);
     };
     let b = place.block;
-    record::writer::leader_for(m, mfrl, b, place.offset, deleted, nvf)
+    drafts::writer::leader_for(m, mfrl, b, place.offset, deleted, nvf)
 }
 
 // The mark after a change.
@@ -80,12 +80,12 @@ pub fn update_at_end(
     ensures master { λ _. ⌜ now (mst .exit) ≡ versionAppended (now (mst .entry)) (m .0) place leader false (draftFields (now (tags .entry)) (now (lens .entry)) (now («data» .entry))) ⌝ }
     ensures cross { λ _. ⌜ now (xrf .exit) ≡ withEntry (now (xrf .entry)) (m .0) (placeAtEnd (now (mst .entry)) false (pendingMark (place .mark))) ⌝ }
 {
-    let need = record::draft::need(tags.len(), data.len());
+    let need = drafts::draft::need(tags.len(), data.len());
     let l = version_leader(m, place, leader, need as u16, false, tags.len() as u16);
     crate::create::append_draft(mst, end, l, tags, lens, data);
     let mark = place.mark;
     let p = crate::create::end_place(end, false, pending_mark(mark));
-    layout::cross_reference::put_entry(xrf, m, p);
+    files::cross_reference::put_entry(xrf, m, p);
 }
 
 // Writes an update over the pending version.
@@ -104,7 +104,7 @@ pub fn update_in_place(
 {
     let l = version_leader(m, place, leader, leader.mfrl, false, tags.len() as u16);
     let at = layout::entry::place_address(place);
-    record::writer::write_record(&mut mst[at..], l, tags, lens, data);
+    drafts::writer::write_record(&mut mst[at..], l, tags, lens, data);
 }
 
 // Copies the fields of the record at a place to the end, under the leader `l`, and moves the end.
@@ -116,7 +116,7 @@ fn append_copy(mst: &mut [u8], end: usize, place: Place, l: Leader)
     let stop = end + l.mfrl as usize;
     let at = layout::entry::place_address(place);
     crate::copying::copy_record(mst, at, end, l);
-    layout::control::put_end(mst, layout::sizes::end_moved(stop));
+    files::control::put_end(mst, layout::sizes::end_moved(stop));
 }
 
 // Copies a settled record to the end as deleted, and writes its entry.
@@ -138,7 +138,7 @@ pub fn delete_at_end(
     let l = version_leader(m, place, leader, need as u16, true, leader.nvf);
     append_copy(mst, end, place, l);
     let p = crate::create::end_place(end, true, Mark::Changed);
-    layout::cross_reference::put_entry(xrf, m, p);
+    files::cross_reference::put_entry(xrf, m, p);
 }
 
 // Rewrites a pending record as deleted, and its entry.
@@ -150,7 +150,7 @@ pub fn delete_in_place(mst: &mut [u8], xrf: &mut [u8], m: Mfn, place: Place, lea
 {
     let l = version_leader(m, place, leader, leader.mfrl, true, leader.nvf);
     let at = layout::entry::place_address(place);
-    record::writer::rewrite_record(&mut mst[at..], l);
+    drafts::writer::rewrite_record(&mut mst[at..], l);
     let block = place.block;
     let mark = place.mark;
     let p = Place {
@@ -159,5 +159,5 @@ pub fn delete_in_place(mst: &mut [u8], xrf: &mut [u8], m: Mfn, place: Place, lea
         deleted: true,
         mark,
     };
-    layout::cross_reference::put_entry(xrf, m, p);
+    files::cross_reference::put_entry(xrf, m, p);
 }

@@ -8,7 +8,7 @@ ghost use lib.ListN.{length, getD};
 ghost use Rattle.word.specs.Overwrite.{overwrite, part};
 ghost use Rattle.record.specs.Fields.{fieldsOf};
 ghost use Rattle.record.specs.Record.{Readable};
-ghost use Rattle.record.specs.Bytes.{needFor, recordBytes};
+ghost use Rattle.drafts.specs.Bytes.{needFor, recordBytes};
 
 // Copies byte `i` of the record at `at` to byte `i` of the record at `end`.
 fn copy_byte(mst: &mut [u8], at: usize, end: usize, i: usize)
@@ -16,7 +16,7 @@ fn copy_byte(mst: &mut [u8], at: usize, end: usize, i: usize)
     ensures { λ _. ⌜ now (mst .exit) ≡ overwrite (now (mst .entry)) (end + i) (getD (now (mst .entry)) (at + i) 0 ∷ []) ⌝ }
 {
     let b = record::fields::byte_at(&mst[at..end], i);
-    record::writer::put_byte(&mut mst[end..], i, b);
+    drafts::writer::put_byte(&mut mst[end..], i, b);
 }
 
 // Copies what stands behind the leader, up to byte `used`.
@@ -37,7 +37,7 @@ pub(crate) fn copy_record(mst: &mut [u8], at: usize, end: usize, l: Leader)
     requires { ⌜ (at ≤ end) × (end + l .mfrl ≤ length (now mst)) × (needFor (fieldsOf (part (now mst) at (end - at))) ≤ l .mfrl) ⌝ }
     ensures { λ _. ⌜ now (mst .exit) ≡ overwrite (now (mst .entry)) end (recordBytes l (fieldsOf (part (now (mst .entry)) at (end - at)))) ⌝ }
 {
-    let used = record::writer::used_by(&mst[at..end]);
+    let used = drafts::writer::used_by(&mst[at..end]);
     copy_body(mst, at, end, used);
-    record::writer::frame_record(&mut mst[end..], used, l);
+    drafts::writer::frame_record(&mut mst[end..], used, l);
 }

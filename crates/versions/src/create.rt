@@ -8,10 +8,10 @@ ghost use mathlib.Core.Path.{_≡_};
 ghost use mathlib.Core.Bool.{true};
 ghost use Prim.Native.Nat.{_+_, _/_, _%_, _≤_};
 ghost use lib.ListN.{length};
-ghost use Rattle.layout.specs.Control.{nextOf};
+ghost use Rattle.files.specs.Control.{nextOf};
 ghost use Rattle.layout.specs.Sizes.{mfnMost, mstMost, blockAt, offsetAt};
 ghost use Rattle.layout.specs.Entry.{placed};
-ghost use Rattle.record.specs.Draft.{needOf, draftRight, draftFields};
+ghost use Rattle.drafts.specs.Draft.{needOf, draftRight, draftFields};
 ghost use Rattle.versions.specs.Written.{appended, createdMst, createdXrf};
 ghost use Rattle.versions.specs.Asked.{HasSlot, AtEnd, DraftFits};
 
@@ -43,8 +43,8 @@ pub(crate) fn append_draft(
     ensures { λ _. ⌜ now (mst .exit) ≡ appended (now (mst .entry)) l (draftFields (now (tags .entry)) (now (lens .entry)) (now («data» .entry))) ⌝ }
 {
     let stop = end + l.mfrl as usize;
-    record::writer::write_record(&mut mst[end..], l, tags, lens, data);
-    layout::control::put_end(mst, layout::sizes::end_moved(stop));
+    drafts::writer::write_record(&mut mst[end..], l, tags, lens, data);
+    files::control::put_end(mst, layout::sizes::end_moved(stop));
 }
 
 // Writes a draft's record at the end under the next MFN, NXTMFN and the entry.
@@ -64,8 +64,8 @@ pub fn create_at_end(
     ensures master { λ _. ⌜ now (mst .exit) ≡ createdMst (now (mst .entry)) (draftFields (now (tags .entry)) (now (lens .entry)) (now («data» .entry))) ⌝ }
     ensures cross { λ _. ⌜ now (xrf .exit) ≡ createdXrf (now (mst .entry)) (now (xrf .entry)) ⌝ }
 {
-    let l = record::writer::leader_for(next, need as u16, Block(0), 0, false, tags.len() as u16);
+    let l = drafts::writer::leader_for(next, need as u16, Block(0), 0, false, tags.len() as u16);
     append_draft(mst, end, l, tags, lens, data);
-    layout::control::put_next(mst, Mfn(next.0 + 1));
-    layout::cross_reference::put_entry(xrf, next, end_place(end, false, Mark::New));
+    files::control::put_next(mst, Mfn(next.0 + 1));
+    files::cross_reference::put_entry(xrf, next, end_place(end, false, Mark::New));
 }

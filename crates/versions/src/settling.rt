@@ -3,7 +3,7 @@ use layout::entry::Mark;
 use layout::entry::Place;
 use layout::sizes::Mfn;
 ghost use mathlib.Core.Path.{_≡_};
-ghost use Rattle.layout.specs.Control.{endOf};
+ghost use Rattle.files.specs.Control.{endOf};
 ghost use Rattle.store.specs.Reading.{leaderAt};
 ghost use Rattle.versions.specs.Written.{settledMst, settledXrf};
 ghost use Rattle.versions.specs.Asked.{HasSlot, RecordRead};
@@ -16,7 +16,7 @@ pub fn settle_place(mst: &mut [u8], xrf: &mut [u8], m: Mfn, place: Place)
     ensures cross { λ _. ⌜ now (xrf .exit) ≡ settledXrf (now (xrf .entry)) (m .0) place ⌝ }
 {
     let at = layout::entry::place_address(place);
-    record::writer::clear_back(&mut mst[at..]);
+    drafts::writer::clear_back(&mut mst[at..]);
     let block = place.block;
     let p = Place {
         block,
@@ -24,5 +24,5 @@ pub fn settle_place(mst: &mut [u8], xrf: &mut [u8], m: Mfn, place: Place)
         deleted: place.deleted,
         mark: Mark::Settled,
     };
-    layout::cross_reference::put_entry(xrf, m, p);
+    files::cross_reference::put_entry(xrf, m, p);
 }

@@ -10,13 +10,14 @@ use lib.ListN.{length, take, drop, length-map}
 use Rattle.word.specs.Overwrite.{part, overwrite}
 use Rattle.word.proofs.Overwrite.{overwrite-front, overwrite-drop-after, part-part, part-short}
 use Rattle.layout.specs.Entry.{placeAddress}
-use Rattle.layout.specs.Control.{endOf}
+use Rattle.files.specs.Control.{endOf}
 use Rattle.layout.specs.Leader.{leaderOf}
 use Rattle.record.specs.Fields.{fieldsOf}
-use Rattle.record.specs.Walker.{fieldIn, spotsOf, spotTag, spotStart, spotLength}
-use Rattle.record.specs.declared.walker.Spot.{Spot}
+use Rattle.walking.specs.Walker.{fieldIn, spotsOf, spotTag, spotStart, spotLength}
+use Rattle.walking.specs.declared.walker.Spot.{Spot}
 use Rattle.record.proofs.FieldData.{fields-count}
-use Rattle.record.proofs.Walking.{spots-are, spots-length, Within, spots-within}
+use Rattle.record.proofs.Facts.{readable-facts}
+use Rattle.walking.proofs.Walking.{spots-are, spots-length, Within, spots-within}
 use Rattle.store.specs.Answer.{numberOf, after}
 use Rattle.store.specs.Reading.{placeFor, recordAt, shownSettled, currentFields}
 use Rattle.store.specs.Store.{store}
@@ -63,7 +64,7 @@ module _ (mst : List ℕ) (at end : ℕ) where
           count = sym (fields-count rec);
           names =
               rw (front spotTag (l .tags), front (spotStart at) (l .starts), front spotLength (l .lens), ← spots-are rec)
-              (names-spots (leaderOf rec .mfrl) (spotsOf rec) (spots-within rec (h .readable)) (omega (arith, h .readable .record-in, part-short mst at (end - at))));
+              (names-spots (leaderOf rec .mfrl) (spotsOf rec) (spots-within rec (h .readable)) (omega (arith, readable-facts (h .readable) .record-in, part-short mst at (end - at))));
           tags-kept = behind spotTag (l .tags);
           starts-kept = behind (spotStart at) (l .starts);
           lens-kept = behind spotLength (l .lens);

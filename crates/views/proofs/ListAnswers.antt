@@ -11,12 +11,13 @@ use borrow.Author.Tests.{le-leb, lt-leb, leb-true}
 use Rattle.word.specs.Overwrite.{part, overwrite}
 use Rattle.word.proofs.Overwrite.{part-short}
 use Rattle.layout.specs.Entry.{placeAddress}
-use Rattle.layout.specs.Control.{endOf}
+use Rattle.files.specs.Control.{endOf}
 use Rattle.layout.specs.Leader.{leaderOf}
 use Rattle.layout.proofs.Tests.{and-iff}
 use Rattle.layout.specs.declared.entry.Place.{Place}
-use Rattle.record.specs.Inner.{Listable}
-use Rattle.record.specs.Walker.{tagsOf, startsOf, lengthsOf}
+use Rattle.record.proofs.Facts.{readable-facts}
+use Rattle.walking.specs.Inner.{Listable}
+use Rattle.walking.specs.Walker.{tagsOf, startsOf, lengthsOf}
 use Rattle.store.specs.Answer.{numberOf, lowest, after}
 use Rattle.store.specs.Reading.{placeFor, recordAt, recordFrom}
 use Rattle.store.specs.Store.{store}
@@ -107,7 +108,7 @@ module _ (mst : List ℕ) (v : Version) where
         let r = version-readable mst v g at end e in
         record {
           readable = r;
-          fits = omega (arith, m, version-end-in mst v g at end e, version-before mst v g at end e, r .record-in, part-short mst at (end - at));
+          fits = omega (arith, m, version-end-in mst v g at end e, version-before mst v g at end e, readable-facts r .record-in, part-short mst at (end - at));
         }
 
     pub list-told : (l : Lists) (r : Listed) → r ≡ listedOf (part mst at (end - at)) l → r ≡ listedIn mst v l

@@ -3,7 +3,7 @@ use Prim.Native.Nat.{ℕ}
 use mathlib.Core.Path.{_≡_, sym, ap, _∙_}
 use mathlib.Core.Bool.{Bool, false}
 use mathlib.Core.List.{List, []}
-use Rattle.layout.specs.Control.{nextOf, endOf}
+use Rattle.files.specs.Control.{nextOf, endOf}
 use Rattle.layout.specs.declared.sizes.Mfn.{Mfn}
 use Rattle.layout.specs.declared.entry.Mark.{Mark}
 use Rattle.layout.specs.declared.entry.Mark.the-variants.{Settled}

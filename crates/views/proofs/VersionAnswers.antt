@@ -12,13 +12,14 @@ use Rattle.word.specs.Overwrite.{part}
 use Rattle.word.proofs.Overwrite.{part-short}
 use Rattle.layout.specs.Entry.{placeAddress}
 use Rattle.layout.specs.Leader.{leaderOf}
-use Rattle.layout.specs.Control.{nextOf, endOf}
+use Rattle.files.specs.Control.{nextOf, endOf}
 use Rattle.layout.specs.declared.entry.Mark.{Mark}
 use Rattle.layout.specs.declared.entry.Mark.the-variants.{Settled, Changed, New}
 use Rattle.layout.specs.declared.entry.Place.{Place}
 use Rattle.layout.specs.declared.leader.Leader.{Leader}
 use Rattle.layout.proofs.Tests.{and-false}
 use Rattle.record.specs.Record.{Readable}
+use Rattle.record.proofs.Facts.{readable-facts}
 use Rattle.store.specs.Answer.{numberOf, Refusal, refuse, lowest, after}
 use Rattle.store.specs.Reading.{placeFor, isSettled, isChanged, isNew, recordFrom, leaderAt, backAddress, shownSettled}
 use Rattle.store.specs.Refusals.{gated, named, fine, bothFine}
@@ -212,7 +213,7 @@ module _ (mst : List ℕ) (v : Version) (h : Legible mst v) (at end : ℕ) (e : 
 
   -- what lies in the record lies in the MST
   pub version-within : (start len : ℕ) → start + len ≤ leaderOf (part mst at (end - at)) .mfrl → at + start + len ≤ length mst
-  version-within start len i = omega (arith, version-end-in, version-before, version-readable .record-in, part-short mst at (end - at))
+  version-within start len i = omega (arith, version-end-in, version-before, readable-facts version-readable .record-in, part-short mst at (end - at))
 
 -- ---- one more answer, behind the refusals of a version
 

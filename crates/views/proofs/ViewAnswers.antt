@@ -9,7 +9,7 @@ use mir.Val.{Fits}
 use lib.ListN.{length}
 use Rattle.word.specs.Overwrite.{part}
 use Rattle.layout.specs.Entry.{placeAddress}
-use Rattle.layout.specs.Control.{endOf}
+use Rattle.files.specs.Control.{endOf}
 use Rattle.layout.specs.declared.entry.Place.{Place}
 use Rattle.record.specs.Fields.{findOf}
 use Rattle.record.specs.declared.fields.Found.{Found}

@@ -12,17 +12,18 @@ use borrow.Author.Tests.{le-leb, lt-leb}
 use Rattle.word.specs.Overwrite.{part}
 use Rattle.word.proofs.Overwrite.{part-part, part-short}
 use Rattle.layout.specs.Entry.{placeAddress}
-use Rattle.layout.specs.Control.{endOf}
+use Rattle.files.specs.Control.{endOf}
 use Rattle.layout.specs.Leader.{leaderOf}
 use Rattle.layout.specs.declared.sizes.Tag.{Tag}
 use Rattle.layout.specs.declared.entry.Place.{Place}
 use Rattle.record.specs.Directory.{tagAt, posAt, lenAt}
 use Rattle.record.specs.Fields.{Field, fieldsOf}
-use Rattle.record.specs.Walker.{atEnd, walkedAt}
-use Rattle.record.specs.declared.walker.Walked.{Walked}
-use Rattle.record.specs.declared.walker.Walked.the-variants.{Field as FieldHere, End}
+use Rattle.walking.specs.Walker.{atEnd, walkedAt}
+use Rattle.walking.specs.declared.walker.Walked.{Walked}
+use Rattle.walking.specs.declared.walker.Walked.the-variants.{Field as FieldHere, End}
 use Rattle.record.proofs.FieldData.{fields-count}
-use Rattle.record.proofs.Walking.{field-in, walked-here, walked-is, walked-in}
+use Rattle.record.proofs.Facts.{readable-facts}
+use Rattle.walking.proofs.Walking.{field-in, walked-here, walked-is, walked-in}
 use Rattle.store.specs.Answer.{numberOf, lowest, after}
 use Rattle.store.specs.Reading.{placeFor, recordAt, recordFrom, shownSettled, currentFields}
 use Rattle.views.specs.Views.{onCurrent, onSettled, settledAddress}
@@ -131,7 +132,7 @@ module _ (mst : List ℕ) (at end i : ℕ) (h : ReadableAt mst at end) where
   bytes-same l =
       sym
       (part-part mst at (end - at) (leaderOf rec .base + posAt rec i) (lenAt rec i)
-      (omega (arith, field-in rec i (h .readable) l, h .readable .record-in, part-short mst at (end - at))))
+      (omega (arith, field-in rec i (h .readable) l, readable-facts (h .readable) .record-in, part-short mst at (end - at))))
 
   hands-out : (a : Answer) → a ≡ Done → HandsOut mst (fieldsOf rec) i (handedOut (after a (lastly NoField (atEnd rec i)) a) at rec i)
   unfolding handedOut after numberOf

@@ -5,7 +5,7 @@ use mathlib.Core.List.{List, [], _∷_}
 use Rattle.layout.specs.Leader.{leaderOf}
 use Rattle.layout.specs.Entry.{placeAddress}
 use Rattle.record.specs.Directory.{tagAt, posAt, lenAt}
-use Rattle.record.specs.Walker.{atEnd}
+use Rattle.walking.specs.Walker.{atEnd}
 use Rattle.store.specs.Store.{Store}
 use Rattle.store.specs.Answer.{Refusal, refuse, lowest, after}
 use Rattle.store.specs.Reading.{placeFor, recordAt, shownSettled}

@@ -11,7 +11,7 @@ use Rattle.word.specs.Overwrite.{overwrite, part}
 use Rattle.layout.specs.Entry.{placeAddress}
 use Rattle.layout.specs.Leader.{leaderOf}
 use Rattle.record.specs.Fields.{Field}
-use Rattle.record.specs.Walker.{tagsOf, startsOf, lengthsOf}
+use Rattle.walking.specs.Walker.{tagsOf, startsOf, lengthsOf}
 use Rattle.store.specs.Store.{Store}
 use Rattle.store.specs.Answer.{Refusal, refuse, lowest, after}
 use Rattle.store.specs.Reading.{placeFor, recordAt, shownSettled}

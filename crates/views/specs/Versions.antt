@@ -6,7 +6,7 @@ use mathlib.Core.Bool.{Bool, _&&_, cond}
 use mathlib.Core.List.{List, [], _∷_}
 use lib.ListN.{length}
 use Rattle.word.specs.Overwrite.{part}
-use Rattle.layout.specs.Control.{endOf}
+use Rattle.files.specs.Control.{endOf}
 use Rattle.layout.specs.Entry.{placeAddress}
 use Rattle.layout.specs.Leader.{leaderOf}
 use Rattle.layout.specs.declared.entry.Mark.the-variants.{Changed}
@@ -14,11 +14,11 @@ use Rattle.layout.specs.declared.entry.Place.{Place}
 use Rattle.layout.specs.declared.leader.Leader.{Leader}
 use Rattle.record.specs.Fields.{findOf}
 use Rattle.record.specs.Record.{Readable}
-use Rattle.record.specs.Walker.{walkedAt}
+use Rattle.walking.specs.Walker.{walkedAt}
 use Rattle.record.specs.declared.fields.Found.{Found}
 use Rattle.record.specs.declared.fields.Found.the-variants.{Span, Missing}
-use Rattle.record.specs.declared.walker.Walked.{Walked}
-use Rattle.record.specs.declared.walker.Walked.the-variants.{Field as FieldHere, End}
+use Rattle.walking.specs.declared.walker.Walked.{Walked}
+use Rattle.walking.specs.declared.walker.Walked.the-variants.{Field as FieldHere, End}
 use Rattle.store.specs.Store.{Store}
 use Rattle.store.specs.Answer.{refuse, lowest, after}
 use Rattle.store.specs.Reading.{placeFor, isSettled, isChanged, isNew, backAddress}

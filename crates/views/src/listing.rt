@@ -45,11 +45,11 @@ fn list_record(
     ensures is { λ r. ⌜ r ≡ listedOf (now (rec .entry)) (lists (now (tags .entry)) (now (starts .entry)) (now (lens .entry))) ⌝ }
     ensures left { λ _. ⌜ lists (now (tags .exit)) (now (starts .exit)) (now (lens .exit)) ≡ leftOf at (now (rec .entry)) (lists (now (tags .entry)) (now (starts .entry)) (now (lens .entry))) ⌝ }
 {
-    let n = record::walker::field_count(rec);
+    let n = walking::walker::field_count(rec);
     if !all_long(n, tags.len(), starts.len(), lens.len()) {
         return refused_list(Answer::NoRoomInList);
     }
-    let count = record::walker::list_fields(rec, n, at, tags, starts, lens);
+    let count = walking::walker::list_fields(rec, n, at, tags, starts, lens);
     Listed {
         answer: Answer::Done,
         count,

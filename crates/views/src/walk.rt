@@ -3,7 +3,7 @@
 use crate::views::Version;
 use layout::sizes::Mfn;
 use layout::sizes::Tag;
-use record::walker::Walked;
+use walking::walker::Walked;
 use store::answer::Answer;
 ghost use mathlib.Core.Path.{_≡_};
 ghost use Prim.Native.Nat.{_+_, _≤_};
@@ -40,7 +40,7 @@ fn hand_out(mst: &[u8], v: Version, index: usize) -> ShownField
     let Version::Begins { at, end } = v else {
         return refused_field(crate::views::version_answer(v));
     };
-    let w = record::walker::field_span(&mst[at..end], index);
+    let w = walking::walker::field_span(&mst[at..end], index);
     let Walked::Field { tag, start, len } = w else {
         return refused_field(Answer::NoField);
     };

@@ -1,7 +1,8 @@
 -- The table of each call that may write ascends, so its answer is the lowest that applies.
 use mathlib.Core.Path.{refl}
 use Prim.Native.Nat.{ℕ}
-use Rattle.store.specs.Store.{Store, Draft}
+use Rattle.store.specs.Store.{Store}
+use Rattle.drafts.specs.Draft.{Draft}
 use Rattle.store.specs.Answer.{numberOf}
 use Rattle.store.proofs.Lowest.{above, IsLowest, lowest-is-lowest}
 use Rattle.writing.specs.Refusals.{formatRefusals, formatAnswer, createRefusals, createAnswer, updateRefusals, updateAnswer, deleteRefusals, deleteAnswer, settleRefusals, settleAnswer, revertRefusals, revertAnswer}

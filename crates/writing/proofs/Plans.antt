@@ -11,17 +11,17 @@ use borrow.Author.Tests.{lt-ltb, le-ltb, eq-eqb, ne-eqb, not-true, not-false}
 use denote.Enum.Declared.{tagOf}
 use types.Run.{OneOf, miss}
 use Rattle.layout.specs.Sizes.{mstMost, recordMost, capacityOf}
-use Rattle.layout.specs.Control.{nextOf, endOf}
-use Rattle.layout.specs.CrossReference.{xrfBlock, headRight, slotFree}
+use Rattle.files.specs.Control.{nextOf, endOf}
+use Rattle.files.specs.CrossReference.{xrfBlock, headRight, slotFree}
 use Rattle.layout.specs.declared.sizes.Mfn.{Mfn}
 use Rattle.layout.specs.declared.entry.Mark.{Mark}
 use Rattle.layout.specs.declared.entry.Mark.the-variants.{Settled, Changed, New}
 use Rattle.layout.specs.declared.entry.Place.{Place}
 use Rattle.layout.specs.declared.leader.Leader.{Leader}
 use Rattle.layout.proofs.entry.Mark as mark
-use Rattle.record.specs.Draft.{needOf, draftRight, draftFields}
-use Rattle.record.specs.Bytes.{needFor}
-use Rattle.record.proofs.Draftable.{draft-need}
+use Rattle.drafts.specs.Draft.{needOf, draftRight, draftFields, draft}
+use Rattle.drafts.specs.Bytes.{needFor}
+use Rattle.drafts.proofs.Draftable.{draft-need}
 use Rattle.store.specs.Answer.{numberOf, refuse, after}
 use Rattle.store.specs.Reading.{lengthsPermitted, controlFine, mfnInRange, entryFor, placeFor, isMalformed, isGone, isSettled, isNew, leaderAt, currentFields}
 use Rattle.store.specs.Refusals.{fine, bothFine}
@@ -45,7 +45,7 @@ use Rattle.store.proofs.answer.Answer as answer
 use Rattle.versions.proofs.Told.{draft-fits, read-known, not-settled}
 use Rattle.store.proofs.Gates.{Refusing, refused-is, done-is, gate-shut, known-refused, known-facts, gate-is, opened, Planned}
 use Rattle.store.proofs.Reaching.{reach-refused, both-unreached, BothPlanned, reached-facts, reached-both-facts}
-use Rattle.store.specs.Store.{store, draft}
+use Rattle.store.specs.Store.{store}
 
 -- ---- variants that are left in an `else`
 

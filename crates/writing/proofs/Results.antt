@@ -11,18 +11,18 @@ use lib.ListN.{length}
 use borrow.Author.Tests.{eqb-false, ltb-false, not-false}
 use Rattle.layout.specs.Sizes.{mfnMost, mstBlocks, mstPermitted, xrfPermitted, capacityOf}
 use Rattle.layout.specs.Entry.{placed, placeAddress}
-use Rattle.layout.specs.Control.{nextOf, endOf, formattedMst}
-use Rattle.layout.specs.CrossReference.{xrfBlock, headRight, slotFree, withEntry, formattedXrf}
+use Rattle.files.specs.Control.{nextOf, endOf, formattedMst}
+use Rattle.files.specs.CrossReference.{xrfBlock, headRight, slotFree, withEntry, formattedXrf}
 use Rattle.layout.specs.declared.sizes.Mfn.{Mfn}
 use Rattle.layout.specs.declared.entry.Mark.{Mark}
 use Rattle.layout.specs.declared.entry.Mark.the-variants.{Settled, Changed, New}
 use Rattle.layout.specs.declared.entry.Place.{Place}
 use Rattle.layout.specs.declared.leader.Leader.{Leader}
 use Rattle.layout.proofs.Tests.{false-true, and-left, or-false}
-use Rattle.record.specs.Draft.{needOf, draftRight, draftFields}
+use Rattle.drafts.specs.Draft.{needOf, draftRight, draftFields, draft}
 use Rattle.record.specs.Fields.{Field}
-use Rattle.record.specs.Bytes.{needFor}
-use Rattle.record.proofs.Draftable.{draft-need}
+use Rattle.drafts.specs.Bytes.{needFor}
+use Rattle.drafts.proofs.Draftable.{draft-need}
 use Rattle.store.specs.Answer.{numberOf, after}
 use Rattle.store.specs.Reading.{lengthsPermitted, placeFor, isSettled, isNew, leaderAt, currentFields}
 use Rattle.store.specs.Refusals.{fine, bothFine}
@@ -44,7 +44,7 @@ use Rattle.writing.specs.declared.changes.Plan.the-variants.{NewVersion,
 use Rattle.store.proofs.Reaching.{of-refusal, of-record}
 use Rattle.store.proofs.Gates.{Refusing, after-refused, after-cases, passed, gate-done, named-done, lengths-both, OpenFacts, open-from, back-changed, Planned, planned-at}
 use Rattle.versions.proofs.Told.{need-low, draft-fits, at-end, slot-known, read-known, read-own}
-use Rattle.store.specs.Store.{store, draft}
+use Rattle.store.specs.Store.{store}
 
 and-true-false : (a b : Bool) → a && b ≡ false → a ≡ true → b ≡ false
 and-true-false true b e h = e

@@ -2,9 +2,10 @@
 -- Document 01, "What the calls do".
 use Prim.Native.Nat.{ℕ}
 use lib.ListN.{length}
-use Rattle.layout.specs.CrossReference.{formattedXrf}
-use Rattle.layout.specs.Control.{nextOf, formattedMst}
-use Rattle.store.specs.Store.{Store, store, Draft, fieldsIn}
+use Rattle.files.specs.CrossReference.{formattedXrf}
+use Rattle.files.specs.Control.{nextOf, formattedMst}
+use Rattle.store.specs.Store.{Store, store}
+use Rattle.drafts.specs.Draft.{Draft, fieldsIn}
 use Rattle.store.specs.Answer.{after}
 use Rattle.store.specs.Reading.{placeFor, currentFields}
 use Rattle.versions.specs.Written.{createdMst, createdXrf, updatedMst, updatedXrf, deletedMst, deletedXrf, settledMst, settledXrf, revertedXrf}

@@ -7,12 +7,13 @@ use mathlib.Core.List.{List, [], _∷_}
 use lib.Dec.{eqb, ltb}
 use lib.ListN.{length}
 use Rattle.layout.specs.Sizes.{xrfMost, mstMost, recordMost, capacityOf}
-use Rattle.layout.specs.CrossReference.{xrfBlock, headRight, slotFree}
-use Rattle.layout.specs.Control.{nextOf, endOf}
+use Rattle.files.specs.CrossReference.{xrfBlock, headRight, slotFree}
+use Rattle.files.specs.Control.{nextOf, endOf}
 use Rattle.layout.specs.declared.entry.Place.{Place}
 use Rattle.layout.specs.declared.leader.Leader.{Leader}
-use Rattle.record.specs.Bytes.{needFor}
-use Rattle.store.specs.Store.{Store, Draft, fieldsIn}
+use Rattle.drafts.specs.Bytes.{needFor}
+use Rattle.store.specs.Store.{Store}
+use Rattle.drafts.specs.Draft.{Draft, fieldsIn}
 use Rattle.store.specs.Answer.{refuse, lowest, after}
 use Rattle.store.specs.Reading.{placeFor, isSettled, leaderAt}
 use Rattle.store.specs.Gate.{reachedIf}

@@ -6,10 +6,11 @@ use mathlib.Core.List.{List, [], _∷_}
 use lib.Dec.{eqb, ltb}
 use lib.ListN.{length}
 use Rattle.layout.specs.Sizes.{capacityOf}
-use Rattle.layout.specs.CrossReference.{xrfBlock, headRight, slotFree}
-use Rattle.layout.specs.Control.{nextOf, endOf}
-use Rattle.record.specs.Bytes.{needFor}
-use Rattle.store.specs.Store.{Store, Draft, isRight, fieldsIn}
+use Rattle.files.specs.CrossReference.{xrfBlock, headRight, slotFree}
+use Rattle.files.specs.Control.{nextOf, endOf}
+use Rattle.drafts.specs.Bytes.{needFor}
+use Rattle.store.specs.Store.{Store}
+use Rattle.drafts.specs.Draft.{Draft, isRight, fieldsIn}
 use Rattle.store.specs.Answer.{Refusal, refuse, lowest}
 use Rattle.store.specs.Reading.{lengthsPermitted, placeFor, isSettled, isNew, leaderAt, currentFields}
 use Rattle.store.specs.Refusals.{gated, named, fine, bothFine}

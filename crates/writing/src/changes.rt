@@ -14,7 +14,8 @@ ghost use Rattle.versions.specs.Written.{updateAppends};
 ghost use Rattle.writing.specs.Refusals.{updateAnswer, deleteAnswer};
 ghost use Rattle.writing.specs.Calls.{updateLeaves, deleteLeaves};
 ghost use Rattle.writing.specs.Plans.{planAnswer, updatePlan, deletePlan, roomPlan};
-ghost use Rattle.store.specs.Store.{store, draft};
+ghost use Rattle.store.specs.Store.{store};
+ghost use Rattle.drafts.specs.Draft.{draft};
 ghost use Rattle.layout.specs.Sizes.{mstMost};
 
 // Where a new version goes, at the end or in place, or the refusal. One variant carries all, so that it stays at one place in memory.
@@ -86,7 +87,7 @@ fn plan_update(mst: &[u8], xrf: &[u8], m: Mfn, tags: &[u16], lens: &[u16], data:
     let Gate::Open { next, end } = g else {
         return Plan::Refuse(store::gate::gate_answer(g));
     };
-    if !record::draft::draft_right(tags, lens, data) {
+    if !drafts::draft::draft_right(tags, lens, data) {
         return Plan::Refuse(Answer::BadDraft);
     }
     let k = store::gate::find_record(mst, xrf, next, end, m);
@@ -96,7 +97,7 @@ fn plan_update(mst: &[u8], xrf: &[u8], m: Mfn, tags: &[u16], lens: &[u16], data:
     if place.deleted {
         return Plan::Refuse(Answer::Deleted);
     }
-    let need = record::draft::need(tags.len(), data.len());
+    let need = drafts::draft::need(tags.len(), data.len());
     let appends = update_appends(place, leader, need);
     plan_room(mst.len(), end, need, appends, place, leader)
 }

@@ -3,7 +3,8 @@ use layout::sizes::Mfn;
 use store::answer::Answer;
 use store::gate::Gate;
 ghost use mathlib.Core.Path.{_≡_};
-ghost use Rattle.store.specs.Store.{store, draft};
+ghost use Rattle.store.specs.Store.{store};
+ghost use Rattle.drafts.specs.Draft.{draft};
 ghost use Rattle.writing.specs.Calls.{createOf, createLeaves};
 ghost use Rattle.writing.specs.Plans.{SlotAsked, slotAnswer, createPlan, creatingAnswer};
 
@@ -28,10 +29,10 @@ fn create_slot(mst: &[u8], xrf: &[u8], next: Mfn, end: usize, need: usize) -> An
     if k == layout::sizes::capacity(xrf.len()) + 1 {
         return Answer::NoSlot;
     }
-    if !layout::cross_reference::head_right(xrf, layout::cross_reference::xrf_block(next)) {
+    if !files::cross_reference::head_right(xrf, files::cross_reference::xrf_block(next)) {
         return Answer::BadEntry;
     }
-    if !layout::cross_reference::slot_free(xrf, next) {
+    if !files::cross_reference::slot_free(xrf, next) {
         return Answer::BadEntry;
     }
     if mst.len() < end + need {
@@ -47,10 +48,10 @@ fn plan_create(mst: &[u8], xrf: &[u8], tags: &[u16], lens: &[u16], data: &[u8]) 
     let Gate::Open { next, end } = g else {
         return Creating::Unwritten(store::gate::gate_answer(g));
     };
-    if !record::draft::draft_right(tags, lens, data) {
+    if !drafts::draft::draft_right(tags, lens, data) {
         return Creating::Unwritten(Answer::BadDraft);
     }
-    let need = record::draft::need(tags.len(), data.len());
+    let need = drafts::draft::need(tags.len(), data.len());
     let a = create_slot(mst, xrf, next, end, need);
     let Answer::Done = a else {
         return Creating::Unwritten(a);

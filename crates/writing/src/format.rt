@@ -12,7 +12,7 @@ pub fn format(mst: &mut [u8], xrf: &mut [u8]) -> Answer
     if !store::gate::lengths_permitted(mst, xrf) {
         return Answer::BadLength;
     }
-    layout::control::format_mst(mst);
-    layout::cross_reference::format_xrf(xrf);
+    files::control::format_mst(mst);
+    files::cross_reference::format_xrf(xrf);
     Answer::Done
 }

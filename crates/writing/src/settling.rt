@@ -86,6 +86,6 @@ pub fn revert(mst: &[u8], xrf: &mut [u8], m: Mfn) -> Answer
         deleted: false,
         mark: Mark::Settled,
     };
-    layout::cross_reference::put_entry(xrf, m, back);
+    files::cross_reference::put_entry(xrf, m, back);
     Answer::Done
 }

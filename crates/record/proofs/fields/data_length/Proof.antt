@@ -4,11 +4,12 @@ use native.Mathlib.Omega.{arith}
 use Rattle.layout.specs.Leader.{leaderOf}
 use Rattle.record.proofs.FieldData.{data-empty, data-end}
 use borrow.Author.Needs.{needs}
+use Rattle.record.proofs.Facts.{readable-facts}
 use Rattle.record.proofs.fields.data_length.Statement.{statement}
 use Rattle.record.proofs.fields.data_length.Tie as tie
 
 u16-at-requires : tie.Need-u16-at-requires
-u16-at-requires c κs = search needs
+u16-at-requires c κs = omega (arith, readable-facts (c .before .pre))
 
 cast-nvf : tie.Need-cast-nvf
 cast-nvf c = search needs
@@ -22,14 +23,14 @@ sub-pos-at c = search needs
 
 pos-at-requires : tie.Need-pos-at-requires
 unfolding leaderOf
-pos-at-requires c κs = omega arith
+pos-at-requires c κs = omega (arith, readable-facts (c .before .before .before .pre))
 
 sub-len-at : tie.Need-sub-len-at
 sub-len-at c = search needs
 
 len-at-requires : tie.Need-len-at-requires
 unfolding leaderOf
-len-at-requires c κs = omega arith
+len-at-requires c κs = omega (arith, readable-facts (c .before .before .before .before .pre))
 
 add-result : tie.Need-add-result
 add-result c = search needs

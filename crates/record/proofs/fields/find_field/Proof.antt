@@ -7,6 +7,7 @@ use mathlib.Core.Logic.{⊎-elim}
 use Rattle.layout.specs.Leader.{leaderOf}
 use Rattle.record.specs.Fields.{findFrom, findOf}
 use Rattle.record.proofs.Search.{find-answers, find-later, find-other}
+use Rattle.record.proofs.Facts.{readable-facts}
 use Rattle.record.proofs.fields.find_field.Statement.{statement}
 use Rattle.record.proofs.fields.find_field.Tie as tie
 
@@ -21,13 +22,13 @@ returns : tie.Need-returns Inv-loop μ-loop
 returns c = search find-answers
 
 u16-at-requires : tie.Need-u16-at-requires Inv-loop μ-loop
-u16-at-requires c κs = omega arith
+u16-at-requires c κs = omega (arith, readable-facts (c .before .before .pre))
 
 cast-base : tie.Need-cast-base Inv-loop μ-loop
 cast-base c = omega arith
 
 u16-at-requires-2 : tie.Need-u16-at-requires-2 Inv-loop μ-loop
-u16-at-requires-2 c κs = omega arith
+u16-at-requires-2 c κs = omega (arith, readable-facts (c .before .before .before .pre))
 
 cast-nvf : tie.Need-cast-nvf Inv-loop μ-loop
 cast-nvf c = omega arith
@@ -38,18 +39,18 @@ loop-holds c = (omega arith, omega arith, simp (sub-zero, c .u16-at2 .ensures, c
 
 tag-at-requires : tie.Need-tag-at-requires Inv-loop μ-loop
 unfolding leaderOf
-tag-at-requires c κs = omega arith
+tag-at-requires c κs = omega (arith, readable-facts (c .before .before .before .before .before .before .pre))
 
 pos-at-requires : tie.Need-pos-at-requires Inv-loop μ-loop
 unfolding leaderOf
-pos-at-requires c κs = omega arith
+pos-at-requires c κs = omega (arith, readable-facts (c .before .before .before .before .before .before .before .before .before .before .before .pre))
 
 add-t14 : tie.Need-add-t14 Inv-loop μ-loop
 add-t14 c = omega arith
 
 len-at-requires : tie.Need-len-at-requires Inv-loop μ-loop
 unfolding leaderOf
-len-at-requires c κs = omega arith
+len-at-requires c κs = omega (arith, readable-facts (c .before .before .before .before .before .before .before .before .before .before .before .before .pre))
 
 returns-2 : tie.Need-returns-2 Inv-loop μ-loop
 returns-2 c = search find-answers

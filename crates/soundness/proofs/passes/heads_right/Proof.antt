@@ -2,7 +2,7 @@
 use Prim.Native.Nat.{_+_, _-_, _≤_}
 use native.Mathlib.Omega.{arith}
 use borrow.Author.Needs.{needs}
-use Rattle.layout.specs.CrossReference.{headRight}
+use Rattle.files.specs.CrossReference.{headRight}
 use Rattle.soundness.specs.Sound.{headsRight}
 use Rattle.soundness.proofs.Counting.{Passed, passed-none, passed-done}
 use Rattle.soundness.proofs.PassAnswers.{one-more, one-fails}

@@ -1,6 +1,6 @@
 use native.Mathlib.Omega.{arith}
 use lib.ListN.{length-take, length-drop}
-use Rattle.record.proofs.Writing.{record-copied}
+use Rattle.drafts.proofs.Writing.{record-copied}
 use Rattle.versions.proofs.Body.{body-in}
 use borrow.Author.Needs.{needs}
 use Rattle.versions.proofs.copying.copy_record.Statement.{statement}

@@ -1,0 +1,5 @@
+pub mod CrossReference
+pub mod Control
+pub mod NamedBytes
+pub mod Inner
+pub mod Rows

@@ -1,0 +1,6 @@
+pub mod Walking
+mod Again
+mod Asking
+mod Locals
+pub mod Held
+pub mod TakenApart
