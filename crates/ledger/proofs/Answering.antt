@@ -27,7 +27,7 @@ use Rattle.store.specs.Store.{Store}
 use Rattle.drafts.specs.Draft.{Draft, isRight, fieldsIn}
 use Rattle.ledger.specs.Call.{format, view, viewSettled, create, update, delete, settle, revert, check}
 use Rattle.ledger.specs.Ledger.{gone, held, mfnIn, itemOf, isGoneItem, isSettledMark, isNewMark, settledOr}
-use Rattle.ledger.specs.LedgerAnswers.{overfull, appends, refusalsL, numberL}
+use Rattle.ledger.specs.LedgerAnswers.{overfull, appends, refusalsL, numberL, replyL}
 use Rattle.ledger.specs.LedgerOf.{markingAt, itemFor, ledgerOf}
 use Rattle.ledger.proofs.Reading.{Opened, Seen, absent, physically, present, next-is, lengths-are, mfn-is, item-is}
 use Rattle.ledger.proofs.Showing.{missing-is}
@@ -75,7 +75,7 @@ module _ (s : Store) (o : Opened s) where
   xrf-is = refl
 
   pub format-answer : formatAnswer s ≡ numberL (ledgerOf s) format
-  unfolding formatAnswer numberL refusalsL
+  unfolding formatAnswer numberL refusalsL replyL
   format-answer = rw (o .lengths, lengths-are s o)
 
   -- ---- calls that name an MFN: 4 and 7 are read the same, 6 and 8 do not apply, and x and y stand for the rows behind them
@@ -101,13 +101,13 @@ module _ (s : Store) (o : Opened s) where
     both-fit p e f v = rw (e, f, v)
 
     pub view-answer : (tag occ : ℕ) → viewAnswer s m tag occ ≡ numberL (ledgerOf s) (view m tag occ)
-    unfolding viewAnswer numberL refusalsL
+    unfolding viewAnswer numberL refusalsL replyL
     view-answer tag occ =
         rw (o .lengths, o .control, lengths-are s o)
         (shared (fine s m) _ _ fine-fits (λ p k e. rw (e, item-at m p k e, missing-is (recordAt (s .mst) p) tag occ)))
 
     pub settled-view-answer : (tag occ : ℕ) → settledViewAnswer s m tag occ ≡ numberL (ledgerOf s) (viewSettled m tag occ)
-    unfolding settledViewAnswer numberL refusalsL
+    unfolding settledViewAnswer numberL refusalsL replyL
     settled-view-answer tag occ =
         rw (o .lengths, o .control, lengths-are s o)
         (shared (bothFine s m) _ _ both-fit
@@ -122,7 +122,7 @@ module _ (s : Store) (o : Opened s) where
         )))
 
     pub update-answer : (d : Draft) → updateAnswer s m d ≡ numberL (ledgerOf s) (update m d)
-    unfolding updateAnswer numberL refusalsL updateAppends
+    unfolding updateAnswer numberL refusalsL updateAppends replyL
     update-answer d =
         rw (o .lengths, o .control, lengths-are s o)
         (ap (λ (a : Answer). cond (not (isRight d)) BadDraft a)
@@ -130,20 +130,20 @@ module _ (s : Store) (o : Opened s) where
         (λ p k e. rw (e, item-at m p k e, appends-is (s .mst) p (p .mark) (needFor (fieldsIn d)), room-is (needFor (fieldsIn d))))))
 
     pub delete-answer : deleteAnswer s m ≡ numberL (ledgerOf s) (delete m)
-    unfolding deleteAnswer numberL refusalsL
+    unfolding deleteAnswer numberL refusalsL replyL
     delete-answer =
         rw (o .lengths, o .control, lengths-are s o)
         (shared (fine s m) _ _ fine-fits
         (λ p k e. rw (e, item-at m p k e, settled-mark (s .mst) p (p .mark), room-is (needFor (currentFields (s .mst) p)))))
 
     pub settle-answer : settleAnswer s m ≡ numberL (ledgerOf s) (settle m)
-    unfolding settleAnswer numberL refusalsL
+    unfolding settleAnswer numberL refusalsL replyL
     settle-answer =
         rw (o .lengths, o .control, lengths-are s o)
         (shared (fine s m) _ _ fine-fits (λ p k e. rw (e, item-at m p k e, settled-mark (s .mst) p (p .mark))))
 
     pub revert-answer : revertAnswer s m ≡ numberL (ledgerOf s) (revert m)
-    unfolding revertAnswer numberL refusalsL
+    unfolding revertAnswer numberL refusalsL replyL
     revert-answer =
         rw (o .lengths, o .control, lengths-are s o)
         (shared (bothFine s m) _ _ both-fit (λ p k e. rw (e, item-at m p k e, settled-mark (s .mst) p (p .mark), new-mark (s .mst) p (p .mark))))
@@ -152,7 +152,7 @@ module _ (s : Store) (o : Opened s) where
   pub create-answer : (d : Draft)
       → (eqb (nextOf (s .mst)) (capacityOf (length (s .xrf)) + 1) ≡ false → (headRight (s .xrf) (xrfBlock (nextOf (s .mst))) && slotFree (s .xrf) (nextOf (s .mst))) ≡ true)
       → createAnswer s d ≡ numberL (ledgerOf s) (create d)
-  unfolding createAnswer numberL refusalsL
+  unfolding createAnswer numberL refusalsL replyL
   create-answer d free =
       rw (o .lengths, o .control, lengths-are s o, room-is (needFor (fieldsIn d)), next-is s o, xrf-is)
       (go (eqb (nextOf (s .mst)) (capacityOf (length (s .xrf)) + 1)) free)
@@ -166,5 +166,5 @@ module _ (s : Store) (o : Opened s) where
       go false f = rw (f refl)
 
   pub check-answer : bodySound s ≡ true → checkAnswer s ≡ numberL (ledgerOf s) check
-  unfolding checkAnswer numberL refusalsL
+  unfolding checkAnswer numberL refusalsL replyL
   check-answer b = rw (o .lengths, o .control, lengths-are s o, b)

@@ -6,10 +6,10 @@ use Rattle.store.specs.Answer.{numberOf}
 use Rattle.store.proofs.Lowest.{above, ascends, IsLowest, lowest-is-lowest}
 use Rattle.ledger.specs.Call.{Call, format, view, viewSettled, create, update, delete, settle, revert, check}
 use Rattle.ledger.specs.Ledger.{Ledger}
-use Rattle.ledger.specs.LedgerAnswers.{refusalsL, numberL}
+use Rattle.ledger.specs.LedgerAnswers.{refusalsL, numberL, replyL}
 
 pub tables-ascend : (L : Ledger) (c : Call) → ascends (refusalsL L c) ≡ true
-unfolding refusalsL above numberOf
+unfolding refusalsL above numberOf replyL
 tables-ascend L format = refl
 tables-ascend L (view m tag occ) = refl
 tables-ascend L (viewSettled m tag occ) = refl

@@ -21,7 +21,7 @@ use Rattle.store.specs.Store.{store}
 use Rattle.drafts.specs.Draft.{Draft, fieldsIn}
 use Rattle.ledger.specs.Call.{Call, format, view, viewSettled, create, update, delete, settle, revert, check}
 use Rattle.ledger.specs.Ledger.{new, Item, gone, held, Ledger, nextMfn, lengthsFine, mfnIn, itemOf, keptMark, isSettledMark, isNewMark}
-use Rattle.ledger.specs.LedgerAnswers.{appends, refusalsL, numberL}
+use Rattle.ledger.specs.LedgerAnswers.{appends, refusalsL, numberL, replyL}
 use Rattle.ledger.specs.LedgerSteps.{Effect, stays, emptied, itemSet, itemAdded, applied, version, settledAs, effectOf, nextL}
 use Rattle.ledger.proofs.Ascending.{number-lowest}
 
@@ -71,11 +71,11 @@ module _ (L : Ledger) (c : Call) (d : numberL L c ≡ Done) where
       record { lengths = permitted f; low = r .0; high = r .1 }
 
 pub create-lengths : (L : Ledger) (f : Draft) → numberL L (create f) ≡ Done → lengthsFine L ≡ true
-unfolding refusalsL
+unfolding refusalsL replyL
 create-lengths L f d = permitted L (create f) d (λ e. inl (refl, e))
 
 pub does : (L : Ledger) (c : Call) → numberL L c ≡ Done → Does L c (effectOf L c)
-unfolding effectOf refusalsL
+unfolding effectOf refusalsL replyL
 does L format d = empties refl
 does L (view m tag occ) d = reads
 does L (viewSettled m tag occ) d = reads

@@ -19,7 +19,7 @@ use Rattle.soundness.proofs.Writes.{format-sound}
 use Rattle.ledger.specs.Call.{format}
 use Rattle.ledger.specs.Ledger.{empty}
 use Rattle.store.specs.Store.{Store, store}
-use Rattle.ledger.specs.StoreRun.{nextS}
+use Rattle.ledger.specs.StoreRun.{nextS, resultS}
 use Rattle.ledger.specs.LedgerOf.{tabulate, ledgerOf, SoundStore}
 
 -- a store just formatted
@@ -58,5 +58,5 @@ module _ (mst xrf : List ℕ) (h : lengthsPermitted (store mst xrf) ≡ true) wh
 
   -- what a format that is done leaves
   pub format-leaves : nextS (store mst xrf) format ≡ formatted mst xrf
-  unfolding nextS formatLeaves
+  unfolding nextS formatLeaves resultS
   format-leaves = after-done (formatAnswer (store mst xrf)) (formatted mst xrf) (store mst xrf) format-done

@@ -17,7 +17,7 @@ use Rattle.store.specs.declared.answer.Answer.the-variants.{Done, NoMfn}
 use Rattle.store.specs.Store.{store}
 use Rattle.ledger.specs.Call.{Call, format, view, viewSettled, create, update, delete, settle, revert, check, Outcome}
 use Rattle.ledger.specs.Ledger.{new, Item, gone, held, Ledger, nextMfn, empty, lengthsFine, mfnIn, itemOf, isGoneItem}
-use Rattle.ledger.specs.LedgerAnswers.{measured, named, refusalsL, numberL, answerL}
+use Rattle.ledger.specs.LedgerAnswers.{measured, named, refusalsL, numberL, answerL, replyL}
 use Rattle.ledger.specs.LedgerSteps.{Effect, itemSet, itemAdded, applied, effectOf, nextL, answersL}
 use Rattle.ledger.specs.StoreRun.{nextS, answersS}
 use Rattle.ledger.specs.History.{MayCome, AllMayCome, none, more, NeverCome}
@@ -66,7 +66,7 @@ module _ (L : Ledger) (w : Whole L) where
         known false e = absurd (false-true (sym e))
 
   rows-may : (c : Call) → RowsMay c (refusalsL L c)
-  unfolding refusalsL numberOf
+  unfolding refusalsL numberOf replyL
   rows-may format = no-length (no-row refl)
   rows-may (view m tag occ) = no-length (no-gone m refl (may refl (may refl (no-row refl))))
   rows-may (viewSettled m tag occ) = no-length (no-gone m refl (may refl (may refl (may refl (no-row refl)))))

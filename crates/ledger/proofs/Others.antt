@@ -16,7 +16,7 @@ use Rattle.store.specs.declared.answer.Answer.the-variants.{BadLength, NoMfn}
 use Rattle.store.specs.Store.{Store}
 use Rattle.ledger.specs.Call.{Call, view, viewSettled}
 use Rattle.ledger.specs.Ledger.{Item, held, new, Ledger, nextMfn, lengthsFine, mfnIn, itemOf}
-use Rattle.ledger.specs.LedgerAnswers.{refusalsL, numberL, theField, givesL, outcomeOf, answerL}
+use Rattle.ledger.specs.LedgerAnswers.{refusalsL, numberL, theField, givesL, outcomeOf, answerL, replyL}
 use Rattle.ledger.specs.LedgerSteps.{Effect, itemSet, itemAdded, applied, touches, effectOf, nextL}
 use Rattle.ledger.specs.StoreRun.{nextS}
 use Rattle.ledger.specs.LedgerOf.{ledgerOf, SoundStore}
@@ -82,7 +82,7 @@ unknown-same false x y = refl
 -- the same item, the same views
 module _ (L L′ : Ledger) (o : ℕ) (r : Same L o L′) (tag occ : ℕ) where
   view-same : answerL L′ (view o tag occ) ≡ answerL L (view o tag occ)
-  unfolding answerL numberL refusalsL givesL
+  unfolding answerL numberL refusalsL givesL replyL
   view-same = go (mfnIn L o) refl
     where
       go : (b : Bool) → mfnIn L o ≡ b → answerL L′ (view o tag occ) ≡ answerL L (view o tag occ)
@@ -90,7 +90,7 @@ module _ (L L′ : Ledger) (o : ℕ) (r : Same L o L′) (tag occ : ℕ) where
       go false e = rw (r .lengths, r .known, e) (unknown-same (lengthsFine L) _ _)
 
   settled-view-same : answerL L′ (viewSettled o tag occ) ≡ answerL L (viewSettled o tag occ)
-  unfolding answerL numberL refusalsL givesL
+  unfolding answerL numberL refusalsL givesL replyL
   settled-view-same = go (mfnIn L o) refl
     where
       go : (b : Bool) → mfnIn L o ≡ b → answerL L′ (viewSettled o tag occ) ≡ answerL L (viewSettled o tag occ)

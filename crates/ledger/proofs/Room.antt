@@ -17,7 +17,7 @@ use Rattle.store.specs.Store.{Store}
 use Rattle.drafts.specs.Draft.{Draft, isRight, fieldsIn}
 use Rattle.ledger.specs.Call.{Call, create, update, delete, Outcome}
 use Rattle.ledger.specs.Ledger.{Ledger, nextMfn, lengthsFine, mfnIn, itemOf, isGoneItem, keptFields, keptDeleted, keptMark, isSettledMark}
-use Rattle.ledger.specs.LedgerAnswers.{measured, named, overfull, appends, refusalsL, numberL}
+use Rattle.ledger.specs.LedgerAnswers.{measured, named, overfull, appends, refusalsL, numberL, replyL}
 use Rattle.ledger.specs.StoreRun.{answerS}
 use Rattle.ledger.specs.LedgerOf.{ledgerOf, SoundStore}
 use Rattle.ledger.specs.History.{someBelow, RoomRule, RoomOf}
@@ -102,7 +102,7 @@ module _ (s : Store) (h : SoundStore s) where
   answer-is c = ap (λ (o : Outcome). o .answer) (answered (holds-own s h) c) ∙ number-is L c
 
   pub create-room : (d : Draft) → RoomOf s (create d) true (needFor (fieldsIn d))
-  unfolding numberL refusalsL overfull allBelow numberOf
+  unfolding numberL refusalsL overfull allBelow numberOf replyL
   create-room d =
       rw (answer-is (create d))
       (room-rule
@@ -110,7 +110,7 @@ module _ (s : Store) (h : SoundStore s) where
       true (L .end) (needFor (fieldsIn d)) (L .mstLength) refl)
 
   pub update-room : (m : ℕ) (d : Draft) → RoomOf s (update m d) (appends (keptMark (itemOf L m)) (needFor (fieldsIn d))) (needFor (fieldsIn d))
-  unfolding numberL refusalsL overfull allBelow numberOf
+  unfolding numberL refusalsL overfull allBelow numberOf replyL
   update-room m d =
       rw (answer-is (update m d))
       (room-rule
@@ -118,7 +118,7 @@ module _ (s : Store) (h : SoundStore s) where
       (appends (keptMark (itemOf L m)) (needFor (fieldsIn d))) (L .end) (needFor (fieldsIn d)) (L .mstLength) refl)
 
   pub delete-room : (m : ℕ) → RoomOf s (delete m) (isSettledMark (keptMark (itemOf L m))) (needFor (keptFields (itemOf L m)))
-  unfolding numberL refusalsL overfull allBelow numberOf
+  unfolding numberL refusalsL overfull allBelow numberOf replyL
   delete-room m =
       rw (answer-is (delete m))
       (room-rule

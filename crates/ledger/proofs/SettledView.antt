@@ -5,7 +5,7 @@ use mathlib.Core.Bool.{Bool, true, false, _&&_}
 use Rattle.store.specs.Reading.{versionFine}
 use Rattle.views.specs.Views.{viewAnswer, settledViewAnswer, viewOf, settledViewOf}
 use Rattle.store.specs.Store.{Store}
-use Rattle.ledger.specs.StoreRun.{answerS}
+use Rattle.ledger.specs.StoreRun.{answerS, resultS}
 use Rattle.ledger.specs.History.{SettledIsCurrent}
 
 and-true : (b : Bool) → (b && true) ≡ b
@@ -13,5 +13,5 @@ and-true true = refl
 and-true false = refl
 
 pub settled-is-current : (s : Store) (m : ℕ) → SettledIsCurrent s m
-unfolding answerS viewOf settledViewOf viewAnswer settledViewAnswer versionFine
+unfolding answerS viewOf settledViewOf viewAnswer settledViewAnswer versionFine resultS
 settled-is-current s m e tag occ = rw (e, and-true _, and-true _)

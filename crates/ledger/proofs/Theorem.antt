@@ -23,9 +23,9 @@ use Rattle.store.specs.Store.{Store, store}
 use Rattle.drafts.specs.Draft.{Draft}
 use Rattle.ledger.specs.Call.{Call, format, view, viewSettled, create, update, delete, settle, revert, check, outcome, plain}
 use Rattle.ledger.specs.Ledger.{Ledger, nextMfn, empty}
-use Rattle.ledger.specs.LedgerAnswers.{numberL, givesL, outcomeOf, answerL}
+use Rattle.ledger.specs.LedgerAnswers.{numberL, givesL, outcomeOf, answerL, replyL}
 use Rattle.ledger.specs.LedgerSteps.{stays, applied, effectOf, nextL, answersL, afterL}
-use Rattle.ledger.specs.StoreRun.{answerS, nextS, answersS, afterS}
+use Rattle.ledger.specs.StoreRun.{answerS, nextS, answersS, afterS, resultS}
 use Rattle.ledger.specs.LedgerOf.{ledgerOf, SoundStore}
 use Rattle.ledger.specs.Demand3.{Kept, Agree, FromSound, Demand3}
 use Rattle.ledger.proofs.Reading.{Opened, Seen, absent, physically, present, next-is}
@@ -81,13 +81,13 @@ module _ (t : Store) (h : SoundStore t) where
   emptied-left = record { ledger = formatted-ledger (t .mst) (t .xrf) (s .lengths); sound = formatted-sound (t .mst) (t .xrf) (s .lengths) }
 
   create-gives : (d : Draft) → answerS t (create d) ≡ outcomeOf (createAnswer t d) (givesL (ledgerOf t) (create d))
-  unfolding answerS givesL createOf
+  unfolding answerS givesL createOf replyL resultS
   create-gives d =
       ap (λ (n : ℕ). outcome (createAnswer t d) (after (createAnswer t d) n 0) [])
       (sym (next-is t opened))
 
   pub step : (c : Call) → Step t c
-  unfolding answerS answerL givesL nextS effectOf formatLeaves createLeaves updateLeaves deleteLeaves settleLeaves revertLeaves
+  unfolding answerS answerL givesL nextS effectOf formatLeaves createLeaves updateLeaves deleteLeaves settleLeaves revertLeaves replyL resultS
   step format = written format (formatAnswer t) _ (format-answer t opened) refl refl (λ d. emptied-left)
   step (view m tag occ) = asked (view m tag occ) (view-outcome t opened m tag occ (see m)) refl refl
   step (viewSettled m tag occ) = asked (viewSettled m tag occ) (settled-view-outcome t opened m tag occ (see m)) refl refl

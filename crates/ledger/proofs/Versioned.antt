@@ -13,7 +13,7 @@ use Rattle.store.proofs.Gates.{after-done}
 use Rattle.drafts.specs.Draft.{Draft, fieldsIn}
 use Rattle.ledger.specs.Call.{Call, view, viewSettled, create, update, delete, revert, Outcome, plain}
 use Rattle.ledger.specs.Ledger.{Marking, settled, new, changed, Item, held, Ledger, nextMfn, lengthsFine, itemOf, settledFields}
-use Rattle.ledger.specs.LedgerAnswers.{isNone, bytesOf, appends, refusalsL, numberL, theField, givesL, outcomeOf, answerL}
+use Rattle.ledger.specs.LedgerAnswers.{isNone, bytesOf, appends, refusalsL, numberL, theField, givesL, outcomeOf, answerL, replyL}
 use Rattle.ledger.specs.LedgerSteps.{applied, endWith, effectOf, nextL}
 use Rattle.ledger.specs.History.{UpdatesOrDeletes, updates, deletes}
 use Rattle.ledger.proofs.Effects.{Known, known-in, create-lengths, set-own, added-long, added-own}
@@ -25,11 +25,11 @@ fieldShown fs tag occ = outcomeOf (cond (isNone (fieldNamed fs tag occ)) NoField
 
 module _ (L : Ledger) (m : ℕ) (k : Known L m) where
   pub live-view : (fs : List Field) (s : Marking) → itemOf L m ≡ held fs false s → (tag occ : ℕ) → answerL L (view m tag occ) ≡ fieldShown fs tag occ
-  unfolding answerL numberL givesL refusalsL
+  unfolding answerL numberL givesL refusalsL replyL
   live-view fs s i tag occ = rw (k .lengths, known-in k, i)
 
   pub settled-view : (fs : List Field) → itemOf L m ≡ held fs false settled → (tag occ : ℕ) → answerL L (viewSettled m tag occ) ≡ fieldShown fs tag occ
-  unfolding answerL numberL givesL refusalsL
+  unfolding answerL numberL givesL refusalsL replyL
   settled-view fs i tag occ = rw (k .lengths, known-in k, i)
 
   -- an update or a delete of a settled record that is done is a change over the fields that it had
@@ -47,7 +47,7 @@ module _ (L : Ledger) (m : ℕ) (k : Known L m) where
 module _ (old : List Field) (m : ℕ) (L : Ledger) (w : Marked (Over old) m L) where
   -- the settled view shows the settled fields, deleted or live
   pub over-view : (tag occ : ℕ) → answerL L (viewSettled m tag occ) ≡ fieldShown old tag occ
-  unfolding answerL numberL givesL refusalsL
+  unfolding answerL numberL givesL refusalsL replyL
   over-view tag occ = rw (w .known .lengths, known-in (w .known), w .item, w .kind .is) (go (w .flag))
     where
       go : (b : Bool) → outcomeOf (cond (b && false) Deleted (cond (isNone (fieldNamed old tag occ)) NoField Done)) (theField (bytesOf (fieldNamed old tag occ))) ≡ fieldShown old tag occ
@@ -56,11 +56,11 @@ module _ (old : List Field) (m : ℕ) (L : Ledger) (w : Marked (Over old) m L) w
 
   -- revert is done, and makes exactly them current, live and settled
   over-reverts : numberL L (revert m) ≡ Done
-  unfolding numberL refusalsL
+  unfolding numberL refusalsL replyL
   over-reverts = rw (w .known .lengths, known-in (w .known), w .item, w .kind .is)
 
   pub over-reverted : answerL L (revert m) ≡ plain Done
-  unfolding answerL givesL
+  unfolding answerL givesL replyL
   over-reverted = ap plain over-reverts
 
   pub over-restored : Marked (λ k. k ≡ settled) m (nextL L (revert m))
@@ -79,11 +79,11 @@ module _ (old : List Field) (m : ℕ) (L : Ledger) (w : Marked (Over old) m L) w
 
 module _ (m : ℕ) (L : Ledger) (w : Marked Fresh m L) where
   pub fresh-reverts : answerL L (revert m) ≡ plain NeverSettled
-  unfolding answerL numberL givesL refusalsL
+  unfolding answerL numberL givesL refusalsL replyL
   fresh-reverts = rw (w .known .lengths, known-in (w .known), w .item, w .kind .is)
 
   pub fresh-view : (tag occ : ℕ) → answerL L (viewSettled m tag occ) ≡ plain NeverSettled
-  unfolding answerL numberL givesL refusalsL after numberOf
+  unfolding answerL numberL givesL refusalsL after numberOf replyL
   fresh-view tag occ = rw (w .known .lengths, known-in (w .known), w .item, w .kind .is) (go (w .flag))
     where
       go : (b : Bool) → outcomeOf (cond (b && false) Deleted NeverSettled) (theField (bytesOf (fieldNamed (w .fields) tag occ))) ≡ plain NeverSettled
@@ -92,7 +92,7 @@ module _ (m : ℕ) (L : Ledger) (w : Marked Fresh m L) where
 
 -- a create that is done returns the next MFN and makes such a record
 pub create-returns : (L : Ledger) (d : Draft) → numberL L (create d) ≡ Done → answerL L (create d) .mfn ≡ nextMfn L
-unfolding answerL givesL
+unfolding answerL givesL replyL
 create-returns L d e = after-done (numberL L (create d)) (nextMfn L) 0 e
 
 pub create-fresh : (L : Ledger) (d : Draft) → numberL L (create d) ≡ Done → Marked Fresh (nextMfn L) (nextL L (create d))

@@ -23,9 +23,9 @@ use Rattle.store.specs.declared.answer.Answer.the-variants.{NoMfn, Gone as Gone
 use Rattle.store.proofs.Gates.{Refusing, after-refused, fine-reads, settled-fine-reads}
 use Rattle.ledger.specs.Call.{outcome, view, viewSettled}
 use Rattle.ledger.specs.Ledger.{itemOf, keptFields, settledFields}
-use Rattle.ledger.specs.LedgerAnswers.{bytesOf, givesL, answerL}
+use Rattle.ledger.specs.LedgerAnswers.{bytesOf, givesL, answerL, replyL}
 use Rattle.store.specs.Store.{Store}
-use Rattle.ledger.specs.StoreRun.{answerS}
+use Rattle.ledger.specs.StoreRun.{answerS, resultS}
 use Rattle.ledger.specs.LedgerOf.{ledgerOf}
 use Rattle.ledger.proofs.Reading.{Opened, Seen, absent, physically, present}
 use Rattle.ledger.proofs.Showing.{shown-done}
@@ -80,7 +80,7 @@ module _ (s : Store) (o : Opened s) where
       )
 
   pub view-outcome : (m tag occ : ℕ) → Seen s m → answerS s (view m tag occ) ≡ answerL (ledgerOf s) (view m tag occ)
-  unfolding answerS answerL givesL viewOf shownAt
+  unfolding answerS answerL givesL viewOf shownAt replyL resultS
   view-outcome m tag occ w =
       same-outcome _ _ _ _ (view-answer s o m w tag occ)
       (view-shown m tag occ w ∙ ap (λ (a : Answer). after a (bytesOf (fieldNamed (keptFields (itemOf (ledgerOf s) m)) tag occ)) []) (view-answer s o m w tag occ))
@@ -120,7 +120,7 @@ module _ (s : Store) (o : Opened s) where
       )
 
   pub settled-view-outcome : (m tag occ : ℕ) → Seen s m → answerS s (viewSettled m tag occ) ≡ answerL (ledgerOf s) (viewSettled m tag occ)
-  unfolding answerS answerL givesL settledViewOf shownAt
+  unfolding answerS answerL givesL settledViewOf shownAt replyL resultS
   settled-view-outcome m tag occ w =
       same-outcome _ _ _ _ (settled-view-answer s o m w tag occ)
       (settled-shown m tag occ w

@@ -46,52 +46,6 @@ abbrev pub bytesOf : Option (List ℕ) → List ℕ
 bytesOf none = []
 bytesOf (some bytes) = bytes
 
--- ---- the table
-
-unfoldable pub refusalsL : Ledger → Call → List Refusal
-refusalsL L format = measured L []
-refusalsL L (view m tag occ) =
-    measured L
-    (named L m
-    (refuse Deleted (keptDeleted (itemOf L m))
-    ∷ refuse NoField (isNone (fieldNamed (keptFields (itemOf L m)) tag occ))
-    ∷ []))
-refusalsL L (viewSettled m tag occ) =
-    measured L
-    (named L m
-    (refuse Deleted (keptDeleted (itemOf L m) && isSettledMark (keptMark (itemOf L m)))
-    ∷ refuse NeverSettled (isNewMark (keptMark (itemOf L m)))
-    ∷ refuse NoField (isNone (fieldNamed (settledFields (itemOf L m)) tag occ))
-    ∷ []))
-refusalsL L (create d) =
-    measured L
-    (refuse BadDraft (not (isRight d))
-    ∷ refuse NoSlot (eqb (nextMfn L) (capacityOf (L .xrfLength) + 1))
-    ∷ roomFor L true (needFor (fieldsIn d)))
-refusalsL L (update m d) =
-    measured L
-    (refuse BadDraft (not (isRight d))
-    ∷ named L m
-    (refuse Deleted (keptDeleted (itemOf L m))
-    ∷ roomFor L (appends (keptMark (itemOf L m)) (needFor (fieldsIn d))) (needFor (fieldsIn d))))
-refusalsL L (delete m) =
-    measured L
-    (named L m
-    (refuse Deleted (keptDeleted (itemOf L m))
-    ∷ roomFor L (isSettledMark (keptMark (itemOf L m))) (needFor (keptFields (itemOf L m)))))
-refusalsL L (settle m) = measured L (named L m (refuse NotPending (isSettledMark (keptMark (itemOf L m))) ∷ []))
-refusalsL L (revert m) =
-    measured L
-    (named L m
-    (refuse NotPending (isSettledMark (keptMark (itemOf L m)))
-    ∷ refuse NeverSettled (isNewMark (keptMark (itemOf L m)))
-    ∷ []))
-refusalsL L check = measured L []
-
--- the answer
-unfoldable pub numberL : Ledger → Call → Answer
-numberL L c = lowest (refusalsL L c)
-
 -- ---- what a call that is done gives: an MFN, a field, or nothing but its answer
 
 pub data Given : Type 0 where
@@ -99,17 +53,78 @@ pub data Given : Type 0 where
   theMfn : ℕ → Given
   theField : List ℕ → Given
 
--- create returns the next MFN; a view shows the field asked for
+-- ---- the table: the refusals of a call, and what it gives where none applies
+
+pub record Reply : Type 0 where
+  pub refusals : List Refusal
+  pub gives : Given
+
+abbrev pub reply : List Refusal → Given → Reply
+reply rows given = record { refusals = rows; gives = given }
+
+unfoldable pub replyL : Ledger → Call → Reply
+replyL L format = reply (measured L []) nothing
+-- a view shows the field asked for
+replyL L (view m tag occ) =
+    reply
+    (measured L
+    (named L m
+    (refuse Deleted (keptDeleted (itemOf L m))
+    ∷ refuse NoField (isNone (fieldNamed (keptFields (itemOf L m)) tag occ))
+    ∷ [])))
+    (theField (bytesOf (fieldNamed (keptFields (itemOf L m)) tag occ)))
+replyL L (viewSettled m tag occ) =
+    reply
+    (measured L
+    (named L m
+    (refuse Deleted (keptDeleted (itemOf L m) && isSettledMark (keptMark (itemOf L m)))
+    ∷ refuse NeverSettled (isNewMark (keptMark (itemOf L m)))
+    ∷ refuse NoField (isNone (fieldNamed (settledFields (itemOf L m)) tag occ))
+    ∷ [])))
+    (theField (bytesOf (fieldNamed (settledFields (itemOf L m)) tag occ)))
+-- create returns the next MFN
+replyL L (create d) =
+    reply
+    (measured L
+    (refuse BadDraft (not (isRight d))
+    ∷ refuse NoSlot (eqb (nextMfn L) (capacityOf (L .xrfLength) + 1))
+    ∷ roomFor L true (needFor (fieldsIn d))))
+    (theMfn (nextMfn L))
+replyL L (update m d) =
+    reply
+    (measured L
+    (refuse BadDraft (not (isRight d))
+    ∷ named L m
+    (refuse Deleted (keptDeleted (itemOf L m))
+    ∷ roomFor L (appends (keptMark (itemOf L m)) (needFor (fieldsIn d))) (needFor (fieldsIn d)))))
+    nothing
+replyL L (delete m) =
+    reply
+    (measured L
+    (named L m
+    (refuse Deleted (keptDeleted (itemOf L m))
+    ∷ roomFor L (isSettledMark (keptMark (itemOf L m))) (needFor (keptFields (itemOf L m))))))
+    nothing
+replyL L (settle m) = reply (measured L (named L m (refuse NotPending (isSettledMark (keptMark (itemOf L m))) ∷ []))) nothing
+replyL L (revert m) =
+    reply
+    (measured L
+    (named L m
+    (refuse NotPending (isSettledMark (keptMark (itemOf L m)))
+    ∷ refuse NeverSettled (isNewMark (keptMark (itemOf L m)))
+    ∷ [])))
+    nothing
+replyL L check = reply (measured L []) nothing
+
+unfoldable pub refusalsL : Ledger → Call → List Refusal
+refusalsL L c = replyL L c .refusals
+
 unfoldable pub givesL : Ledger → Call → Given
-givesL L format = nothing
-givesL L (view m tag occ) = theField (bytesOf (fieldNamed (keptFields (itemOf L m)) tag occ))
-givesL L (viewSettled m tag occ) = theField (bytesOf (fieldNamed (settledFields (itemOf L m)) tag occ))
-givesL L (create d) = theMfn (nextMfn L)
-givesL L (update m d) = nothing
-givesL L (delete m) = nothing
-givesL L (settle m) = nothing
-givesL L (revert m) = nothing
-givesL L check = nothing
+givesL L c = replyL L c .gives
+
+-- the answer
+unfoldable pub numberL : Ledger → Call → Answer
+numberL L c = lowest (refusalsL L c)
 
 -- refused: MFN 0 and an empty field
 abbrev pub outcomeOf : Answer → Given → Outcome

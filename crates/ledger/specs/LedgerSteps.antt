@@ -36,6 +36,13 @@ touches L emptied o = true
 touches L (itemSet m i e) o = eqb m o
 touches L (itemAdded i e) o = eqb (nextMfn L) o
 
+-- the MFN whose item it sets or adds; 0 where there is none
+abbrev pub itemMfn : Ledger → Effect → ℕ
+itemMfn L stays = 0
+itemMfn L emptied = 0
+itemMfn L (itemSet m i e) = m
+itemMfn L (itemAdded i e) = nextMfn L
+
 -- ---- appended: the end grows by the need, and from an offset of 500 to 510 it goes on to the next multiple of 512; the record length is the
 -- need. What is not appended leaves both
 

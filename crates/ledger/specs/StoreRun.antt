@@ -18,27 +18,30 @@ shownOutcome mst r = outcome (r .answer) 0 (shownBytes mst r)
 abbrev pub createdOutcome : Created → Outcome
 createdOutcome r = outcome (r .answer) (r .mfn .0) []
 
+-- what a call answers and the store that it leaves
+pub record Result : Type 0 where
+  pub outcome : Outcome
+  pub left : Store
+
+abbrev pub result : Outcome → Store → Result
+result o s = record { outcome = o; left = s }
+
+unfoldable pub resultS : Store → Call → Result
+resultS s format = result (plain (formatAnswer s)) (formatLeaves s)
+resultS s (view m tag occ) = result (shownOutcome (s .mst) (viewOf s m tag occ)) s
+resultS s (viewSettled m tag occ) = result (shownOutcome (s .mst) (settledViewOf s m tag occ)) s
+resultS s (create d) = result (createdOutcome (createOf s d)) (createLeaves s d)
+resultS s (update m d) = result (plain (updateAnswer s m d)) (updateLeaves s m d)
+resultS s (delete m) = result (plain (deleteAnswer s m)) (deleteLeaves s m)
+resultS s (settle m) = result (plain (settleAnswer s m)) (settleLeaves s m)
+resultS s (revert m) = result (plain (revertAnswer s m)) (revertLeaves s m)
+resultS s check = result (plain (checkAnswer s)) s
+
 unfoldable pub answerS : Store → Call → Outcome
-answerS s format = plain (formatAnswer s)
-answerS s (view m tag occ) = shownOutcome (s .mst) (viewOf s m tag occ)
-answerS s (viewSettled m tag occ) = shownOutcome (s .mst) (settledViewOf s m tag occ)
-answerS s (create d) = createdOutcome (createOf s d)
-answerS s (update m d) = plain (updateAnswer s m d)
-answerS s (delete m) = plain (deleteAnswer s m)
-answerS s (settle m) = plain (settleAnswer s m)
-answerS s (revert m) = plain (revertAnswer s m)
-answerS s check = plain (checkAnswer s)
+answerS s c = resultS s c .outcome
 
 unfoldable pub nextS : Store → Call → Store
-nextS s format = formatLeaves s
-nextS s (view m tag occ) = s
-nextS s (viewSettled m tag occ) = s
-nextS s (create d) = createLeaves s d
-nextS s (update m d) = updateLeaves s m d
-nextS s (delete m) = deleteLeaves s m
-nextS s (settle m) = settleLeaves s m
-nextS s (revert m) = revertLeaves s m
-nextS s check = s
+nextS s c = resultS s c .left
 
 -- the answers to a list of calls, in order, and the buffers after them
 unfoldable pub answersS : Store → List Call → List Outcome

@@ -1,24 +1,16 @@
 -- What a call of demand 3's list touches in a sound store: any call but format, whether it is done or refused. Document 01, "A sound store".
 use Prim.Native.Nat.{ℕ}
 use mathlib.Core.Path.{_≡_}
-use Rattle.files.specs.Control.{nextOf}
 use Rattle.store.specs.Store.{Store}
 use Rattle.soundness.specs.Touching.{TouchesOnly}
-use Rattle.ledger.specs.Call.{Call, format, view, viewSettled, create, update, delete, settle, revert, check}
+use Rattle.ledger.specs.Call.{Call, format}
 use Rattle.ledger.specs.StoreRun.{nextS}
-use Rattle.ledger.specs.LedgerOf.{SoundStore}
+use Rattle.ledger.specs.LedgerSteps.{itemMfn, effectOf}
+use Rattle.ledger.specs.LedgerOf.{ledgerOf, SoundStore}
 
--- the MFN that a call is about: of a create the next one; a format and a check are about none
-unfoldable pub mfnOf : Store → Call → ℕ
-mfnOf s format = 0
-mfnOf s (view m tag occ) = m
-mfnOf s (viewSettled m tag occ) = m
-mfnOf s (create d) = nextOf (s .mst)
-mfnOf s (update m d) = m
-mfnOf s (delete m) = m
-mfnOf s (settle m) = m
-mfnOf s (revert m) = m
-mfnOf s check = 0
+-- the MFN that a call is about: the one whose item it sets or adds in the ledger
+abbrev pub mfnOf : Store → Call → ℕ
+mfnOf s c = itemMfn (ledgerOf s) (effectOf (ledgerOf s) c)
 
 -- THE CLAIM: it touches only that MFN's entry, its record, new bytes at the end and the control integers named
 abbrev pub Touches : Type 0

@@ -21,7 +21,7 @@ use Rattle.store.specs.Store.{Store, store}
 use Rattle.ledger.specs.Call.{format, Outcome}
 use Rattle.ledger.specs.Ledger.{Ledger}
 use Rattle.ledger.specs.LedgerSteps.{answersL, afterL}
-use Rattle.ledger.specs.StoreRun.{nextS, answersS, afterS}
+use Rattle.ledger.specs.StoreRun.{nextS, answersS, afterS, resultS}
 use Rattle.ledger.specs.LedgerOf.{ledgerOf, SoundStore}
 use Rattle.ledger.specs.Demand3.{Kept}
 use Rattle.ledger.proofs.Formatting.{format-done}
@@ -52,7 +52,7 @@ runs {s} {p = p} {r = r} f =
 
 module _ (mst xrf mst₁ xrf₁ : List ℕ) (a : Answer) (ea : a ≡ formatAnswer (store mst xrf)) (el : store mst₁ xrf₁ ≡ formatLeaves (store mst xrf)) where
   formatted-is : store mst₁ xrf₁ ≡ nextS (store mst xrf) format
-  unfolding nextS
+  unfolding nextS resultS
   formatted-is = el
 
   -- format is done exactly where both lengths are permitted

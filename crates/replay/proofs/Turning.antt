@@ -32,7 +32,7 @@ use Rattle.soundness.specs.Sound.{checkAnswer}
 use Rattle.store.specs.Store.{Store, store}
 use Rattle.drafts.specs.Draft.{Draft}
 use Rattle.ledger.specs.Call.{Call, create, update, Outcome}
-use Rattle.ledger.specs.StoreRun.{shownOutcome, answerS, nextS}
+use Rattle.ledger.specs.StoreRun.{shownOutcome, answerS, nextS, resultS}
 use Rattle.replay.specs.Calls.{callSize, Script, noDraft, opIn, readingCall, writingCall, draftOf, takenBy, callOf, leftOf, firstOp, firstCall}
 use Rattle.replay.specs.Replay.{outcomeSize, stopAt}
 use Rattle.replay.specs.Turns.{writingAt, scriptAt, leftAt, moved, DraftWithin, Within, withoutMfn, Wrote, roomAt, Ran, Turned}
@@ -57,17 +57,17 @@ use Rattle.replay.proofs.Decoding.{first-fits, too-short, long-enough}
 module _ (mst xrf : List ℕ) (r : Reading) (sh : Shown) where
   pub view-asked : (m : Mfn) (tag : Tag) (occ : ℕ) → r ≡ View m tag occ → sh ≡ viewOf (store mst xrf) (m .0) (tag .0) occ
       → shownOutcome mst sh ≡ answerS (store mst xrf) (readingCall r)
-  unfolding answerS
+  unfolding answerS resultS
   view-asked m tag occ e f = rw (e, f)
 
   pub settled-asked : (m : Mfn) (tag : Tag) (occ : ℕ) → r ≡ Settled m tag occ → sh ≡ settledViewOf (store mst xrf) (m .0) (tag .0) occ
       → shownOutcome mst sh ≡ answerS (store mst xrf) (readingCall r)
-  unfolding answerS
+  unfolding answerS resultS
   settled-asked m tag occ e f = rw (e, f)
 
 pub check-asked : (mst xrf : List ℕ) (r : Reading) (a : Answer) → r ≡ Check → a ≡ checkAnswer (store mst xrf)
     → shownOutcome mst (record { answer = a; start = 0; len = 0 }) ≡ answerS (store mst xrf) (readingCall r)
-unfolding answerS
+unfolding answerS resultS
 check-asked mst xrf r a e f = rw (e, f)
 
 pub ruleset asked-answers = (view-asked, settled-asked, check-asked)
@@ -102,11 +102,11 @@ pub ruleset short-answers = (view-short, settled-short)
 -- by the callee that creates or updates, from the draft that it is lent
 module _ (s s′ : Store) (d : Draft) (c : Call) where
   pub create-wrote : (r : Created) → r ≡ createOf s d → s′ ≡ createLeaves s d → c ≡ create d → Wrote s c r s′
-  unfolding answerS nextS
+  unfolding answerS nextS resultS
   create-wrote r e f h = record { outcome = rw (h, e); left = rw (h, f) }
 
   pub update-wrote : (m : ℕ) (a : Answer) → a ≡ updateAnswer s m d → s′ ≡ updateLeaves s m d → c ≡ update m d → Wrote s c (withoutMfn a) s′
-  unfolding answerS nextS
+  unfolding answerS nextS resultS
   update-wrote m a e f h = record { outcome = rw (h, e); left = rw (h, f) }
 
 -- by the call, from all drafts and the cursor
@@ -116,7 +116,7 @@ module _ (s s′ : Store) (tags lens bytes : List ℕ) (at : Cursor) (w : Writin
 
   module _ (a : Answer) (i : r ≡ withoutMfn a) where
     pub format-writes : w ≡ Format → a ≡ formatAnswer s → s′ ≡ formatLeaves s → Wrote s (writingAt tags lens bytes at w) r s′
-    unfolding answerS nextS
+    unfolding answerS nextS resultS
     format-writes k e f = record { outcome = rw (k, i, e); left = rw (k, f) }
 
     pub update-writes : (m : Mfn) (n : Counts) → w ≡ Update m n → Wrote s (writingAt tags lens bytes at (Update m n)) (withoutMfn a) s′
@@ -124,15 +124,15 @@ module _ (s s′ : Store) (tags lens bytes : List ℕ) (at : Cursor) (w : Writin
     update-writes m n k h = rw (k, i) h
 
     pub delete-writes : (m : Mfn) → w ≡ Delete m → a ≡ deleteAnswer s (m .0) → s′ ≡ deleteLeaves s (m .0) → Wrote s (writingAt tags lens bytes at w) r s′
-    unfolding answerS nextS
+    unfolding answerS nextS resultS
     delete-writes m k e f = record { outcome = rw (k, i, e); left = rw (k, f) }
 
     pub settle-writes : (m : Mfn) → w ≡ Settle m → a ≡ settleAnswer s (m .0) → s′ ≡ settleLeaves s (m .0) → Wrote s (writingAt tags lens bytes at w) r s′
-    unfolding answerS nextS
+    unfolding answerS nextS resultS
     settle-writes m k e f = record { outcome = rw (k, i, e); left = rw (k, f) }
 
     pub revert-writes : (m : Mfn) → w ≡ Revert m → a ≡ revertAnswer s (m .0) → s′ ≡ revertLeaves s (m .0) → Wrote s (writingAt tags lens bytes at w) r s′
-    unfolding answerS nextS
+    unfolding answerS nextS resultS
     revert-writes m k e f = record { outcome = rw (k, i, e); left = rw (k, f) }
 
 -- the draft of a create, and of an update, lies where the call's does
@@ -154,7 +154,7 @@ place-three d i x y z h = rw (add-one i, add-two i) (overwrite-stores d i (x ∷
 
 -- a call that reads leaves the store as it was
 reading-keeps : (s : Store) (r : Reading) → nextS s (readingCall r) ≡ s
-unfolding nextS
+unfolding nextS resultS
 reading-keeps s (View m tag occ) = refl
 reading-keeps s (Settled m tag occ) = refl
 reading-keeps s Check = refl
