@@ -1,9 +1,9 @@
 // The record writer: leader, directory, data and zeros, into the front of a lent slice.
-use record::directory::DirectoryEntry;
 use layout::leader::Leader;
 use layout::sizes::Block;
 use layout::sizes::Mfn;
 use layout::sizes::Tag;
+use record::directory::DirectoryEntry;
 ghost use mathlib.Core.Path.{_≡_};
 ghost use mathlib.Core.Bool.{true};
 ghost use mathlib.Core.List.{[], _∷_};

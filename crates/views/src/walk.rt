@@ -3,8 +3,8 @@
 use crate::views::Version;
 use layout::sizes::Mfn;
 use layout::sizes::Tag;
-use walking::walker::Walked;
 use store::answer::Answer;
+use walking::walker::Walked;
 ghost use mathlib.Core.Path.{_≡_};
 ghost use Prim.Native.Nat.{_+_, _≤_};
 ghost use lib.ListN.{length};

@@ -1,9 +1,9 @@
 // The field walker: it keeps the record that it walks, how many fields that has and its place in the directory, and hands out tag and
 // field in directory order. What reads the record takes a plain slice; the walker's own functions are thin, and `list_fields` walks.
+use layout::sizes::Tag;
 use record::directory::len_at;
 use record::directory::pos_at;
 use record::directory::tag_at;
-use layout::sizes::Tag;
 use word::integer::u16_at;
 ghost use mathlib.Core.Path.{_≡_};
 ghost use Prim.Native.Nat.{_+_, _<_, _^_};
