@@ -18,8 +18,8 @@ digit-from-requires c κs = search needs
 loop-holds : tie.Need-loop-holds Inv-loop μ-loop
 loop-holds c = omega arith
 
-replay-afresh-requires : tie.Need-replay-afresh-requires Inv-loop μ-loop
-replay-afresh-requires c κs = search needs
+replay-list-requires : tie.Need-replay-list-requires Inv-loop μ-loop
+replay-list-requires c κs = search needs
 
 returns : tie.Need-returns Inv-loop μ-loop
 returns c = omega arith
@@ -44,7 +44,7 @@ replay-lists-spec =
     μ-loop
     digit-from-requires
     loop-holds
-    replay-afresh-requires
+    replay-list-requires
     returns
     digit-from-requires-2
     loop-less

@@ -3,8 +3,8 @@ use Prim.Native.Nat.{_≤_, _-_}
 use native.Mathlib.Omega.{arith}
 use lib.ListN.{length}
 use borrow.Author.Needs.{needs}
-use Rattle.replay_run.proofs.number_from.Statement.{statement}
-use Rattle.replay_run.proofs.number_from.Tie as tie
+use Rattle.lists.proofs.numbers.number_from.Statement.{statement}
+use Rattle.lists.proofs.numbers.number_from.Tie as tie
 
 abbrev Inv-loop : tie.InvT-loop
 Inv-loop text from i₀ value₀ i value = i ≤ length text

@@ -3,8 +3,8 @@ use Prim.Native.Nat.{_≤_, _-_}
 use native.Mathlib.Omega.{arith}
 use lib.ListN.{length}
 use borrow.Author.Needs.{needs}
-use Rattle.replay_run.proofs.digit_from.Statement.{statement}
-use Rattle.replay_run.proofs.digit_from.Tie as tie
+use Rattle.lists.proofs.numbers.digit_from.Statement.{statement}
+use Rattle.lists.proofs.numbers.digit_from.Tie as tie
 
 abbrev Inv-loop : tie.InvT-loop
 Inv-loop text from i₀ i = (from ≤ i) × (i ≤ length text)

@@ -4,14 +4,17 @@ use native.Mathlib.Omega.{arith}
 use mathlib.Core.Path.{_≡_, refl}
 use lib.ListN.{length, length-set}
 use borrow.Author.Needs.{needs}
-use Rattle.replay_run.proofs.read_u32s.Statement.{statement}
-use Rattle.replay_run.proofs.read_u32s.Tie as tie
+use Rattle.lists.proofs.numbers.read_u32s.Statement.{statement}
+use Rattle.lists.proofs.numbers.read_u32s.Tie as tie
 
 abbrev Inv-loop : tie.InvT-loop
-Inv-loop text from out₀ at₀ i₀ out at i = (at ≤ length text) × (length out ≡ length out₀)
+Inv-loop text from count out₀ end at₀ i₀ out at i = (at ≤ length text) × (length out ≡ length out₀)
 
 abbrev μ-loop : tie.MeasureT-loop
-μ-loop text from out₀ at₀ i₀ out at i = length out₀ - i
+μ-loop text from count out₀ end at₀ i₀ out at i = end - i
+
+at-most-requires : tie.Need-at-most-requires Inv-loop μ-loop
+at-most-requires c κs = search needs
 
 loop-holds : tie.Need-loop-holds Inv-loop μ-loop
 loop-holds c = (omega arith, refl)
@@ -46,6 +49,7 @@ read-u32s-spec =
     (tie.spec
     Inv-loop
     μ-loop
+    at-most-requires
     loop-holds
     number-from-requires
     mul-out
