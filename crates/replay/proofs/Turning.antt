@@ -4,21 +4,18 @@
 use Prim.Native.Nat.{ℕ, _+_, _*_, _-_, _≤_, _<_}
 use native.Mathlib.Nat.{add-sub-cancel-left}
 use native.Mathlib.Omega.{arith}
-use native.Mathlib.Numerals.{add-one, add-two}
 use mathlib.Core.Logic.{⊎-elim}
 use mathlib.Core.Path.{_≡_, refl, sym, ap, _∙_}
-use mathlib.Core.Bool.{Bool, true, false}
-use mathlib.Core.Option.{none, some}
+use mathlib.Core.Bool.{true, false}
+use mathlib.Core.Option.{none}
 use mathlib.Core.List.{List, [], _∷_}
-use lib.ListN.{length, drop, set, length-drop}
+use lib.ListN.{length, drop, length-drop}
 use borrow.Author.Tests.{le-leb, lt-leb, eq-eqb, ne-eqb}
 use Rattle.word.specs.Overwrite.{overwrite, part}
-use Rattle.word.proofs.Overwrite.{part-length, overwrite-none, overwrite-stores}
-use Rattle.store.specs.Answer.{numberOf, after}
+use Rattle.word.proofs.Overwrite.{part-length, overwrite-none}
+use Rattle.store.specs.Answer.{numberOf}
 use Rattle.store.specs.Reading.{lengthsPermitted}
-use Rattle.writing.specs.Refusals.{formatAnswer, updateAnswer, deleteAnswer, settleAnswer, revertAnswer}
 use Rattle.views.specs.Views.{viewAnswer, settledViewAnswer, foundLength, shownAt, viewOf, settledViewOf}
-use Rattle.writing.specs.Calls.{formatLeaves, createOf, createLeaves, updateLeaves, deleteLeaves, settleLeaves, revertLeaves}
 use Rattle.store.specs.declared.answer.Answer.{Answer}
 use Rattle.store.specs.declared.answer.Answer.the-variants.{Done, BadLength}
 use Rattle.writing.specs.declared.create.Created.{Created}
@@ -29,24 +26,28 @@ use Rattle.layout.specs.declared.sizes.Mfn.{Mfn}
 use Rattle.layout.specs.declared.sizes.Tag.{Tag}
 use Rattle.record.specs.declared.fields.Found.{Found}
 use Rattle.soundness.specs.Sound.{checkAnswer}
-use Rattle.store.specs.Store.{Store, store, Draft}
-use Rattle.ledger.specs.Call.{Call, create, update, Outcome}
-use Rattle.ledger.specs.StoreRun.{shownOutcome, answerS, nextS}
-use Rattle.replay.specs.Calls.{callSize, Script, noDraft, opIn, readingCall, writingCall, draftOf, takenBy, callOf, leftOf, firstOp, firstCall}
-use Rattle.replay.specs.Replay.{outcomeSize, stopAt}
-use Rattle.replay.specs.Turns.{writingAt, scriptAt, leftAt, moved, DraftWithin, Within, withoutMfn, Wrote, roomAt, Ran, Turned}
-use Rattle.replay.specs.declared.calls.Counts.{Counts}
-use Rattle.replay.specs.declared.calls.Reading.{Reading}
-use Rattle.replay.specs.declared.calls.Reading.the-variants.{View, Settled, Check}
-use Rattle.replay.specs.declared.calls.Writing.{Writing}
-use Rattle.replay.specs.declared.calls.Writing.the-variants.{Format, Create, Update, Delete, Settle, Revert}
-use Rattle.replay.specs.declared.calls.Op.{Op}
-use Rattle.replay.specs.declared.calls.Op.the-variants.{Asks, Writes}
-use Rattle.replay.specs.declared.calls.Op.the-variants as op
-use Rattle.replay.specs.declared.turns.Stop.{Stop}
-use Rattle.replay.specs.declared.turns.Stop.the-variants.{Ended, NoRoom}
-use Rattle.replay.specs.declared.turns.Stop.the-variants as stop
-use Rattle.replay.specs.declared.turns.Cursor.{Cursor}
+use Rattle.store.specs.Store.{Store, store}
+use Rattle.ledger.specs.Call.{Call, Outcome}
+use Rattle.ledger.specs.StoreRun.{shownOutcome, createdOutcome, answerS, nextS}
+use Rattle.script.specs.Ops.{callSize, noDraft, opIn, draftOf}
+use Rattle.replay.specs.Calls.{Script, readingCall, callOf, leftOf, firstOp, firstCall}
+use Rattle.script.specs.Report.{outcomeSize}
+use Rattle.replay.specs.Replay.{stopAt}
+use Rattle.dispatch.specs.Written.{draftAt, writtenOf, writtenLeaves, Written}
+use Rattle.script.specs.Cursor.{leftAt, moved, DraftWithin, Within}
+use Rattle.replay.specs.Turns.{writingAt, scriptAt, Wrote, roomAt, Ran, Turned}
+use Rattle.script.specs.declared.calls.Counts.{Counts}
+use Rattle.script.specs.declared.calls.Reading.{Reading}
+use Rattle.script.specs.declared.calls.Reading.the-variants.{View, Settled, Check}
+use Rattle.script.specs.declared.calls.Writing.{Writing}
+use Rattle.script.specs.declared.calls.Writing.the-variants.{Format, Create, Update, Delete, Settle, Revert}
+use Rattle.script.specs.declared.calls.Op.{Op}
+use Rattle.script.specs.declared.calls.Op.the-variants.{Asks, Writes}
+use Rattle.script.specs.declared.calls.Op.the-variants as op
+use Rattle.script.specs.declared.report.Stop.{Stop}
+use Rattle.script.specs.declared.report.Stop.the-variants.{Ended, NoRoom}
+use Rattle.script.specs.declared.report.Stop.the-variants as stop
+use Rattle.script.specs.declared.cursor.Cursor.{Cursor}
 use Rattle.replay.specs.declared.turns.Turn.{Turn}
 use Rattle.replay.specs.declared.turns.Turn.the-variants.{Next, Stopped}
 use Rattle.replay.proofs.Decoding.{first-fits, too-short, long-enough}
@@ -98,58 +99,38 @@ pub ruleset short-answers = (view-short, settled-short)
 
 -- ---- calls that may write
 
--- by the callee that creates or updates, from the draft that it is lent
-module _ (s s′ : Store) (d : Draft) (c : Call) where
-  pub create-wrote : (r : Created) → r ≡ createOf s d → s′ ≡ createLeaves s d → c ≡ create d → Wrote s c r s′
-  unfolding answerS nextS
-  create-wrote r e f h = record { outcome = rw (h, e); left = rw (h, f) }
+-- what the library's own call returns and leaves is what the store's run says of it
+module _ (s : Store) (tags lens bytes : List ℕ) (at : Cursor) where
+  written-answers : (w : Writing) → createdOutcome (writtenOf s (draftAt tags lens bytes at (draftOf w)) w) ≡ answerS s (writingAt tags lens bytes at w)
+  unfolding answerS writtenOf draftAt
+  written-answers Format = refl
+  written-answers (Create n) = refl
+  written-answers (Update m n) = refl
+  written-answers (Delete m) = refl
+  written-answers (Settle m) = refl
+  written-answers (Revert m) = refl
 
-  pub update-wrote : (m : ℕ) (a : Answer) → a ≡ updateAnswer s m d → s′ ≡ updateLeaves s m d → c ≡ update m d → Wrote s c (withoutMfn a) s′
-  unfolding answerS nextS
-  update-wrote m a e f h = record { outcome = rw (h, e); left = rw (h, f) }
+  written-leaves : (w : Writing) → writtenLeaves s (draftAt tags lens bytes at (draftOf w)) w ≡ nextS s (writingAt tags lens bytes at w)
+  unfolding nextS writtenLeaves draftAt
+  written-leaves Format = refl
+  written-leaves (Create n) = refl
+  written-leaves (Update m n) = refl
+  written-leaves (Delete m) = refl
+  written-leaves (Settle m) = refl
+  written-leaves (Revert m) = refl
 
--- by the call, from all drafts and the cursor
-module _ (s s′ : Store) (tags lens bytes : List ℕ) (at : Cursor) (w : Writing) (r : Created) where
-  pub create-writes : (n : Counts) → w ≡ Create n → Wrote s (writingAt tags lens bytes at (Create n)) r s′ → Wrote s (writingAt tags lens bytes at w) r s′
-  create-writes n k h = rw k h
+  wrote : (s′ : Store) (n : Counts) (w : Writing) (r : Created) → n ≡ draftOf w → Written s (draftAt tags lens bytes at n) w r s′
+      → Wrote s (writingAt tags lens bytes at w) r s′
+  wrote s′ n w r e h =
+      let k : Written s (draftAt tags lens bytes at (draftOf w)) w r s′ = rw e at h in
+      record { outcome = ap createdOutcome (k .returned) ∙ written-answers w; left = k .left ∙ written-leaves w }
 
-  module _ (a : Answer) (i : r ≡ withoutMfn a) where
-    pub format-writes : w ≡ Format → a ≡ formatAnswer s → s′ ≡ formatLeaves s → Wrote s (writingAt tags lens bytes at w) r s′
-    unfolding answerS nextS
-    format-writes k e f = record { outcome = rw (k, i, e); left = rw (k, f) }
-
-    pub update-writes : (m : Mfn) (n : Counts) → w ≡ Update m n → Wrote s (writingAt tags lens bytes at (Update m n)) (withoutMfn a) s′
-        → Wrote s (writingAt tags lens bytes at w) r s′
-    update-writes m n k h = rw (k, i) h
-
-    pub delete-writes : (m : Mfn) → w ≡ Delete m → a ≡ deleteAnswer s (m .0) → s′ ≡ deleteLeaves s (m .0) → Wrote s (writingAt tags lens bytes at w) r s′
-    unfolding answerS nextS
-    delete-writes m k e f = record { outcome = rw (k, i, e); left = rw (k, f) }
-
-    pub settle-writes : (m : Mfn) → w ≡ Settle m → a ≡ settleAnswer s (m .0) → s′ ≡ settleLeaves s (m .0) → Wrote s (writingAt tags lens bytes at w) r s′
-    unfolding answerS nextS
-    settle-writes m k e f = record { outcome = rw (k, i, e); left = rw (k, f) }
-
-    pub revert-writes : (m : Mfn) → w ≡ Revert m → a ≡ revertAnswer s (m .0) → s′ ≡ revertLeaves s (m .0) → Wrote s (writingAt tags lens bytes at w) r s′
-    unfolding answerS nextS
-    revert-writes m k e f = record { outcome = rw (k, i, e); left = rw (k, f) }
-
--- the draft of a create, and of an update, lies where the call's does
-pub create-draft : (tags lens bytes : List ℕ) (at : Cursor) (w : Writing) (n : Counts) → w ≡ Create n → DraftWithin tags lens bytes at (draftOf w)
+-- the draft that a call takes lies where the call's does
+pub draft-taken : (tags lens bytes : List ℕ) (at : Cursor) (w : Writing) (n : Counts) → n ≡ draftOf w → DraftWithin tags lens bytes at (draftOf w)
     → DraftWithin tags lens bytes at n
-create-draft tags lens bytes at w n e h = rw e at h
-
-pub update-draft : (tags lens bytes : List ℕ) (at : Cursor) (w : Writing) (m : Mfn) (n : Counts) → w ≡ Update m n → DraftWithin tags lens bytes at (draftOf w)
-    → DraftWithin tags lens bytes at n
-update-draft tags lens bytes at w m n e h = rw e at h
-
-pub ruleset written-answers = (format-writes, create-writes, update-writes, delete-writes, settle-writes, revert-writes, create-draft, update-draft)
+draft-taken tags lens bytes at w n e h = rw e h
 
 -- ---- a call is run and reported
-
--- its three numbers are stored one by one
-pub place-three : (d : List ℕ) (i x y z : ℕ) → i + 3 ≤ length d → set (set (set d i x) (i + 1) y) (i + 2) z ≡ overwrite d i (x ∷ y ∷ z ∷ [])
-place-three d i x y z h = rw (add-one i, add-two i) (overwrite-stores d i (x ∷ y ∷ z ∷ []) h)
 
 -- a call that reads leaves the store as it was
 reading-keeps : (s : Store) (r : Reading) → nextS s (readingCall r) ≡ s
@@ -196,13 +177,14 @@ module _ (mst xrf answers shown : List ℕ) (at : Cursor) (r : Reading) (sh : Sh
       }
 
 -- a call that may write is run where there is room for the three numbers: it shows nothing
-pub wrote-next : (s s′ : Store) (c : Call) (r : Created) (answers answers′ : List ℕ) (at at′ : Cursor) (k : Writing) (n : Counts)
-    → Wrote s c r s′ → outcomeSize ≤ length answers - outcomeSize * at .calls
+pub wrote-next : (s s′ : Store) (tags lens bytes : List ℕ) (r : Created) (answers answers′ : List ℕ) (at at′ : Cursor) (k : Writing) (n : Counts)
+    → n ≡ draftOf k → Written s (draftAt tags lens bytes at n) k r s′ → outcomeSize ≤ length answers - outcomeSize * at .calls
     → answers′ ≡ overwrite answers (outcomeSize * at .calls) (numberOf (r .answer) ∷ r .mfn .0 ∷ 0 ∷ [])
-    → n ≡ draftOf k → at′ ≡ moved at n 0
-    → (shown : List ℕ) → Ran s c (draftOf k) answers shown at (Next at′) s′ answers′ shown
-wrote-next s s′ c r answers answers′ at at′ k n w h en z m shown =
-    let b : roomAt answers shown at (answerS s c) ≡ true = rw (le-leb outcomeSize (length answers - outcomeSize * at .calls) h, ← w .outcome, le-leb 0 (length shown - at .shown) (omega arith)) in
+    → at′ ≡ moved at n 0
+    → (shown : List ℕ) → Ran s (writingAt tags lens bytes at k) (draftOf k) answers shown at (Next at′) s′ answers′ shown
+wrote-next s s′ tags lens bytes r answers answers′ at at′ k n z d h en m shown =
+    let w = wrote s tags lens bytes at s′ n k r z d in
+    let b : roomAt answers shown at (answerS s (writingAt tags lens bytes at k)) ≡ true = rw (le-leb outcomeSize (length answers - outcomeSize * at .calls) h, ← w .outcome, le-leb 0 (length shown - at .shown) (omega arith)) in
     record {
       turn = rw (b, ← w .outcome, m, z);
       left = rw (b, w .left);
@@ -212,7 +194,7 @@ wrote-next s s′ c r answers answers′ at at′ k n w h en z m shown =
 
 pub ruleset asked-turns = (no-numbers, no-bytes, asked-next)
 
-pub ruleset written-turns = (no-numbers, wrote-next)
+pub ruleset written-turns = (draft-taken, no-numbers, wrote-next)
 
 -- ---- a turn
 

@@ -26,8 +26,8 @@ move-cursor-requires c κs =
       shown-fit = search needs;
     }
 
-write-requires : tie.Need-write-requires
-write-requires c κs = search needs
+write-at-requires : tie.Need-write-at-requires
+write-at-requires c κs = search written-turns
 
 put-numbers-requires : tie.Need-put-numbers-requires
 put-numbers-requires c κs = search needs
@@ -53,7 +53,7 @@ write-turn-spec =
     returns
     draft-of-requires
     move-cursor-requires
-    write-requires
+    write-at-requires
     put-numbers-requires
     same-length
     same-length-2

@@ -1,0 +1,156 @@
+// A call read from five numbers of a list.
+use layout::sizes::Mfn;
+use layout::sizes::Tag;
+ghost use mathlib.Core.Path.{_≡_};
+ghost use Prim.Native.Nat.{_+_, _≤_};
+ghost use lib.ListN.{length, drop};
+ghost use Rattle.script.specs.Ops.{callSize, noDraft, countsFit, viewOp, opNamed, draftOf, takenBy, opFitting, opIn};
+
+// The numbers of a call.
+pub const CALL_SIZE: usize = 5;
+
+// How many tags, lengths and bytes a draft takes, or are left.
+pub struct Counts {
+    pub tags: usize,
+    pub lens: usize,
+    pub bytes: usize,
+}
+
+// A call that only reads.
+pub enum Reading {
+    View { mfn: Mfn, tag: Tag, occurrence: u32 },
+    Settled { mfn: Mfn, tag: Tag, occurrence: u32 },
+    Check,
+}
+
+// A call that may write. A draft is the next of each of the three lists.
+pub enum Writing {
+    Format,
+    Create(Counts),
+    Update(Mfn, Counts),
+    Delete(Mfn),
+    Settle(Mfn),
+    Revert(Mfn),
+}
+
+// The next call of a list.
+pub enum Op {
+    Asks(Reading),
+    Writes(Writing),
+    Malformed,
+}
+
+pub fn no_draft() -> Counts
+    ensures { λ r. ⌜ r ≡ noDraft ⌝ }
+{
+    Counts {
+        tags: 0,
+        lens: 0,
+        bytes: 0,
+    }
+}
+
+fn counts_fit(n: Counts, left: Counts) -> bool
+    ensures { λ r. ⌜ r ≡ countsFit n left ⌝ }
+{
+    if left.tags < n.tags {
+        return false;
+    }
+    if left.lens < n.lens {
+        return false;
+    }
+    n.bytes <= left.bytes
+}
+
+// A view, whose tag is to be a number of 16 bits.
+fn view_op(settled: bool, m: u32, tag: u32, occurrence: u32) -> Op
+    ensures { λ r. ⌜ r ≡ viewOp settled m tag occurrence ⌝ }
+{
+    if 65535 < tag {
+        return Op::Malformed;
+    }
+    let mfn = Mfn(m);
+    let tag = Tag(tag as u16);
+    if settled {
+        Op::Asks(Reading::Settled {
+            mfn,
+            tag,
+            occurrence,
+        })
+    } else {
+        Op::Asks(Reading::View {
+            mfn,
+            tag,
+            occurrence,
+        })
+    }
+}
+
+// The call that five numbers stand for.
+fn op_named(call: u32, m: u32, x: u32, y: u32, z: u32) -> Op
+    ensures { λ r. ⌜ r ≡ opNamed call m x y z ⌝ }
+{
+    let n = Counts {
+        tags: x as usize,
+        lens: y as usize,
+        bytes: z as usize,
+    };
+    match call {
+        0 => Op::Writes(Writing::Format),
+        1 => view_op(false, m, x, y),
+        2 => view_op(true, m, x, y),
+        3 => Op::Writes(Writing::Create(n)),
+        4 => Op::Writes(Writing::Update(Mfn(m), n)),
+        5 => Op::Writes(Writing::Delete(Mfn(m))),
+        6 => Op::Writes(Writing::Settle(Mfn(m))),
+        7 => Op::Writes(Writing::Revert(Mfn(m))),
+        8 => Op::Asks(Reading::Check),
+        _ => Op::Malformed,
+    }
+}
+
+// The draft that a call takes.
+pub fn draft_of(w: Writing) -> Counts
+    ensures { λ r. ⌜ r ≡ draftOf w ⌝ }
+{
+    match w {
+        Writing::Format => no_draft(),
+        Writing::Create(n) => n,
+        Writing::Update(_, n) => n,
+        Writing::Delete(_) => no_draft(),
+        Writing::Settle(_) => no_draft(),
+        Writing::Revert(_) => no_draft(),
+    }
+}
+
+fn taken_by(op: Op) -> Counts
+    ensures { λ r. ⌜ r ≡ takenBy op ⌝ }
+{
+    match op {
+        Op::Asks(_) => no_draft(),
+        Op::Writes(w) => draft_of(w),
+        Op::Malformed => no_draft(),
+    }
+}
+
+// A call whose draft is to be there.
+fn op_fitting(op: Op, left: Counts) -> Op
+    ensures { λ r. ⌜ r ≡ opFitting op left ⌝ }
+{
+    if counts_fit(taken_by(op), left) {
+        op
+    } else {
+        Op::Malformed
+    }
+}
+
+// The call whose five numbers stand at `i`, where so much of the drafts is left.
+pub fn read_op(ops: &[u32], i: usize, left: Counts) -> Op
+    requires { ⌜ i + callSize ≤ length (now ops) ⌝ }
+    ensures { λ r. ⌜ r ≡ opIn (drop i (now (ops .entry))) left ⌝ }
+{
+    op_fitting(
+        op_named(ops[i], ops[i + 1], ops[i + 2], ops[i + 3], ops[i + 4]),
+        left,
+    )
+}
