@@ -1,3 +1,4 @@
+pub mod Numbers
 pub mod Decoding
 pub mod Turning
 pub mod Running

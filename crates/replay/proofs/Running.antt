@@ -18,12 +18,15 @@ use Rattle.layout.proofs.Tests.{tests}
 use Rattle.store.specs.Store.{Store}
 use Rattle.ledger.specs.Call.{Call, Outcome}
 use Rattle.ledger.specs.StoreRun.{answerS, nextS, answersS, afterS}
-use Rattle.replay.specs.Calls.{callSize, Script, script, takenBy, firstOp, firstCall, restOf, restAfter, callsIn, callsOf}
-use Rattle.replay.specs.Replay.{outcomeSize, numbersOf, outcomeNumbers, outcomeBytes, hasRoom, fitting, stopAt, stopFor, Reports, callsRun}
-use Rattle.replay.specs.Turns.{scriptAt, moved, Within, roomAt, Ran, Halted, Turned, Finished}
-use Rattle.replay.specs.declared.turns.Stop.{Stop}
-use Rattle.replay.specs.declared.turns.Stop.the-variants.{NoRoom}
-use Rattle.replay.specs.declared.turns.Cursor.{Cursor}
+use Rattle.script.specs.Ops.{callSize, takenBy}
+use Rattle.replay.specs.Calls.{Script, script, firstOp, firstCall, restOf, restAfter, callsIn, callsOf}
+use Rattle.script.specs.Report.{outcomeSize}
+use Rattle.replay.specs.Replay.{numbersOf, outcomeNumbers, outcomeBytes, hasRoom, fitting, stopAt, stopFor}
+use Rattle.script.specs.Cursor.{moved, Within}
+use Rattle.replay.specs.Turns.{scriptAt, roomAt, Ran, Halted, Turned, Finished}
+use Rattle.script.specs.declared.report.Stop.{Stop}
+use Rattle.script.specs.declared.report.Stop.the-variants.{NoRoom}
+use Rattle.script.specs.declared.cursor.Cursor.{Cursor}
 use Rattle.replay.specs.declared.turns.Turn.{Turn}
 use Rattle.replay.specs.declared.turns.Turn.the-variants.{Next, Stopped}
 use Rattle.replay.proofs.Decoding.{first-fits, has-numbers}

@@ -2,10 +2,9 @@
 -- answers, by demand 3.
 use Prim.Native.Nat.{ℕ}
 use native.Mathlib.Omega.{arith}
-use mathlib.Core.Path.{_≡_, refl, sym, ap, _∙_}
+use mathlib.Core.Path.{_≡_, refl, sym, _∙_}
 use mathlib.Core.Bool.{Bool, true, false}
 use mathlib.Core.List.{List, [], _∷_}
-use lib.ListN.{take}
 use denote.Enum.Declared.{tagOf}
 use types.Run.{OneOf}
 use Rattle.layout.proofs.Tests.{false-true}
@@ -19,18 +18,14 @@ use Rattle.writing.proofs.Plans.{not-done}
 use Rattle.store.proofs.Gates.{Refusing, refusing-not-done}
 use Rattle.store.specs.Store.{Store, store}
 use Rattle.ledger.specs.Call.{format, Outcome}
-use Rattle.ledger.specs.Ledger.{Ledger}
-use Rattle.ledger.specs.LedgerSteps.{answersL, afterL}
-use Rattle.ledger.specs.StoreRun.{nextS, answersS, afterS, resultS}
-use Rattle.ledger.specs.LedgerOf.{ledgerOf, SoundStore}
-use Rattle.ledger.specs.Demand3.{Kept}
+use Rattle.ledger.specs.StoreRun.{nextS, afterS, resultS}
 use Rattle.ledger.proofs.Formatting.{format-done}
 use Rattle.ledger.proofs.Theorem.{answers-are-the-ledgers, demand-3}
 use Rattle.replay.specs.Calls.{Script, callsOf}
-use Rattle.replay.specs.Replay.{Reports, callsRun, Runs, formattedLedger, Replays}
+use Rattle.replay.specs.Replay.{Reports, callsRun, Runs, Replays}
 use Rattle.replay.specs.Turns.{Finished}
-use Rattle.replay.specs.declared.turns.Stop.the-variants.{BadLength}
-use Rattle.replay.specs.declared.run.Replayed.{Replayed}
+use Rattle.script.specs.declared.report.Stop.the-variants.{BadLength}
+use Rattle.script.specs.declared.report.Replayed.{Replayed}
 
 -- the same outcomes are reported
 reports-same : {os os′ : List Outcome} {p : Script} {answers shown : List ℕ} {r : Replayed} {answers′ shown′ : List ℕ} → os ≡ os′

@@ -4,23 +4,23 @@
 use Prim.Native.Nat.{ℕ, _+_, _*_, _-_, _≤_, _<_}
 use native.Mathlib.Nat.{add-sub-cancel-left}
 use native.Mathlib.Omega.{arith}
-use native.Mathlib.Numerals.{add-one, add-two}
 use mathlib.Core.Logic.{⊎-elim}
 use mathlib.Core.Path.{_≡_, refl, sym, ap, _∙_}
-use mathlib.Core.Bool.{Bool, true, false}
-use mathlib.Core.Option.{none, some}
+use mathlib.Core.Bool.{true, false}
+use mathlib.Core.Option.{none}
 use mathlib.Core.List.{List, [], _∷_}
-use lib.ListN.{length, drop, set, length-drop}
+use lib.ListN.{length, take, drop, length-drop}
 use borrow.Author.Tests.{le-leb, lt-leb, eq-eqb, ne-eqb}
 use Rattle.word.specs.Overwrite.{overwrite, part}
-use Rattle.word.proofs.Overwrite.{part-length, overwrite-none, overwrite-stores}
-use Rattle.store.specs.Answer.{numberOf, after}
+use Rattle.word.proofs.Overwrite.{part-length, overwrite-none}
+use Rattle.store.specs.Answer.{numberOf}
 use Rattle.store.specs.Reading.{lengthsPermitted}
-use Rattle.writing.specs.Refusals.{formatAnswer, updateAnswer, deleteAnswer, settleAnswer, revertAnswer}
 use Rattle.views.specs.Views.{viewAnswer, settledViewAnswer, foundLength, shownAt, viewOf, settledViewOf}
-use Rattle.writing.specs.Calls.{formatLeaves, createOf, createLeaves, updateLeaves, deleteLeaves, settleLeaves, revertLeaves}
 use Rattle.store.specs.declared.answer.Answer.{Answer}
 use Rattle.store.specs.declared.answer.Answer.the-variants.{Done, BadLength}
+use Rattle.drafts.specs.Draft.{Draft, draft}
+use Rattle.writing.specs.Refusals.{formatAnswer, updateAnswer, deleteAnswer, settleAnswer, revertAnswer}
+use Rattle.writing.specs.Calls.{formatLeaves, createOf, createLeaves, updateLeaves, deleteLeaves, settleLeaves, revertLeaves}
 use Rattle.writing.specs.declared.create.Created.{Created}
 use Rattle.views.specs.declared.views.Shown.{Shown}
 use Rattle.store.proofs.Gates.{Refusing, after-cases, holds, lengths-facts}
@@ -30,24 +30,26 @@ use Rattle.layout.specs.declared.sizes.Tag.{Tag}
 use Rattle.record.specs.declared.fields.Found.{Found}
 use Rattle.soundness.specs.Sound.{checkAnswer}
 use Rattle.store.specs.Store.{Store, store}
-use Rattle.drafts.specs.Draft.{Draft}
-use Rattle.ledger.specs.Call.{Call, create, update, Outcome}
+use Rattle.ledger.specs.Call.{Call, Outcome}
 use Rattle.ledger.specs.StoreRun.{shownOutcome, answerS, nextS, resultS}
-use Rattle.replay.specs.Calls.{callSize, Script, noDraft, opIn, readingCall, writingCall, draftOf, takenBy, callOf, leftOf, firstOp, firstCall}
-use Rattle.replay.specs.Replay.{outcomeSize, stopAt}
-use Rattle.replay.specs.Turns.{writingAt, scriptAt, leftAt, moved, DraftWithin, Within, withoutMfn, Wrote, roomAt, Ran, Turned}
-use Rattle.replay.specs.declared.calls.Counts.{Counts}
-use Rattle.replay.specs.declared.calls.Reading.{Reading}
-use Rattle.replay.specs.declared.calls.Reading.the-variants.{View, Settled, Check}
-use Rattle.replay.specs.declared.calls.Writing.{Writing}
-use Rattle.replay.specs.declared.calls.Writing.the-variants.{Format, Create, Update, Delete, Settle, Revert}
-use Rattle.replay.specs.declared.calls.Op.{Op}
-use Rattle.replay.specs.declared.calls.Op.the-variants.{Asks, Writes}
-use Rattle.replay.specs.declared.calls.Op.the-variants as op
-use Rattle.replay.specs.declared.turns.Stop.{Stop}
-use Rattle.replay.specs.declared.turns.Stop.the-variants.{Ended, NoRoom}
-use Rattle.replay.specs.declared.turns.Stop.the-variants as stop
-use Rattle.replay.specs.declared.turns.Cursor.{Cursor}
+use Rattle.script.specs.Ops.{callSize, noDraft, opIn}
+use Rattle.replay.specs.Calls.{Script, readingCall, writingCall, callOf, leftOf, firstOp, firstCall}
+use Rattle.script.specs.Report.{outcomeSize}
+use Rattle.replay.specs.Replay.{stopAt}
+use Rattle.script.specs.Cursor.{leftAt, moved, DraftWithin, Within}
+use Rattle.replay.specs.Turns.{writingAt, scriptAt, withoutMfn, Wrote, roomAt, Ran, Turned}
+use Rattle.script.specs.declared.calls.Counts.{Counts}
+use Rattle.script.specs.declared.calls.Reading.{Reading}
+use Rattle.script.specs.declared.calls.Reading.the-variants.{View, Settled, Check}
+use Rattle.script.specs.declared.calls.Writing.{Writing}
+use Rattle.script.specs.declared.calls.Writing.the-variants.{Format, Create, Update, Delete, Settle, Revert}
+use Rattle.script.specs.declared.calls.Op.{Op}
+use Rattle.script.specs.declared.calls.Op.the-variants.{Asks, Writes}
+use Rattle.script.specs.declared.calls.Op.the-variants as op
+use Rattle.script.specs.declared.report.Stop.{Stop}
+use Rattle.script.specs.declared.report.Stop.the-variants.{Ended, NoRoom}
+use Rattle.script.specs.declared.report.Stop.the-variants as stop
+use Rattle.script.specs.declared.cursor.Cursor.{Cursor}
 use Rattle.replay.specs.declared.turns.Turn.{Turn}
 use Rattle.replay.specs.declared.turns.Turn.the-variants.{Next, Stopped}
 use Rattle.replay.proofs.Decoding.{first-fits, too-short, long-enough}
@@ -99,58 +101,51 @@ pub ruleset short-answers = (view-short, settled-short)
 
 -- ---- calls that may write
 
--- by the callee that creates or updates, from the draft that it is lent
-module _ (s s′ : Store) (d : Draft) (c : Call) where
-  pub create-wrote : (r : Created) → r ≡ createOf s d → s′ ≡ createLeaves s d → c ≡ create d → Wrote s c r s′
-  unfolding answerS nextS resultS
-  create-wrote r e f h = record { outcome = rw (h, e); left = rw (h, f) }
-
-  pub update-wrote : (m : ℕ) (a : Answer) → a ≡ updateAnswer s m d → s′ ≡ updateLeaves s m d → c ≡ update m d → Wrote s c (withoutMfn a) s′
-  unfolding answerS nextS resultS
-  update-wrote m a e f h = record { outcome = rw (h, e); left = rw (h, f) }
-
--- by the call, from all drafts and the cursor
-module _ (s s′ : Store) (tags lens bytes : List ℕ) (at : Cursor) (w : Writing) (r : Created) where
-  pub create-writes : (n : Counts) → w ≡ Create n → Wrote s (writingAt tags lens bytes at (Create n)) r s′ → Wrote s (writingAt tags lens bytes at w) r s′
-  create-writes n k h = rw k h
+-- one law for each kind of call: its premises are the promises of the function that it is run by
+module _ (s s′ : Store) (d : Draft) (w : Writing) (r : Created) where
+  pub create-writes : w ≡ Create → r ≡ createOf s d → s′ ≡ createLeaves s d → Wrote s (writingCall d w) r s′
+  unfolding writingCall answerS nextS resultS
+  create-writes k e f = record { outcome = rw (k, e); left = rw (k, f) }
 
   module _ (a : Answer) (i : r ≡ withoutMfn a) where
-    pub format-writes : w ≡ Format → a ≡ formatAnswer s → s′ ≡ formatLeaves s → Wrote s (writingAt tags lens bytes at w) r s′
-    unfolding answerS nextS resultS
+    pub format-writes : w ≡ Format → a ≡ formatAnswer s → s′ ≡ formatLeaves s → Wrote s (writingCall d w) r s′
+    unfolding writingCall answerS nextS resultS
     format-writes k e f = record { outcome = rw (k, i, e); left = rw (k, f) }
 
-    pub update-writes : (m : Mfn) (n : Counts) → w ≡ Update m n → Wrote s (writingAt tags lens bytes at (Update m n)) (withoutMfn a) s′
-        → Wrote s (writingAt tags lens bytes at w) r s′
-    update-writes m n k h = rw (k, i) h
+    pub update-writes : (m : Mfn) → w ≡ Update m → a ≡ updateAnswer s (m .0) d → s′ ≡ updateLeaves s (m .0) d → Wrote s (writingCall d w) r s′
+    unfolding writingCall answerS nextS resultS
+    update-writes m k e f = record { outcome = rw (k, i, e); left = rw (k, f) }
 
-    pub delete-writes : (m : Mfn) → w ≡ Delete m → a ≡ deleteAnswer s (m .0) → s′ ≡ deleteLeaves s (m .0) → Wrote s (writingAt tags lens bytes at w) r s′
-    unfolding answerS nextS resultS
+    pub delete-writes : (m : Mfn) → w ≡ Delete m → a ≡ deleteAnswer s (m .0) → s′ ≡ deleteLeaves s (m .0) → Wrote s (writingCall d w) r s′
+    unfolding writingCall answerS nextS resultS
     delete-writes m k e f = record { outcome = rw (k, i, e); left = rw (k, f) }
 
-    pub settle-writes : (m : Mfn) → w ≡ Settle m → a ≡ settleAnswer s (m .0) → s′ ≡ settleLeaves s (m .0) → Wrote s (writingAt tags lens bytes at w) r s′
-    unfolding answerS nextS resultS
+    pub settle-writes : (m : Mfn) → w ≡ Settle m → a ≡ settleAnswer s (m .0) → s′ ≡ settleLeaves s (m .0) → Wrote s (writingCall d w) r s′
+    unfolding writingCall answerS nextS resultS
     settle-writes m k e f = record { outcome = rw (k, i, e); left = rw (k, f) }
 
-    pub revert-writes : (m : Mfn) → w ≡ Revert m → a ≡ revertAnswer s (m .0) → s′ ≡ revertLeaves s (m .0) → Wrote s (writingAt tags lens bytes at w) r s′
-    unfolding answerS nextS resultS
+    pub revert-writes : (m : Mfn) → w ≡ Revert m → a ≡ revertAnswer s (m .0) → s′ ≡ revertLeaves s (m .0) → Wrote s (writingCall d w) r s′
+    unfolding writingCall answerS nextS resultS
     revert-writes m k e f = record { outcome = rw (k, i, e); left = rw (k, f) }
 
--- the draft of a create, and of an update, lies where the call's does
-pub create-draft : (tags lens bytes : List ℕ) (at : Cursor) (w : Writing) (n : Counts) → w ≡ Create n → DraftWithin tags lens bytes at (draftOf w)
-    → DraftWithin tags lens bytes at n
-create-draft tags lens bytes at w n e h = rw e at h
+pub ruleset written-answers = (format-writes, create-writes, update-writes, delete-writes, settle-writes, revert-writes)
 
-pub update-draft : (tags lens bytes : List ℕ) (at : Cursor) (w : Writing) (m : Mfn) (n : Counts) → w ≡ Update m n → DraftWithin tags lens bytes at (draftOf w)
-    → DraftWithin tags lens bytes at n
-update-draft tags lens bytes at w m n e h = rw e at h
-
-pub ruleset written-answers = (format-writes, create-writes, update-writes, delete-writes, settle-writes, revert-writes, create-draft, update-draft)
+-- the parts of three lists that are lent as a draft are the draft at the cursor
+pub written-at : (s s′ : Store) (tags lens bytes : List ℕ) (at : Cursor) (n : Counts) (w : Writing) (r : Created)
+    → Wrote s
+    (writingCall
+    (draft
+    (take (at .tags + n .tags - at .tags) (drop (at .tags) tags))
+    (take (at .lens + n .lens - at .lens) (drop (at .lens) lens))
+    (take (at .bytes + n .bytes - at .bytes) (drop (at .bytes) bytes)))
+    w)
+    r s′
+    → Wrote s (writingAt tags lens bytes at n w) r s′
+unfolding writingAt
+written-at s s′ tags lens bytes at n w r h =
+    rw (add-sub-cancel-left (at .tags) (n .tags), add-sub-cancel-left (at .lens) (n .lens), add-sub-cancel-left (at .bytes) (n .bytes)) at h
 
 -- ---- a call is run and reported
-
--- its three numbers are stored one by one
-pub place-three : (d : List ℕ) (i x y z : ℕ) → i + 3 ≤ length d → set (set (set d i x) (i + 1) y) (i + 2) z ≡ overwrite d i (x ∷ y ∷ z ∷ [])
-place-three d i x y z h = rw (add-one i, add-two i) (overwrite-stores d i (x ∷ y ∷ z ∷ []) h)
 
 -- a call that reads leaves the store as it was
 reading-keeps : (s : Store) (r : Reading) → nextS s (readingCall r) ≡ s
@@ -197,15 +192,15 @@ module _ (mst xrf answers shown : List ℕ) (at : Cursor) (r : Reading) (sh : Sh
       }
 
 -- a call that may write is run where there is room for the three numbers: it shows nothing
-pub wrote-next : (s s′ : Store) (c : Call) (r : Created) (answers answers′ : List ℕ) (at at′ : Cursor) (k : Writing) (n : Counts)
-    → Wrote s c r s′ → outcomeSize ≤ length answers - outcomeSize * at .calls
+pub wrote-next : (s s′ : Store) (tags lens bytes : List ℕ) (r : Created) (answers answers′ : List ℕ) (at at′ : Cursor) (k : Writing) (n : Counts)
+    → Wrote s (writingAt tags lens bytes at n k) r s′ → outcomeSize ≤ length answers - outcomeSize * at .calls
     → answers′ ≡ overwrite answers (outcomeSize * at .calls) (numberOf (r .answer) ∷ r .mfn .0 ∷ 0 ∷ [])
-    → n ≡ draftOf k → at′ ≡ moved at n 0
-    → (shown : List ℕ) → Ran s c (draftOf k) answers shown at (Next at′) s′ answers′ shown
-wrote-next s s′ c r answers answers′ at at′ k n w h en z m shown =
-    let b : roomAt answers shown at (answerS s c) ≡ true = rw (le-leb outcomeSize (length answers - outcomeSize * at .calls) h, ← w .outcome, le-leb 0 (length shown - at .shown) (omega arith)) in
+    → at′ ≡ moved at n 0
+    → (shown : List ℕ) → Ran s (writingAt tags lens bytes at n k) n answers shown at (Next at′) s′ answers′ shown
+wrote-next s s′ tags lens bytes r answers answers′ at at′ k n w h en m shown =
+    let b : roomAt answers shown at (answerS s (writingAt tags lens bytes at n k)) ≡ true = rw (le-leb outcomeSize (length answers - outcomeSize * at .calls) h, ← w .outcome, le-leb 0 (length shown - at .shown) (omega arith)) in
     record {
-      turn = rw (b, ← w .outcome, m, z);
+      turn = rw (b, ← w .outcome, m);
       left = rw (b, w .left);
       numbers = rw (b, ← w .outcome) en;
       fields = rw (b, ← w .outcome) (sym (overwrite-none shown (at .shown)));
@@ -237,10 +232,10 @@ module _ (ops tags lens bytes : List ℕ) (at : Cursor) where
       sym (eo ∙ ap (opIn (drop (callSize * at .calls) ops)) l)
 
   -- so the draft of a call that may write lies within the lists
-  pub draft-within : (left : Counts) (o : Op) (w : Writing) (answers shown : List ℕ)
-      → left ≡ leftAt (length tags) (length lens) (length bytes) at → o ≡ opIn (drop (callSize * at .calls) ops) left → o ≡ Writes w
-      → Within ops tags lens bytes answers shown at → DraftWithin tags lens bytes at (draftOf w)
-  draft-within left o w answers shown el eo e i =
+  pub draft-within : (left : Counts) (o : Op) (w : Writing) (n : Counts) (answers shown : List ℕ)
+      → left ≡ leftAt (length tags) (length lens) (length bytes) at → o ≡ opIn (drop (callSize * at .calls) ops) left → o ≡ Writes w n
+      → Within ops tags lens bytes answers shown at → DraftWithin tags lens bytes at n
+  draft-within left o w n answers shown el eo e i =
       let f = rw (was-read left o el eo ∙ e) at (first-fits rest) in
       let d = i .drafts-in in
       let x = length-drop (at .tags) tags in
@@ -276,10 +271,10 @@ module _ (ops tags lens bytes : List ℕ) (at : Cursor) where
       unfolding Turned
       turned-asks r t answers′ shown′ e k = rw (called (Asks r) e, was-read left o el eo ∙ e) k
 
-      pub turned-writes : (w : Writing) (t : Turn) (s′ : Store) (answers′ : List ℕ) → o ≡ Writes w
-          → ((z : List ℕ) → Ran s (writingAt tags lens bytes at w) (draftOf w) answers z at t s′ answers′ z)
+      pub turned-writes : (w : Writing) (n : Counts) (t : Turn) (s′ : Store) (answers′ : List ℕ) → o ≡ Writes w n
+          → ((z : List ℕ) → Ran s (writingAt tags lens bytes at n w) n answers z at t s′ answers′ z)
           → Turned rest s answers shown at t s′ answers′ shown
-      unfolding Turned
-      turned-writes w t s′ answers′ e k = rw (called (Writes w) e, was-read left o el eo ∙ e) (k shown)
+      unfolding Turned writingAt
+      turned-writes w n t s′ answers′ e k = rw (called (Writes w n) e, was-read left o el eo ∙ e) (k shown)
 
 pub ruleset turns = (turned-ended, turned-short, turned-malformed, turned-asks, turned-writes)

@@ -15,18 +15,15 @@ use Rattle.ledger.specs.LedgerSteps.{answersL, afterL}
 use Rattle.ledger.specs.StoreRun.{nextS, answersS, afterS}
 use Rattle.ledger.specs.LedgerOf.{ledgerOf, SoundStore}
 use Rattle.ledger.specs.Demand3.{Kept}
+use Rattle.script.specs.Report.{outcomeSize}
 use Rattle.replay.specs.Calls.{Script, restAfter, callsOf}
-use Rattle.replay.specs.declared.turns.Stop.{Stop}
-use Rattle.replay.specs.declared.turns.Stop.the-variants.{Ended, BadLength, Malformed, NoRoom}
-use Rattle.replay.specs.declared.run.Replayed.{Replayed}
+use Rattle.script.specs.declared.report.Stop.{Stop}
+use Rattle.script.specs.declared.report.Stop.the-variants.{Ended, BadLength, Malformed, NoRoom}
+use Rattle.script.specs.declared.report.Replayed.{Replayed}
 
 -- ---- outcomes as numbers and bytes
 
--- the answer's number, the MFN, the length of what is shown. The calls of document 01 count nothing and are each one call, so that an outcome's
--- count and list of answers are not written; a call that has them adds numbers here
-abbrev pub outcomeSize : ℕ
-outcomeSize = 3
-
+-- the answer's number, the MFN, the length of what is shown
 abbrev pub numbersOf : Outcome → List ℕ
 numbersOf o = numberOf (o .answer) ∷ o .mfn ∷ length (o .shown) ∷ []
 

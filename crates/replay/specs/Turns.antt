@@ -1,77 +1,39 @@
--- Inner: serves the functions below `run`, no part of what is promised. Where a run stands in its list and in its two rooms, and what one
--- call does there.
-use Prim.Native.Nat.{ℕ, _+_, _*_, _-_, _≤_}
+-- Inner: serves the functions below `run`, no part of what is promised. What one call does, where a run
+-- stands in its list and in its two rooms.
+use Prim.Native.Nat.{ℕ, _*_, _-_}
 use mathlib.Core.Path.{_≡_}
 use mathlib.Core.Bool.{Bool, cond}
 use mathlib.Core.List.{List}
 use lib.ListN.{length, drop}
 use Rattle.word.specs.Overwrite.{overwrite}
-use Rattle.store.specs.declared.answer.Answer.{Answer}
 use Rattle.writing.specs.declared.create.Created.{Created}
 use Rattle.store.specs.Store.{Store}
 use Rattle.ledger.specs.Call.{Call, Outcome}
 use Rattle.ledger.specs.StoreRun.{createdOutcome, answerS, nextS, answersS, afterS}
-use Rattle.replay.specs.Calls.{callSize, Script, script, mfnOf, counts, noDraft, takenBy, writingCall, firstOp, firstCall, onCall, callsOf}
-use Rattle.replay.specs.Replay.{outcomeSize, numbersOf, hasRoom, fitting, stopAt, Reports, callsRun}
-use Rattle.replay.specs.declared.calls.Counts.{Counts}
-use Rattle.replay.specs.declared.calls.Writing.{Writing}
-use Rattle.replay.specs.declared.turns.Stop.{Stop}
-use Rattle.replay.specs.declared.turns.Stop.the-variants.{NoRoom}
-use Rattle.replay.specs.declared.turns.Cursor.{Cursor}
+use Rattle.store.specs.declared.answer.Answer.{Answer}
+use Rattle.script.specs.Ops.{callSize, mfnOf, takenBy}
+use Rattle.replay.specs.Calls.{Script, script, writingCall, frontDraft, firstOp, firstCall, onCall, callsOf}
+use Rattle.script.specs.Report.{outcomeSize}
+use Rattle.script.specs.Cursor.{moved}
+use Rattle.replay.specs.Replay.{numbersOf, hasRoom, stopAt, Reports, callsRun}
+use Rattle.script.specs.declared.calls.Counts.{Counts}
+use Rattle.script.specs.declared.calls.Writing.{Writing}
+use Rattle.script.specs.declared.report.Stop.the-variants.{NoRoom}
+use Rattle.script.specs.declared.cursor.Cursor.{Cursor}
 use Rattle.replay.specs.declared.turns.Turn.{Turn}
 use Rattle.replay.specs.declared.turns.Turn.the-variants.{Next, Stopped}
-use Rattle.replay.specs.declared.run.Replayed.{Replayed}
+use Rattle.script.specs.declared.report.Replayed.{Replayed}
 
 -- ---- the cursor
 
--- a call that may write, with the draft at a cursor
-abbrev pub writingAt : List ℕ → List ℕ → List ℕ → Cursor → Writing → Call
-writingAt tags lens bytes at w = writingCall (drop (at .tags) tags) (drop (at .lens) lens) (drop (at .bytes) bytes) w
+-- a call that may write, with so much of a draft at a cursor
+unfoldable pub writingAt : List ℕ → List ℕ → List ℕ → Cursor → Counts → Writing → Call
+writingAt tags lens bytes at n w = writingCall (frontDraft (drop (at .tags) tags) (drop (at .lens) lens) (drop (at .bytes) bytes) n) w
 
 -- what is left of a list of calls at a cursor
 abbrev pub scriptAt : List ℕ → List ℕ → List ℕ → List ℕ → Cursor → Script
 scriptAt ops tags lens bytes at =
     script (drop (callSize * at .calls) ops) (drop (at .tags) tags) (drop (at .lens) lens) (drop (at .bytes) bytes)
-
--- how much of the drafts is left
-abbrev pub leftAt : ℕ → ℕ → ℕ → Cursor → Counts
-leftAt tags lens bytes at = counts (tags - at .tags) (lens - at .lens) (bytes - at .bytes)
-
--- the cursor after a call with a draft that shows so many bytes
-abbrev pub moved : Cursor → Counts → ℕ → Cursor
-moved at n len =
-    record {
-      calls = at .calls + 1;
-      tags = at .tags + n .tags;
-      lens = at .lens + n .lens;
-      bytes = at .bytes + n .bytes;
-      shown = at .shown + len;
-    }
-
--- it has no number that is too high for 64 bits
-pub record Movable (at : Cursor) (n : Counts) (len : ℕ) : Type 0 where
-  pub calls-fit : at .calls + 1 ≤ 18446744073709551615
-  pub tags-fit : at .tags + n .tags ≤ 18446744073709551615
-  pub lens-fit : at .lens + n .lens ≤ 18446744073709551615
-  pub bytes-fit : at .bytes + n .bytes ≤ 18446744073709551615
-  pub shown-fit : at .shown + len ≤ 18446744073709551615
-
--- a draft at a cursor lies within the lists of drafts
-pub record DraftWithin (tags lens bytes : List ℕ) (at : Cursor) (n : Counts) : Type 0 where
-  pub tags-in : at .tags + n .tags ≤ length tags
-  pub lens-in : at .lens + n .lens ≤ length lens
-  pub bytes-in : at .bytes + n .bytes ≤ length bytes
-
--- the calls reported have their numbers and bytes within the two rooms
-pub record RoomWithin (answers shown : List ℕ) (at : Cursor) : Type 0 where
-  pub numbers-in : outcomeSize * at .calls ≤ length answers
-  pub shown-in : at .shown ≤ length shown
-
--- all of that, at a cursor
-pub record Within (ops tags lens bytes answers shown : List ℕ) (at : Cursor) : Type 0 where
-  pub ops-in : callSize * at .calls ≤ length ops
-  pub drafts-in : DraftWithin tags lens bytes at noDraft
-  pub room-in : RoomWithin answers shown at
 
 -- ---- one call
 

@@ -1,18 +1,13 @@
 // Runs a list of calls on two lent buffers and writes down what each call answers.
 use crate::turns;
-use crate::turns::Cursor;
-use crate::turns::Stop;
 use crate::turns::Turn;
+use script::cursor::Cursor;
+use script::report::Replayed;
+use script::report::Stop;
 use store::answer::Answer;
 ghost use Rattle.store.specs.Store.{store};
 ghost use Rattle.replay.specs.Calls.{script};
 ghost use Rattle.replay.specs.Replay.{Runs, Replays};
-
-// Why it stopped, and how many calls were run and reported.
-pub struct Replayed {
-    pub stop: Stop,
-    pub calls: usize,
-}
 
 // Runs a list of calls on two buffers, up to its end, to what is no call, or to the first whose outcome has no room: three numbers in `answers`,
 // and the bytes shown in `shown`. Where the buffers hold a sound store, the outcomes are THE LEDGER's.

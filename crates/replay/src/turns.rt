@@ -1,11 +1,15 @@
 // One call of a list: it is run, and what it answers is written down, where there is room.
-use crate::calls;
-use crate::calls::CALL_SIZE;
-use crate::calls::Counts;
-use crate::calls::Op;
-use crate::calls::Reading;
-use crate::calls::Writing;
 use layout::sizes::Mfn;
+use script::calls;
+use script::calls::CALL_SIZE;
+use script::calls::Counts;
+use script::calls::Op;
+use script::calls::Reading;
+use script::calls::Writing;
+use script::cursor;
+use script::cursor::Cursor;
+use script::report::OUTCOME_SIZE;
+use script::report::Stop;
 use store::answer::Answer;
 use views::views::Shown;
 use writing::create::Created;
@@ -13,38 +17,17 @@ ghost use mathlib.Core.Path.{_≡_};
 ghost use mathlib.Core.List.{List, [], _∷_};
 ghost use Prim.Native.Nat.{ℕ, _+_, _*_, _≤_};
 ghost use lib.ListN.{length};
-ghost use Rattle.word.specs.Overwrite.{overwrite};
 ghost use Rattle.layout.specs.Sizes.{mstMost};
+ghost use Rattle.word.specs.Overwrite.{overwrite};
+ghost use Rattle.drafts.specs.Draft.{draft};
 ghost use Rattle.store.specs.Answer.{numberOf};
 ghost use Rattle.store.specs.Store.{store};
 ghost use Rattle.ledger.specs.StoreRun.{shownOutcome, answerS};
-ghost use Rattle.replay.specs.Calls.{noDraft, readingCall, draftOf};
-ghost use Rattle.replay.specs.Replay.{outcomeSize};
-ghost use Rattle.replay.specs.Turns.{writingAt, scriptAt, leftAt, moved, Movable, DraftWithin, RoomWithin, Within, withoutMfn, Wrote, Ran, Turned};
-
-// The numbers of an outcome.
-pub const OUTCOME_SIZE: usize = 3;
-
-// Why a replay stopped.
-pub enum Stop {
-    // The list is at its end.
-    Ended,
-    // A buffer length is not permitted: nothing was run.
-    BadLength,
-    // What is left of the list is no call.
-    Malformed,
-    // There is no room for the outcome of the next call.
-    NoRoom,
-}
-
-// How far a replay is: calls reported, tags, lengths and bytes used, and bytes shown.
-pub struct Cursor {
-    pub calls: usize,
-    pub tags: usize,
-    pub lens: usize,
-    pub bytes: usize,
-    pub shown: usize,
-}
+ghost use Rattle.script.specs.Ops.{noDraft};
+ghost use Rattle.script.specs.Report.{outcomeSize};
+ghost use Rattle.script.specs.Cursor.{DraftWithin, RoomWithin, Within};
+ghost use Rattle.replay.specs.Calls.{readingCall, writingCall};
+ghost use Rattle.replay.specs.Turns.{writingAt, scriptAt, withoutMfn, Wrote, Ran, Turned};
 
 // What a turn does: one call is reported, or the replay stops.
 pub enum Turn {
@@ -77,51 +60,6 @@ fn ask(mst: &[u8], xrf: &[u8], r: Reading) -> Shown
     }
 }
 
-// Creates a record of the draft at a cursor.
-fn create_next(
-    mst: &mut [u8],
-    xrf: &mut [u8],
-    tags: &[u16],
-    lens: &[u16],
-    data: &[u8],
-    at: Cursor,
-    n: Counts,
-) -> Created
-    requires { ⌜ DraftWithin (now tags) (now lens) (now «data») at n ⌝ }
-    ensures { λ r. ⌜ Wrote (store (now (mst .entry)) (now (xrf .entry))) (writingAt (now (tags .entry)) (now (lens .entry)) (now («data» .entry)) at (Writing.Create n)) r (store (now (mst .exit)) (now (xrf .exit))) ⌝ }
-{
-    let t = at.tags;
-    let l = at.lens;
-    let d = at.bytes;
-    let te = t + n.tags;
-    let le = l + n.lens;
-    let de = d + n.bytes;
-    writing::create::create(mst, xrf, &tags[t..te], &lens[l..le], &data[d..de])
-}
-
-// Updates a record with the draft at a cursor.
-fn update_next(
-    mst: &mut [u8],
-    xrf: &mut [u8],
-    m: Mfn,
-    tags: &[u16],
-    lens: &[u16],
-    data: &[u8],
-    at: Cursor,
-    n: Counts,
-) -> Answer
-    requires { ⌜ DraftWithin (now tags) (now lens) (now «data») at n ⌝ }
-    ensures { λ r. ⌜ Wrote (store (now (mst .entry)) (now (xrf .entry))) (writingAt (now (tags .entry)) (now (lens .entry)) (now («data» .entry)) at (Writing.Update m n)) (withoutMfn r) (store (now (mst .exit)) (now (xrf .exit))) ⌝ }
-{
-    let t = at.tags;
-    let l = at.lens;
-    let d = at.bytes;
-    let te = t + n.tags;
-    let le = l + n.lens;
-    let de = d + n.bytes;
-    writing::changes::update(mst, xrf, m, &tags[t..te], &lens[l..le], &data[d..de])
-}
-
 // The answer of a call that returns no MFN.
 fn without_mfn(answer: Answer) -> Created
     ensures { λ r. ⌜ r ≡ withoutMfn answer ⌝ }
@@ -132,7 +70,7 @@ fn without_mfn(answer: Answer) -> Created
     }
 }
 
-// Runs a call that may write.
+// Runs a call that may write, with its draft.
 fn write(
     mst: &mut [u8],
     xrf: &mut [u8],
@@ -140,19 +78,42 @@ fn write(
     tags: &[u16],
     lens: &[u16],
     data: &[u8],
-    at: Cursor,
 ) -> Created
-    requires { ⌜ DraftWithin (now tags) (now lens) (now «data») at (draftOf w) ⌝ }
-    ensures { λ r. ⌜ Wrote (store (now (mst .entry)) (now (xrf .entry))) (writingAt (now (tags .entry)) (now (lens .entry)) (now («data» .entry)) at w) r (store (now (mst .exit)) (now (xrf .exit))) ⌝ }
+    ensures { λ r. ⌜ Wrote (store (now (mst .entry)) (now (xrf .entry))) (writingCall (draft (now (tags .entry)) (now (lens .entry)) (now («data» .entry))) w) r (store (now (mst .exit)) (now (xrf .exit))) ⌝ }
 {
     match w {
         Writing::Format => without_mfn(writing::format::format(mst, xrf)),
-        Writing::Create(n) => create_next(mst, xrf, tags, lens, data, at, n),
-        Writing::Update(m, n) => without_mfn(update_next(mst, xrf, m, tags, lens, data, at, n)),
+        Writing::Create => writing::create::create(mst, xrf, tags, lens, data),
+        Writing::Update(m) => {
+            without_mfn(writing::changes::update(mst, xrf, m, tags, lens, data))
+        }
         Writing::Delete(m) => without_mfn(writing::changes::delete(mst, xrf, m)),
         Writing::Settle(m) => without_mfn(writing::settling::settle(mst, xrf, m)),
         Writing::Revert(m) => without_mfn(writing::settling::revert(mst, xrf, m)),
     }
+}
+
+// Runs a call that may write, with so much of a draft at a cursor.
+fn write_at(
+    mst: &mut [u8],
+    xrf: &mut [u8],
+    w: Writing,
+    tags: &[u16],
+    lens: &[u16],
+    data: &[u8],
+    at: Cursor,
+    n: Counts,
+) -> Created
+    requires { ⌜ DraftWithin (now tags) (now lens) (now «data») at n ⌝ }
+    ensures { λ r. ⌜ Wrote (store (now (mst .entry)) (now (xrf .entry))) (writingAt (now (tags .entry)) (now (lens .entry)) (now («data» .entry)) at n w) r (store (now (mst .exit)) (now (xrf .exit))) ⌝ }
+{
+    let t = at.tags;
+    let l = at.lens;
+    let d = at.bytes;
+    let te = t + n.tags;
+    let le = l + n.lens;
+    let de = d + n.bytes;
+    write(mst, xrf, w, &tags[t..te], &lens[l..le], &data[d..de])
 }
 
 // Writes the three numbers of an outcome at `i`.
@@ -163,20 +124,6 @@ fn put_numbers(answers: &mut [u32], i: usize, answer: Answer, mfn: u32, len: u32
     answers[i] = store::answer::number(answer);
     answers[i + 1] = mfn;
     answers[i + 2] = len;
-}
-
-// The cursor after a call with a draft that shows `len` bytes.
-fn move_cursor(at: Cursor, n: Counts, len: usize) -> Cursor
-    requires { ⌜ Movable at n len ⌝ }
-    ensures { λ r. ⌜ r ≡ moved at n len ⌝ }
-{
-    Cursor {
-        calls: at.calls + 1,
-        tags: at.tags + n.tags,
-        lens: at.lens + n.lens,
-        bytes: at.bytes + n.bytes,
-        shown: at.shown + len,
-    }
 }
 
 // Runs and reports a call that only reads, where there is room.
@@ -206,7 +153,7 @@ fn ask_turn(
     let start = s.start;
     let end = start + len;
     word::bytes::copy_to(shown, b, &mst[start..end]);
-    Turn::Next(move_cursor(at, calls::no_draft(), len))
+    Turn::Next(cursor::move_cursor(at, calls::no_draft(), len))
 }
 
 // Runs and reports a call that may write, where there is room.
@@ -219,32 +166,21 @@ fn write_turn(
     data: &[u8],
     answers: &mut [u32],
     at: Cursor,
+    n: Counts,
 ) -> Turn
-    requires { ⌜ DraftWithin (now tags) (now lens) (now «data») at (draftOf w) ⌝ }
+    requires { ⌜ DraftWithin (now tags) (now lens) (now «data») at n ⌝ }
     requires { ⌜ outcomeSize * at .calls ≤ length (now answers) ⌝ }
-    ensures { λ t. ⌜ ((shown : List ℕ) → Ran (store (now (mst .entry)) (now (xrf .entry))) (writingAt (now (tags .entry)) (now (lens .entry)) (now («data» .entry)) at w) (draftOf w) (now (answers .entry)) shown at t (store (now (mst .exit)) (now (xrf .exit))) (now (answers .exit)) shown) ⌝ }
+    ensures { λ t. ⌜ ((shown : List ℕ) → Ran (store (now (mst .entry)) (now (xrf .entry))) (writingAt (now (tags .entry)) (now (lens .entry)) (now («data» .entry)) at n w) n (now (answers .entry)) shown at t (store (now (mst .exit)) (now (xrf .exit))) (now (answers .exit)) shown) ⌝ }
 {
     let i = OUTCOME_SIZE * at.calls;
     if answers.len() - i < OUTCOME_SIZE {
         return Turn::Stopped(Stop::NoRoom);
     }
-    let next = move_cursor(at, calls::draft_of(w), 0);
-    let c = write(mst, xrf, w, tags, lens, data, at);
+    let next = cursor::move_cursor(at, n, 0);
+    let c = write_at(mst, xrf, w, tags, lens, data, at, n);
     let a = c.answer;
     put_numbers(answers, i, a, c.mfn.0, 0);
     Turn::Next(next)
-}
-
-// How much of the drafts is left at a cursor.
-fn left_at(tags: usize, lens: usize, bytes: usize, at: Cursor) -> Counts
-    requires { ⌜ (at .tags ≤ tags) × (at .lens ≤ lens) × (at .bytes ≤ bytes) ⌝ }
-    ensures { λ r. ⌜ r ≡ leftAt tags lens bytes at ⌝ }
-{
-    Counts {
-        tags: tags - at.tags,
-        lens: lens - at.lens,
-        bytes: bytes - at.bytes,
-    }
 }
 
 // One call: the first of what is left at a cursor.
@@ -269,10 +205,14 @@ pub(crate) fn one_turn(
     if ops.len() - i < CALL_SIZE {
         return Turn::Stopped(Stop::Malformed);
     }
-    let op = calls::read_op(ops, i, left_at(tags.len(), lens.len(), data.len(), at));
+    let op = calls::read_op(
+        ops,
+        i,
+        cursor::left_at(tags.len(), lens.len(), data.len(), at),
+    );
     match op {
         Op::Asks(r) => ask_turn(mst, xrf, r, answers, shown, at),
-        Op::Writes(w) => write_turn(mst, xrf, w, tags, lens, data, answers, at),
+        Op::Writes(w, n) => write_turn(mst, xrf, w, tags, lens, data, answers, at, n),
         Op::Malformed => Turn::Stopped(Stop::Malformed),
     }
 }

@@ -35,7 +35,7 @@ write-turn-requires c κs =
     let known = c .before .before .before .before in
     let read = known .before .before in
     let within = read .before .before .before .before .before .before .before .before .before .before .before .before .before .pre in
-    (draft-within _ _ _ _ _ _ _ _ _ _ (read .before .left-at .ensures) (read .read-op .ensures) (known .op2 .given .1) within, search needs)
+    (draft-within _ _ _ _ _ _ _ _ _ _ _ (read .before .left-at .ensures) (read .read-op .ensures) (known .op2 .given .1) within, search needs)
 
 enum-told : tie.Need-enum-told
 enum-told c = search needs

@@ -1,4 +1,4 @@
-use Rattle.replay.proofs.Turning.{place-three}
+use Rattle.replay.proofs.Numbers.{place-three}
 use lib.ListN.{length-set}
 use native.Mathlib.Omega.{arith}
 use borrow.Author.Needs.{needs}

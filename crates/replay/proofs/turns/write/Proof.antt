@@ -12,23 +12,23 @@ format-requires c κs = search needs
 without-mfn-requires : tie.Need-without-mfn-requires
 without-mfn-requires c κs = search needs
 
+enum-told-2 : tie.Need-enum-told-2
+enum-told-2 c = search needs
+
+create-requires : tie.Need-create-requires
+create-requires c κs = search needs
+
 enum-known-w : tie.Need-enum-known-w
 enum-known-w c = search needs
 
-create-next-requires : tie.Need-create-next-requires
-create-next-requires c κs = search written-answers
-
-enum-known-w-2 : tie.Need-enum-known-w-2
-enum-known-w-2 c = search needs
-
-update-next-requires : tie.Need-update-next-requires
-update-next-requires c κs = search written-answers
+update-requires : tie.Need-update-requires
+update-requires c κs = search needs
 
 without-mfn-requires-2 : tie.Need-without-mfn-requires-2
 without-mfn-requires-2 c κs = search needs
 
-enum-known-w-3 : tie.Need-enum-known-w-3
-enum-known-w-3 c = search needs
+enum-known-w-2 : tie.Need-enum-known-w-2
+enum-known-w-2 c = search needs
 
 delete-requires : tie.Need-delete-requires
 delete-requires c κs = search needs
@@ -36,8 +36,8 @@ delete-requires c κs = search needs
 without-mfn-requires-3 : tie.Need-without-mfn-requires-3
 without-mfn-requires-3 c κs = search needs
 
-enum-known-w-4 : tie.Need-enum-known-w-4
-enum-known-w-4 c = search needs
+enum-known-w-3 : tie.Need-enum-known-w-3
+enum-known-w-3 c = search needs
 
 settle-requires : tie.Need-settle-requires
 settle-requires c κs = search needs
@@ -45,8 +45,8 @@ settle-requires c κs = search needs
 without-mfn-requires-4 : tie.Need-without-mfn-requires-4
 without-mfn-requires-4 c κs = search needs
 
-enum-known-w-5 : tie.Need-enum-known-w-5
-enum-known-w-5 c = search needs
+enum-known-w-4 : tie.Need-enum-known-w-4
+enum-known-w-4 c = search needs
 
 revert-requires : tie.Need-revert-requires
 revert-requires c κs = search needs
@@ -115,18 +115,18 @@ write-spec =
     enum-told
     format-requires
     without-mfn-requires
+    enum-told-2
+    create-requires
     enum-known-w
-    create-next-requires
-    enum-known-w-2
-    update-next-requires
+    update-requires
     without-mfn-requires-2
-    enum-known-w-3
+    enum-known-w-2
     delete-requires
     without-mfn-requires-3
-    enum-known-w-4
+    enum-known-w-3
     settle-requires
     without-mfn-requires-4
-    enum-known-w-5
+    enum-known-w-4
     revert-requires
     without-mfn-requires-5
     same-length

@@ -12,22 +12,12 @@ sub-if1 c = search needs
 returns : tie.Need-returns
 returns c = λ shown. search written-turns
 
-draft-of-requires : tie.Need-draft-of-requires
-draft-of-requires c κs = search needs
-
 move-cursor-requires : tie.Need-move-cursor-requires
 move-cursor-requires c κs =
-    let draft = c .draft-of .ensures in
-    record {
-      calls-fit = search needs;
-      tags-fit = rw draft (search needs);
-      lens-fit = rw draft (search needs);
-      bytes-fit = rw draft (search needs);
-      shown-fit = search needs;
-    }
+    record { calls-fit = search needs; tags-fit = search needs; lens-fit = search needs; bytes-fit = search needs; shown-fit = search needs }
 
-write-requires : tie.Need-write-requires
-write-requires c κs = search needs
+write-at-requires : tie.Need-write-at-requires
+write-at-requires c κs = search needs
 
 put-numbers-requires : tie.Need-put-numbers-requires
 put-numbers-requires c κs = search needs
@@ -51,9 +41,8 @@ write-turn-spec =
     mul-i
     sub-if1
     returns
-    draft-of-requires
     move-cursor-requires
-    write-requires
+    write-at-requires
     put-numbers-requires
     same-length
     same-length-2

@@ -3,8 +3,8 @@ use Prim.Native.Nat.{_≤_, _-_}
 use native.Mathlib.Omega.{arith}
 use lib.ListN.{length}
 use borrow.Author.Needs.{needs}
-use Rattle.replay_run.proofs.print_outcomes.Statement.{statement}
-use Rattle.replay_run.proofs.print_outcomes.Tie as tie
+use Rattle.printing.proofs.print_outcomes.Statement.{statement}
+use Rattle.printing.proofs.print_outcomes.Tie as tie
 
 abbrev Inv-loop : tie.InvT-loop
 Inv-loop calls answers shown i₀ from₀ i from = (from ≤ length shown) × (i ≤ calls)

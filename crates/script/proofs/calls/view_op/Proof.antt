@@ -1,7 +1,7 @@
 use borrow.Author.Tests.{le-leb, lt-leb}
 use borrow.Author.Needs.{needs}
-use Rattle.replay.proofs.calls.view_op.Statement.{statement}
-use Rattle.replay.proofs.calls.view_op.Tie as tie
+use Rattle.script.proofs.calls.view_op.Statement.{statement}
+use Rattle.script.proofs.calls.view_op.Tie as tie
 
 returns : tie.Need-returns
 returns c = rw (lt-leb _ _ (c .if1 .taken))

@@ -1,7 +1,7 @@
-use Rattle.replay.proofs.Decoding.{op-at}
+use Rattle.script.proofs.Decoding.{op-at}
 use borrow.Author.Needs.{needs}
-use Rattle.replay.proofs.calls.read_op.Statement.{statement}
-use Rattle.replay.proofs.calls.read_op.Tie as tie
+use Rattle.script.proofs.calls.read_op.Statement.{statement}
+use Rattle.script.proofs.calls.read_op.Tie as tie
 
 mul-op-named : tie.Need-mul-op-named
 mul-op-named c = search needs

@@ -1,6 +1,6 @@
 use borrow.Author.Needs.{needs}
-use Rattle.replay.proofs.calls.op_fitting.Statement.{statement}
-use Rattle.replay.proofs.calls.op_fitting.Tie as tie
+use Rattle.script.proofs.calls.op_fitting.Statement.{statement}
+use Rattle.script.proofs.calls.op_fitting.Tie as tie
 
 taken-by-requires : tie.Need-taken-by-requires
 taken-by-requires c κs = search needs

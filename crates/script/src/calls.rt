@@ -4,10 +4,10 @@ use layout::sizes::Tag;
 ghost use mathlib.Core.Path.{_≡_};
 ghost use Prim.Native.Nat.{_+_, _≤_};
 ghost use lib.ListN.{length, drop};
-ghost use Rattle.replay.specs.Calls.{callSize, noDraft, countsFit, viewOp, opNamed, draftOf, takenBy, opFitting, opIn};
+ghost use Rattle.script.specs.Ops.{callSize, noDraft, countsFit, viewOp, opNamed, takenBy, opFitting, opIn};
 
 // The numbers of a call.
-pub(crate) const CALL_SIZE: usize = 5;
+pub const CALL_SIZE: usize = 5;
 
 // How many tags, lengths and bytes a draft takes, or are left.
 pub struct Counts {
@@ -23,24 +23,24 @@ pub enum Reading {
     Check,
 }
 
-// A call that may write. A draft is the next of each of the three lists.
+// A call that may write.
 pub enum Writing {
     Format,
-    Create(Counts),
-    Update(Mfn, Counts),
+    Create,
+    Update(Mfn),
     Delete(Mfn),
     Settle(Mfn),
     Revert(Mfn),
 }
 
-// The next call of a list.
+// The next call of a list. One that may write takes the next of each of the three lists of drafts.
 pub enum Op {
     Asks(Reading),
-    Writes(Writing),
+    Writes(Writing, Counts),
     Malformed,
 }
 
-pub(crate) fn no_draft() -> Counts
+pub fn no_draft() -> Counts
     ensures { λ r. ⌜ r ≡ noDraft ⌝ }
 {
     Counts {
@@ -95,40 +95,28 @@ fn op_named(call: u32, m: u32, x: u32, y: u32, z: u32) -> Op
         lens: y as usize,
         bytes: z as usize,
     };
+    let none = no_draft();
     match call {
-        0 => Op::Writes(Writing::Format),
+        0 => Op::Writes(Writing::Format, none),
         1 => view_op(false, m, x, y),
         2 => view_op(true, m, x, y),
-        3 => Op::Writes(Writing::Create(n)),
-        4 => Op::Writes(Writing::Update(Mfn(m), n)),
-        5 => Op::Writes(Writing::Delete(Mfn(m))),
-        6 => Op::Writes(Writing::Settle(Mfn(m))),
-        7 => Op::Writes(Writing::Revert(Mfn(m))),
+        3 => Op::Writes(Writing::Create, n),
+        4 => Op::Writes(Writing::Update(Mfn(m)), n),
+        5 => Op::Writes(Writing::Delete(Mfn(m)), none),
+        6 => Op::Writes(Writing::Settle(Mfn(m)), none),
+        7 => Op::Writes(Writing::Revert(Mfn(m)), none),
         8 => Op::Asks(Reading::Check),
         _ => Op::Malformed,
     }
 }
 
 // The draft that a call takes.
-pub(crate) fn draft_of(w: Writing) -> Counts
-    ensures { λ r. ⌜ r ≡ draftOf w ⌝ }
-{
-    match w {
-        Writing::Format => no_draft(),
-        Writing::Create(n) => n,
-        Writing::Update(_, n) => n,
-        Writing::Delete(_) => no_draft(),
-        Writing::Settle(_) => no_draft(),
-        Writing::Revert(_) => no_draft(),
-    }
-}
-
 fn taken_by(op: Op) -> Counts
     ensures { λ r. ⌜ r ≡ takenBy op ⌝ }
 {
     match op {
         Op::Asks(_) => no_draft(),
-        Op::Writes(w) => draft_of(w),
+        Op::Writes(_, n) => n,
         Op::Malformed => no_draft(),
     }
 }
@@ -145,7 +133,7 @@ fn op_fitting(op: Op, left: Counts) -> Op
 }
 
 // The call whose five numbers stand at `i`, where so much of the drafts is left.
-pub(crate) fn read_op(ops: &[u32], i: usize, left: Counts) -> Op
+pub fn read_op(ops: &[u32], i: usize, left: Counts) -> Op
     requires { ⌜ i + callSize ≤ length (now ops) ⌝ }
     ensures { λ r. ⌜ r ≡ opIn (drop i (now (ops .entry))) left ⌝ }
 {

@@ -1,8 +1,11 @@
-use Rattle.replay.proofs.Decoding.{op-none}
-use Rattle.replay.specs.Calls.{opNamed}
+use Rattle.script.proofs.Decoding.{op-none}
+use Rattle.script.specs.Ops.{opNamed}
 use borrow.Author.Needs.{needs}
-use Rattle.replay.proofs.calls.op_named.Statement.{statement}
-use Rattle.replay.proofs.calls.op_named.Tie as tie
+use Rattle.script.proofs.calls.op_named.Statement.{statement}
+use Rattle.script.proofs.calls.op_named.Tie as tie
+
+no-draft-requires : tie.Need-no-draft-requires
+no-draft-requires c κs = search needs
 
 view-op-requires : tie.Need-view-op-requires
 view-op-requires c κs = search needs
@@ -12,7 +15,7 @@ view-op-requires-2 c κs = search needs
 
 returns : tie.Need-returns
 unfolding opNamed
-returns c = rw (c .match .keys1)
+returns c = rw (c .match .keys1, c .before .no-draft .ensures)
 
 returns-2 : tie.Need-returns-2
 unfolding opNamed
@@ -32,15 +35,15 @@ returns-5 c = rw (c .match .keys5)
 
 returns-6 : tie.Need-returns-6
 unfolding opNamed
-returns-6 c = rw (c .match .keys6)
+returns-6 c = rw (c .match .keys6, c .before .no-draft .ensures)
 
 returns-7 : tie.Need-returns-7
 unfolding opNamed
-returns-7 c = rw (c .match .keys7)
+returns-7 c = rw (c .match .keys7, c .before .no-draft .ensures)
 
 returns-8 : tie.Need-returns-8
 unfolding opNamed
-returns-8 c = rw (c .match .keys8)
+returns-8 c = rw (c .match .keys8, c .before .no-draft .ensures)
 
 returns-9 : tie.Need-returns-9
 unfolding opNamed
@@ -55,6 +58,7 @@ pub op-named-spec : {M : Type 1} → statement M
 op-named-spec =
     tie.close
     (tie.spec
+    no-draft-requires
     view-op-requires
     view-op-requires-2
     returns

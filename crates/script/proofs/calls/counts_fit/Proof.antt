@@ -1,6 +1,6 @@
-use Rattle.replay.proofs.Decoding.{count-answers}
-use Rattle.replay.proofs.calls.counts_fit.Statement.{statement}
-use Rattle.replay.proofs.calls.counts_fit.Tie as tie
+use Rattle.script.proofs.Decoding.{count-answers}
+use Rattle.script.proofs.calls.counts_fit.Statement.{statement}
+use Rattle.script.proofs.calls.counts_fit.Tie as tie
 
 returns : tie.Need-returns
 returns c = search count-answers
