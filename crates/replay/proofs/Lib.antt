@@ -1,4 +1,3 @@
-pub mod Numbers
 pub mod Decoding
 pub mod Turning
 pub mod Running

@@ -177,32 +177,32 @@ module _ (mst xrf answers shown : List ℕ) (at : Cursor) (r : Reading) (sh : Sh
   pub no-bytes : length shown - at .shown < sh .len → Ran s (readingCall r) noDraft answers shown at (Stopped NoRoom) s answers shown
   no-bytes k = full s (readingCall r) noDraft answers shown at (rw (le-leb outcomeSize (length answers - outcomeSize * at .calls) h, shown-length, lt-leb (sh .len) (length shown - at .shown) k))
 
-  pub asked-next : (answers′ shown′ : List ℕ) (n : Counts) (at′ : Cursor) → sh .len ≤ length shown - at .shown
-      → answers′ ≡ overwrite answers (outcomeSize * at .calls) (numberOf (sh .answer) ∷ 0 ∷ sh .len ∷ [])
+  pub asked-next : (answers′ shown′ : List ℕ) (a : ℕ) (n : Counts) (at′ : Cursor) → sh .len ≤ length shown - at .shown
+      → a ≡ numberOf (sh .answer) → answers′ ≡ overwrite answers (outcomeSize * at .calls) (a ∷ 0 ∷ sh .len ∷ [])
       → shown′ ≡ overwrite shown (at .shown) (part mst (sh .start) (sh .start + sh .len - sh .start))
       → n ≡ noDraft → at′ ≡ moved at n (sh .len)
       → Ran s (readingCall r) noDraft answers shown at (Next at′) s answers′ shown′
-  asked-next answers′ shown′ n at′ k en ef z m =
+  asked-next answers′ shown′ a n at′ k ea en ef z m =
       let b : roomAt answers shown at o ≡ true = rw (le-leb outcomeSize (length answers - outcomeSize * at .calls) h, shown-length, le-leb (sh .len) (length shown - at .shown) k) in
       record {
         turn = rw (b, shown-length, m, z);
         left = rw (b, reading-keeps s r);
-        numbers = rw (b, shown-length, ← e) en;
+        numbers = rw (b, shown-length, ← e, ← ea) en;
         fields = rw (b, ← e) (rw (add-sub-cancel-left (sh .start) (sh .len)) at ef);
       }
 
 -- a call that may write is run where there is room for the three numbers: it shows nothing
-pub wrote-next : (s s′ : Store) (tags lens bytes : List ℕ) (r : Created) (answers answers′ : List ℕ) (at at′ : Cursor) (k : Writing) (n : Counts)
+pub wrote-next : (s s′ : Store) (tags lens bytes : List ℕ) (r : Created) (answers answers′ : List ℕ) (a : ℕ) (at at′ : Cursor) (k : Writing) (n : Counts)
     → Wrote s (writingAt tags lens bytes at n k) r s′ → outcomeSize ≤ length answers - outcomeSize * at .calls
-    → answers′ ≡ overwrite answers (outcomeSize * at .calls) (numberOf (r .answer) ∷ r .mfn .0 ∷ 0 ∷ [])
+    → a ≡ numberOf (r .answer) → answers′ ≡ overwrite answers (outcomeSize * at .calls) (a ∷ r .mfn .0 ∷ 0 ∷ [])
     → at′ ≡ moved at n 0
     → (shown : List ℕ) → Ran s (writingAt tags lens bytes at n k) n answers shown at (Next at′) s′ answers′ shown
-wrote-next s s′ tags lens bytes r answers answers′ at at′ k n w h en m shown =
+wrote-next s s′ tags lens bytes r answers answers′ a at at′ k n w h ea en m shown =
     let b : roomAt answers shown at (answerS s (writingAt tags lens bytes at n k)) ≡ true = rw (le-leb outcomeSize (length answers - outcomeSize * at .calls) h, ← w .outcome, le-leb 0 (length shown - at .shown) (omega arith)) in
     record {
       turn = rw (b, ← w .outcome, m);
       left = rw (b, w .left);
-      numbers = rw (b, ← w .outcome) en;
+      numbers = rw (b, ← w .outcome, ← ea) en;
       fields = rw (b, ← w .outcome) (sym (overwrite-none shown (at .shown)));
     }
 

@@ -8,19 +8,18 @@ use script::calls::Reading;
 use script::calls::Writing;
 use script::cursor;
 use script::cursor::Cursor;
+use script::report;
 use script::report::OUTCOME_SIZE;
 use script::report::Stop;
 use store::answer::Answer;
 use views::views::Shown;
 use writing::create::Created;
 ghost use mathlib.Core.Path.{_≡_};
-ghost use mathlib.Core.List.{List, [], _∷_};
+ghost use mathlib.Core.List.{List};
 ghost use Prim.Native.Nat.{ℕ, _+_, _*_, _≤_};
 ghost use lib.ListN.{length};
 ghost use Rattle.layout.specs.Sizes.{mstMost};
-ghost use Rattle.word.specs.Overwrite.{overwrite};
 ghost use Rattle.drafts.specs.Draft.{draft};
-ghost use Rattle.store.specs.Answer.{numberOf};
 ghost use Rattle.store.specs.Store.{store};
 ghost use Rattle.ledger.specs.StoreRun.{shownOutcome, answerS};
 ghost use Rattle.script.specs.Ops.{noDraft};
@@ -116,16 +115,6 @@ fn write_at(
     write(mst, xrf, w, &tags[t..te], &lens[l..le], &data[d..de])
 }
 
-// Writes the three numbers of an outcome at `i`.
-fn put_numbers(answers: &mut [u32], i: usize, answer: Answer, mfn: u32, len: u32)
-    requires { ⌜ i + outcomeSize ≤ length (now answers) ⌝ }
-    ensures { λ _. ⌜ now (answers .exit) ≡ overwrite (now (answers .entry)) i (numberOf answer ∷ mfn ∷ len ∷ []) ⌝ }
-{
-    answers[i] = store::answer::number(answer);
-    answers[i + 1] = mfn;
-    answers[i + 2] = len;
-}
-
 // Runs and reports a call that only reads, where there is room.
 fn ask_turn(
     mst: &[u8],
@@ -148,12 +137,13 @@ fn ask_turn(
     if shown.len() - b < len {
         return Turn::Stopped(Stop::NoRoom);
     }
+    let next = cursor::move_cursor(at, calls::no_draft(), len);
     let a = s.answer;
-    put_numbers(answers, i, a, 0, len as u32);
+    report::put_numbers(answers, i, store::answer::number(a), 0, len as u32);
     let start = s.start;
     let end = start + len;
     word::bytes::copy_to(shown, b, &mst[start..end]);
-    Turn::Next(cursor::move_cursor(at, calls::no_draft(), len))
+    Turn::Next(next)
 }
 
 // Runs and reports a call that may write, where there is room.
@@ -179,7 +169,7 @@ fn write_turn(
     let next = cursor::move_cursor(at, n, 0);
     let c = write_at(mst, xrf, w, tags, lens, data, at, n);
     let a = c.answer;
-    put_numbers(answers, i, a, c.mfn.0, 0);
+    report::put_numbers(answers, i, store::answer::number(a), c.mfn.0, 0);
     Turn::Next(next)
 }
 

@@ -21,6 +21,23 @@ sub-if2 c = search needs
 returns-2 : tie.Need-returns-2
 returns-2 c = search asked-turns
 
+no-draft-requires : tie.Need-no-draft-requires
+no-draft-requires c κs = search needs
+
+move-cursor-requires : tie.Need-move-cursor-requires
+move-cursor-requires c κs =
+    let draft = c .no-draft .ensures in
+    record {
+      calls-fit = search needs;
+      tags-fit = rw draft (search needs);
+      lens-fit = rw draft (search needs);
+      bytes-fit = rw draft (search needs);
+      shown-fit = search needs;
+    }
+
+number-requires : tie.Need-number-requires
+number-requires c κs = search needs
+
 cast-put-numbers : tie.Need-cast-put-numbers
 cast-put-numbers c = search needs
 
@@ -42,20 +59,6 @@ part-copy-to-end c = search needs
 copy-to-requires : tie.Need-copy-to-requires
 copy-to-requires c κs = search needs
 
-no-draft-requires : tie.Need-no-draft-requires
-no-draft-requires c κs = search needs
-
-move-cursor-requires : tie.Need-move-cursor-requires
-move-cursor-requires c κs =
-    let draft = c .no-draft .ensures in
-    record {
-      calls-fit = search needs;
-      tags-fit = rw draft (search needs);
-      lens-fit = rw draft (search needs);
-      bytes-fit = rw draft (search needs);
-      shown-fit = search needs;
-    }
-
 same-length : tie.Need-same-length
 same-length c = search needs
 
@@ -75,6 +78,9 @@ ask-turn-spec =
     ask-requires
     sub-if2
     returns-2
+    no-draft-requires
+    move-cursor-requires
+    number-requires
     cast-put-numbers
     put-numbers-requires
     add-end
@@ -82,8 +88,6 @@ ask-turn-spec =
     part-copy-to-start
     part-copy-to-end
     copy-to-requires
-    no-draft-requires
-    move-cursor-requires
     same-length
     same-length-2
     returns-3)

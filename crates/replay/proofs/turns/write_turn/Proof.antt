@@ -19,6 +19,9 @@ move-cursor-requires c κs =
 write-at-requires : tie.Need-write-at-requires
 write-at-requires c κs = search needs
 
+number-requires : tie.Need-number-requires
+number-requires c κs = search needs
+
 put-numbers-requires : tie.Need-put-numbers-requires
 put-numbers-requires c κs = search needs
 
@@ -43,6 +46,7 @@ write-turn-spec =
     returns
     move-cursor-requires
     write-at-requires
+    number-requires
     put-numbers-requires
     same-length
     same-length-2

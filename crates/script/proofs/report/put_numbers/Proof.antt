@@ -1,12 +1,9 @@
-use Rattle.replay.proofs.Numbers.{place-three}
+use Rattle.script.proofs.Numbers.{place-three}
 use lib.ListN.{length-set}
 use native.Mathlib.Omega.{arith}
 use borrow.Author.Needs.{needs}
-use Rattle.replay.proofs.turns.put_numbers.Statement.{statement}
-use Rattle.replay.proofs.turns.put_numbers.Tie as tie
-
-number-requires : tie.Need-number-requires
-number-requires c κs = search needs
+use Rattle.script.proofs.report.put_numbers.Statement.{statement}
+use Rattle.script.proofs.report.put_numbers.Tie as tie
 
 mul-answers : tie.Need-mul-answers
 mul-answers c = search needs
@@ -36,13 +33,12 @@ same-length : tie.Need-same-length
 same-length c = search needs
 
 returns : tie.Need-returns
-returns c = rw (← c .number .ensures) (place-three _ _ _ _ _ (c .before .before .pre))
+returns c = place-three _ _ _ _ _ (c .pre)
 
 pub put-numbers-spec : {M : Type 1} → statement M
 put-numbers-spec =
     tie.close
     (tie.spec
-    number-requires
     mul-answers
     slice-write-answers
     add-answers
