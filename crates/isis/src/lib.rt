@@ -8,8 +8,8 @@ ghost use Rattle.writing.specs.Refusals.{formatAnswer, updateAnswer, deleteAnsw
 ghost use Rattle.writing.specs.Calls.{formatLeaves, createOf, createLeaves, updateLeaves, deleteLeaves, settleLeaves, revertLeaves};
 ghost use Rattle.views.specs.Views.{viewOf, settledViewOf};
 ghost use Rattle.views.specs.Fields.{fieldOf, settledFieldOf};
-ghost use Rattle.views.specs.Listing.{lists, allFieldsOf, allFieldsLeaves, settledAllFieldsOf, settledAllFieldsLeaves};
-ghost use Rattle.views.specs.State.{nextFreeOf, stateOf, markNumber, deletedNumber};
+ghost use Rattle.asking.specs.Listing.{lists, allFieldsOf, allFieldsLeaves, settledAllFieldsOf, settledAllFieldsLeaves};
+ghost use Rattle.asking.specs.State.{nextFreeOf, stateOf, markNumber, deletedNumber};
 ghost use Rattle.soundness.specs.Sound.{checkAnswer};
 ghost use Rattle.store.specs.Store.{store};
 ghost use Rattle.drafts.specs.Draft.{draft};
@@ -130,7 +130,7 @@ pub extern "C" fn isis_fields(
     ensures counts { λ _. ⌜ now (count .exit) ≡ allFieldsOf (store (now (mst .entry)) (now (xrf .entry))) mfn (lists (now (tags .entry)) (now (starts .entry)) (now (lens .entry))) .count ⌝ }
     ensures left { λ _. ⌜ lists (now (tags .exit)) (now (starts .exit)) (now (lens .exit)) ≡ allFieldsLeaves (store (now (mst .entry)) (now (xrf .entry))) mfn (lists (now (tags .entry)) (now (starts .entry)) (now (lens .entry))) ⌝ }
 {
-    let listed = views::listing::fields(mst, xrf, Mfn(mfn), tags, starts, lens);
+    let listed = asking::listing::fields(mst, xrf, Mfn(mfn), tags, starts, lens);
     *count = listed.count;
     let a = listed.answer;
     number(a)
@@ -151,7 +151,7 @@ pub extern "C" fn isis_fields_settled(
     ensures counts { λ _. ⌜ now (count .exit) ≡ settledAllFieldsOf (store (now (mst .entry)) (now (xrf .entry))) mfn (lists (now (tags .entry)) (now (starts .entry)) (now (lens .entry))) .count ⌝ }
     ensures left { λ _. ⌜ lists (now (tags .exit)) (now (starts .exit)) (now (lens .exit)) ≡ settledAllFieldsLeaves (store (now (mst .entry)) (now (xrf .entry))) mfn (lists (now (tags .entry)) (now (starts .entry)) (now (lens .entry))) ⌝ }
 {
-    let listed = views::listing::fields_settled(mst, xrf, Mfn(mfn), tags, starts, lens);
+    let listed = asking::listing::fields_settled(mst, xrf, Mfn(mfn), tags, starts, lens);
     *count = listed.count;
     let a = listed.answer;
     number(a)
@@ -164,7 +164,7 @@ pub extern "C" fn isis_next(mst: &[u8], xrf: &[u8], next: &mut u32, end: &mut us
     ensures number { λ _. ⌜ now (next .exit) ≡ nextFreeOf (store (now (mst .entry)) (now (xrf .entry))) .next .0 ⌝ }
     ensures address { λ _. ⌜ now (end .exit) ≡ nextFreeOf (store (now (mst .entry)) (now (xrf .entry))) .end ⌝ }
 {
-    let shown = views::state::next_free(mst, xrf);
+    let shown = asking::state::next_free(mst, xrf);
     *next = shown.next.0;
     *end = shown.end;
     let a = shown.answer;
@@ -184,10 +184,10 @@ pub extern "C" fn isis_state(
     ensures marked { λ _. ⌜ now (mark .exit) ≡ markNumber (stateOf (store (now (mst .entry)) (now (xrf .entry))) mfn .mark) ⌝ }
     ensures dead { λ _. ⌜ now (deleted .exit) ≡ deletedNumber (stateOf (store (now (mst .entry)) (now (xrf .entry))) mfn .deleted) ⌝ }
 {
-    let shown = views::state::state(mst, xrf, Mfn(mfn));
+    let shown = asking::state::state(mst, xrf, Mfn(mfn));
     let k = shown.mark;
-    *mark = views::state::mark_number(k);
-    *deleted = views::state::deleted_number(shown.deleted);
+    *mark = asking::state::mark_number(k);
+    *deleted = asking::state::deleted_number(shown.deleted);
     let a = shown.answer;
     number(a)
 }

@@ -2,6 +2,3 @@ pub mod Lowest
 pub mod VersionAnswers
 pub mod ViewAnswers
 pub mod WalkAnswers
-pub mod ListAnswers
-pub mod AllFields
-pub mod StateAnswers

@@ -6,8 +6,6 @@ use Rattle.store.specs.Answer.{numberOf}
 use Rattle.store.proofs.Lowest.{above, IsLowest, lowest-is-lowest}
 use Rattle.views.specs.Views.{viewRefusals, viewAnswer, settledViewRefusals, settledViewAnswer}
 use Rattle.views.specs.Fields.{fieldRefusals, fieldAnswer, settledFieldRefusals, settledFieldAnswer}
-use Rattle.views.specs.Listing.{Lists, allFieldsRefusals, allFieldsAnswer, settledAllFieldsRefusals, settledAllFieldsAnswer}
-use Rattle.views.specs.State.{nextFreeRefusals, nextFreeAnswer, stateRefusals, stateAnswer}
 
 module _ (s : Store) (m : ℕ) where
   pub view-lowest : (tag occ : ℕ) → IsLowest (viewRefusals s m tag occ) (viewAnswer s m tag occ)
@@ -25,19 +23,3 @@ module _ (s : Store) (m : ℕ) where
   pub settled-field-lowest : (i : ℕ) → IsLowest (settledFieldRefusals s m i) (settledFieldAnswer s m i)
   unfolding settledFieldAnswer above numberOf
   settled-field-lowest i = lowest-is-lowest (settledFieldRefusals s m i) refl
-
-  pub all-fields-lowest : (l : Lists) → IsLowest (allFieldsRefusals s m l) (allFieldsAnswer s m l)
-  unfolding allFieldsAnswer above numberOf
-  all-fields-lowest l = lowest-is-lowest (allFieldsRefusals s m l) refl
-
-  pub settled-all-fields-lowest : (l : Lists) → IsLowest (settledAllFieldsRefusals s m l) (settledAllFieldsAnswer s m l)
-  unfolding settledAllFieldsAnswer above numberOf
-  settled-all-fields-lowest l = lowest-is-lowest (settledAllFieldsRefusals s m l) refl
-
-  pub state-lowest : IsLowest (stateRefusals s m) (stateAnswer s m)
-  unfolding stateAnswer above numberOf
-  state-lowest = lowest-is-lowest (stateRefusals s m) refl
-
-pub next-free-lowest : (s : Store) → IsLowest (nextFreeRefusals s) (nextFreeAnswer s)
-unfolding nextFreeAnswer above numberOf
-next-free-lowest s = lowest-is-lowest (nextFreeRefusals s) refl

@@ -1,5 +1,3 @@
 pub mod Views
 pub mod Fields
-pub mod Listing
-pub mod State
 pub mod Versions

@@ -1,6 +1,6 @@
 -- Inner: serves the functions of this crate, no part of what is promised. A call that shows a field finds the version that it reads, current or
 -- settled, and then shows a field of it.
-use Prim.Native.Nat.{ℕ, _+_, _-_, _≤_, _<_, _^_}
+use Prim.Native.Nat.{ℕ, _+_, _-_, _≤_}
 use mathlib.Core.Path.{_≡_}
 use mathlib.Core.Bool.{Bool, _&&_, cond}
 use mathlib.Core.List.{List, [], _∷_}
@@ -8,7 +8,6 @@ use lib.ListN.{length}
 use Rattle.word.specs.Overwrite.{part}
 use Rattle.files.specs.Control.{endOf}
 use Rattle.layout.specs.Entry.{placeAddress}
-use Rattle.layout.specs.Leader.{leaderOf}
 use Rattle.layout.specs.declared.entry.Mark.the-variants.{Changed}
 use Rattle.layout.specs.declared.entry.Place.{Place}
 use Rattle.layout.specs.declared.leader.Leader.{Leader}
@@ -23,10 +22,8 @@ use Rattle.store.specs.Store.{Store}
 use Rattle.store.specs.Answer.{refuse, lowest, after}
 use Rattle.store.specs.Reading.{placeFor, isSettled, isChanged, isNew, backAddress}
 use Rattle.store.specs.declared.answer.Answer.{Answer}
-use Rattle.store.specs.declared.answer.Answer.the-variants.{Done, Deleted, NeverSettled, NoField, NoRoomInList}
+use Rattle.store.specs.declared.answer.Answer.the-variants.{Done, Deleted, NeverSettled, NoField}
 use Rattle.views.specs.Views.{onCurrent, onSettled, settledAddress}
-use Rattle.views.specs.Listing.{Lists, shortFor, counted, leaves}
-use Rattle.views.specs.declared.listing.Listed.{Listed}
 use Rattle.views.specs.declared.views.Shown.{Shown}
 use Rattle.views.specs.declared.views.Version.{Version}
 use Rattle.views.specs.declared.views.Version.the-variants.{Begins, Refused}
@@ -101,26 +98,3 @@ shownWalked at End = refusedField NoField
 unfoldable pub walkedIn : List ℕ → ℕ → Version → ShownField
 walkedIn mst i (Begins at end) = shownWalked at (walkedAt (part mst at (end - at)) i)
 walkedIn mst i (Refused a) = refusedField a
-
--- all fields of a record that begins at an address; what is enough to list them
-
-abbrev pub refusedList : Answer → Listed
-refusedList a = record { answer = a; count = 0 }
-
-pub record ListedFrom (rec : List ℕ) (at : ℕ) : Type 0 where
-  pub readable : Readable rec
-  pub fits : at + leaderOf rec .mfrl < 2 ^ 64
-
-unfoldable pub listedOf : List ℕ → Lists → Listed
-listedOf rec l = counted (lastly NoRoomInList (shortFor rec l)) rec
-
-unfoldable pub leftOf : ℕ → List ℕ → Lists → Lists
-leftOf at rec l = leaves (lastly NoRoomInList (shortFor rec l)) at rec l
-
-unfoldable pub listedIn : List ℕ → Version → Lists → Listed
-listedIn mst (Begins at end) l = listedOf (part mst at (end - at)) l
-listedIn mst (Refused a) l = refusedList a
-
-unfoldable pub leftIn : List ℕ → Version → Lists → Lists
-leftIn mst (Begins at end) l = leftOf at (part mst at (end - at)) l
-leftIn mst (Refused a) l = l

@@ -1,5 +1,3 @@
-// The calls that only read: the two views, a record's fields one after the other and all at once, the next MFN and a record's state.
-pub mod listing;
-pub mod state;
+// The calls that show a field of a record: the two views, and a record's fields one after the other.
 pub mod views;
 pub mod walk;

@@ -30,7 +30,7 @@ pub enum Version {
 }
 
 // The refusal of a version that is not there.
-pub(crate) fn version_answer(v: Version) -> Answer
+pub fn version_answer(v: Version) -> Answer
     ensures { λ r. ⌜ r ≡ versionAnswer v ⌝ }
 {
     match v {
@@ -40,7 +40,7 @@ pub(crate) fn version_answer(v: Version) -> Answer
 }
 
 // Where the current version of MFN `m` begins.
-pub(crate) fn current_version(mst: &[u8], xrf: &[u8], m: Mfn) -> Version
+pub fn current_version(mst: &[u8], xrf: &[u8], m: Mfn) -> Version
     ensures { λ r. ⌜ r ≡ currentVersion (store (now (mst .entry)) (now (xrf .entry))) (m .0) ⌝ }
 {
     let r = store::gate::reach(mst, xrf, m);
@@ -89,7 +89,7 @@ fn settled_of(end: usize, place: Place, leader: Leader) -> Version
 }
 
 // Where the settled version of MFN `m` begins.
-pub(crate) fn settled_version(mst: &[u8], xrf: &[u8], m: Mfn) -> Version
+pub fn settled_version(mst: &[u8], xrf: &[u8], m: Mfn) -> Version
     ensures { λ r. ⌜ r ≡ settledVersion (store (now (mst .entry)) (now (xrf .entry))) (m .0) ⌝ }
 {
     let r = store::gate::reach_both(mst, xrf, m);

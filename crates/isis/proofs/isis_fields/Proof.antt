@@ -1,6 +1,6 @@
 use mathlib.Core.Path.{ap, _∙_}
 use Rattle.store.specs.Answer.{numberOf}
-use Rattle.views.specs.declared.listing.Listed.{Listed}
+use Rattle.asking.specs.declared.listing.Listed.{Listed}
 use borrow.Author.Needs.{needs}
 use Rattle.isis.proofs.isis_fields.Statement.{statement}
 use Rattle.isis.proofs.isis_fields.Tie as tie

@@ -1,6 +1,6 @@
 use mathlib.Core.Path.{ap, _∙_}
 use Rattle.store.specs.Answer.{numberOf}
-use Rattle.views.specs.declared.state.NextFree.{NextFree}
+use Rattle.asking.specs.declared.state.NextFree.{NextFree}
 use borrow.Author.Needs.{needs}
 use Rattle.isis.proofs.isis_next.Statement.{statement}
 use Rattle.isis.proofs.isis_next.Tie as tie

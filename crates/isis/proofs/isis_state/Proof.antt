@@ -1,7 +1,7 @@
 use mathlib.Core.Path.{ap, _∙_}
 use Rattle.store.specs.Answer.{numberOf}
-use Rattle.views.specs.State.{markNumber, deletedNumber}
-use Rattle.views.specs.declared.state.RecordState.{RecordState}
+use Rattle.asking.specs.State.{markNumber, deletedNumber}
+use Rattle.asking.specs.declared.state.RecordState.{RecordState}
 use borrow.Author.Needs.{needs}
 use Rattle.isis.proofs.isis_state.Statement.{statement}
 use Rattle.isis.proofs.isis_state.Tie as tie

@@ -1,7 +1,7 @@
 use borrow.Author.Needs.{needs}
-use Rattle.views.proofs.ListAnswers.{list-answers}
-use Rattle.views.proofs.listing.list_record.Statement.{statement}
-use Rattle.views.proofs.listing.list_record.Tie as tie
+use Rattle.asking.proofs.ListAnswers.{list-answers}
+use Rattle.asking.proofs.listing.list_record.Statement.{statement}
+use Rattle.asking.proofs.listing.list_record.Tie as tie
 
 field-count-requires : tie.Need-field-count-requires
 field-count-requires c κs = search needs

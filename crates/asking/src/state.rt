@@ -6,7 +6,7 @@ use store::gate::Gate;
 use store::gate::Reached;
 ghost use mathlib.Core.Path.{_≡_};
 ghost use Rattle.store.specs.Store.{store};
-ghost use Rattle.views.specs.State.{nextFreeOf, stateOf, markNumber, deletedNumber};
+ghost use Rattle.asking.specs.State.{nextFreeOf, stateOf, markNumber, deletedNumber};
 
 // The answer, the next MFN and the address of the end; 0 and 0 where refused.
 pub struct NextFree {

@@ -24,10 +24,10 @@ use Rattle.store.specs.Store.{store}
 use Rattle.store.specs.declared.answer.Answer.{Answer}
 use Rattle.store.specs.declared.answer.Answer.the-variants.{Done, NoRoomInList}
 use Rattle.store.proofs.Gates.{Refusing, after-refused, after-cases}
 use Rattle.views.specs.Views.{settledAddress}
-use Rattle.views.specs.Listing.{Lists, shortFor, counted, leaves, allFieldsAnswer, allFieldsOf, allFieldsLeaves, settledAllFieldsAnswer, settledAllFieldsOf, settledAllFieldsLeaves, fieldsNamed, NamesAll}
+use Rattle.asking.specs.Listing.{Lists, shortFor, counted, leaves, allFieldsAnswer, allFieldsOf, allFieldsLeaves, settledAllFieldsAnswer, settledAllFieldsOf, settledAllFieldsLeaves, fieldsNamed, NamesAll}
 use Rattle.views.specs.Versions.{ReadableAt}
 use Rattle.views.proofs.VersionAnswers.{current-then, settled-then, settled-from, current-readable, settled-readable}
 
 -- ---- the fields of a record at an address
 

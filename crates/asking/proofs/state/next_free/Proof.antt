@@ -1,7 +1,7 @@
 use borrow.Author.Needs.{needs}
-use Rattle.views.proofs.StateAnswers.{state-answers}
-use Rattle.views.proofs.state.next_free.Statement.{statement}
-use Rattle.views.proofs.state.next_free.Tie as tie
+use Rattle.asking.proofs.StateAnswers.{state-answers}
+use Rattle.asking.proofs.state.next_free.Statement.{statement}
+use Rattle.asking.proofs.state.next_free.Tie as tie
 
 open-gate-requires : tie.Need-open-gate-requires
 open-gate-requires c κs = search needs

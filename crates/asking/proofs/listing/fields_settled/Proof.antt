@@ -1,7 +1,7 @@
 use borrow.Author.Needs.{needs}
-use Rattle.views.proofs.ListAnswers.{list-answers}
-use Rattle.views.proofs.listing.fields_settled.Statement.{statement}
-use Rattle.views.proofs.listing.fields_settled.Tie as tie
+use Rattle.asking.proofs.ListAnswers.{list-answers}
+use Rattle.asking.proofs.listing.fields_settled.Statement.{statement}
+use Rattle.asking.proofs.listing.fields_settled.Tie as tie
 
 settled-version-requires : tie.Need-settled-version-requires
 settled-version-requires c κs = search needs

@@ -17,8 +17,8 @@ use Rattle.store.specs.Answer.{Refusal, refuse, lowest, after}
 use Rattle.store.specs.Reading.{placeFor, recordAt, shownSettled}
 use Rattle.store.specs.declared.answer.Answer.{Answer}
 use Rattle.store.specs.declared.answer.Answer.the-variants.{NoRoomInList}
 use Rattle.views.specs.Views.{onCurrent, onSettled, settledAddress}
-use Rattle.views.specs.declared.listing.Listed.{Listed}
+use Rattle.asking.specs.declared.listing.Listed.{Listed}
 
 -- the three lists that are lent
 pub record Lists : Type 0 where

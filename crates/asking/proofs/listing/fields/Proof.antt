@@ -1,7 +1,7 @@
 use borrow.Author.Needs.{needs}
-use Rattle.views.proofs.ListAnswers.{list-answers}
-use Rattle.views.proofs.listing.fields.Statement.{statement}
-use Rattle.views.proofs.listing.fields.Tie as tie
+use Rattle.asking.proofs.ListAnswers.{list-answers}
+use Rattle.asking.proofs.listing.fields.Statement.{statement}
+use Rattle.asking.proofs.listing.fields.Tie as tie
 
 current-version-requires : tie.Need-current-version-requires
 current-version-requires c κs = search needs

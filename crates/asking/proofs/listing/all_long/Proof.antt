@@ -1,6 +1,6 @@
-use Rattle.views.proofs.ListAnswers.{list-answers}
-use Rattle.views.proofs.listing.all_long.Statement.{statement}
-use Rattle.views.proofs.listing.all_long.Tie as tie
+use Rattle.asking.proofs.ListAnswers.{list-answers}
+use Rattle.asking.proofs.listing.all_long.Statement.{statement}
+use Rattle.asking.proofs.listing.all_long.Tie as tie
 
 returns : tie.Need-returns
 returns c = search list-answers

@@ -1,12 +1,13 @@
 // All fields of a record in one call, through one record test and one walk: their tags, their starts in the MST and their lengths
 // go to the front of three lent lists, in directory order. A refused call leaves the lists as they are.
-use crate::views::Version;
 use layout::sizes::Mfn;
 use store::answer::Answer;
+use views::views::Version;
 ghost use mathlib.Core.Path.{_≡_};
 ghost use Rattle.store.specs.Store.{store};
-ghost use Rattle.views.specs.Listing.{lists, allAtLeast, allFieldsOf, allFieldsLeaves, settledAllFieldsOf, settledAllFieldsLeaves};
-ghost use Rattle.views.specs.Versions.{refusedList, Legible, ListedFrom, listedOf, leftOf, listedIn, leftIn};
+ghost use Rattle.asking.specs.Listing.{lists, allAtLeast, allFieldsOf, allFieldsLeaves, settledAllFieldsOf, settledAllFieldsLeaves};
+ghost use Rattle.asking.specs.Inner.{refusedList, ListedFrom, listedOf, leftOf, listedIn, leftIn};
+ghost use Rattle.views.specs.Versions.{Legible};
 
 // The answer, and how many fields the lists have in front.
 pub struct Listed {
@@ -69,7 +70,7 @@ fn list_out(
     ensures left { λ _. ⌜ lists (now (tags .exit)) (now (starts .exit)) (now (lens .exit)) ≡ leftIn (now (mst .entry)) v (lists (now (tags .entry)) (now (starts .entry)) (now (lens .entry))) ⌝ }
 {
     let Version::Begins { at, end } = v else {
-        return refused_list(crate::views::version_answer(v));
+        return refused_list(views::views::version_answer(v));
     };
     list_record(&mst[at..end], at, tags, starts, lens)
 }
@@ -86,7 +87,7 @@ pub fn fields(
     ensures is { λ r. ⌜ r ≡ allFieldsOf (store (now (mst .entry)) (now (xrf .entry))) (m .0) (lists (now (tags .entry)) (now (starts .entry)) (now (lens .entry))) ⌝ }
     ensures left { λ _. ⌜ lists (now (tags .exit)) (now (starts .exit)) (now (lens .exit)) ≡ allFieldsLeaves (store (now (mst .entry)) (now (xrf .entry))) (m .0) (lists (now (tags .entry)) (now (starts .entry)) (now (lens .entry))) ⌝ }
 {
-    let v = crate::views::current_version(mst, xrf, m);
+    let v = views::views::current_version(mst, xrf, m);
     list_out(mst, v, tags, starts, lens)
 }
 
@@ -102,6 +103,6 @@ pub fn fields_settled(
     ensures is { λ r. ⌜ r ≡ settledAllFieldsOf (store (now (mst .entry)) (now (xrf .entry))) (m .0) (lists (now (tags .entry)) (now (starts .entry)) (now (lens .entry))) ⌝ }
     ensures left { λ _. ⌜ lists (now (tags .exit)) (now (starts .exit)) (now (lens .exit)) ≡ settledAllFieldsLeaves (store (now (mst .entry)) (now (xrf .entry))) (m .0) (lists (now (tags .entry)) (now (starts .entry)) (now (lens .entry))) ⌝ }
 {
-    let v = crate::views::settled_version(mst, xrf, m);
+    let v = views::views::settled_version(mst, xrf, m);
     list_out(mst, v, tags, starts, lens)
 }

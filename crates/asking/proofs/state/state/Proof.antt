@@ -1,7 +1,7 @@
 use borrow.Author.Needs.{needs}
-use Rattle.views.proofs.StateAnswers.{state-answers}
-use Rattle.views.proofs.state.state.Statement.{statement}
-use Rattle.views.proofs.state.state.Tie as tie
+use Rattle.asking.proofs.StateAnswers.{state-answers}
+use Rattle.asking.proofs.state.state.Statement.{statement}
+use Rattle.asking.proofs.state.state.Tie as tie
 
 reach-requires : tie.Need-reach-requires
 reach-requires c κs = search needs

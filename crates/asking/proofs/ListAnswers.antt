@@ -24,13 +24,14 @@ use Rattle.store.specs.Store.{store}
 use Rattle.store.specs.declared.answer.Answer.{Answer}
 use Rattle.store.specs.declared.answer.Answer.the-variants.{Done, NoRoomInList}
 use Rattle.store.proofs.Gates.{Refusing, after-refused}
 use Rattle.views.specs.Views.{onCurrent, onSettled, settledAddress}
-use Rattle.views.specs.Listing.{Lists, lists, allAtLeast, shortFor, counted, leaves, allFieldsAnswer, allFieldsOf, allFieldsLeaves, settledAllFieldsAnswer, settledAllFieldsOf, settledAllFieldsLeaves}
-use Rattle.views.specs.Versions.{lastly, versionIf, versionAnswer, currentVersion, settledVersion, Legible, ListedFrom, refusedList, listedOf, leftOf, listedIn, leftIn}
-use Rattle.views.specs.declared.listing.Listed.{Listed}
+use Rattle.asking.specs.Listing.{Lists, lists, allAtLeast, shortFor, counted, leaves, allFieldsAnswer, allFieldsOf, allFieldsLeaves, settledAllFieldsAnswer, settledAllFieldsOf, settledAllFieldsLeaves}
+use Rattle.views.specs.Versions.{lastly, versionIf, versionAnswer, currentVersion, settledVersion, Legible}
+use Rattle.asking.specs.Inner.{ListedFrom, refusedList, listedOf, leftOf, listedIn, leftIn}
+use Rattle.asking.specs.declared.listing.Listed.{Listed}
 use Rattle.views.specs.declared.views.Version.{Version}
 use Rattle.views.specs.declared.views.Version.the-variants.{Begins, Refused as NoVersion}
 use Rattle.views.proofs.VersionAnswers.{current-then, settled-then, version-shows, settled-from, current-legible, settled-legible, version-end-in, version-before, version-readable}
 
 -- ---- the lists' lengths
 

@@ -11,8 +11,8 @@ use Rattle.store.specs.Answer.{Refusal, lowest, after}
 use Rattle.store.specs.Reading.{placeFor}
 use Rattle.store.specs.Refusals.{gated, named, fine}
 use Rattle.store.specs.declared.answer.Answer.{Answer}
-use Rattle.views.specs.declared.state.NextFree.{NextFree}
-use Rattle.views.specs.declared.state.RecordState.{RecordState}
+use Rattle.asking.specs.declared.state.NextFree.{NextFree}
+use Rattle.asking.specs.declared.state.RecordState.{RecordState}
 
 -- ---- the next MFN: 1 and 2
 

@@ -21,7 +21,7 @@ use Rattle.store.specs.declared.gate.Reached.{Reached}
 use Rattle.store.specs.declared.gate.Reached.the-variants.{There, Refused as Unreached}
 use Rattle.store.proofs.Gates.{after-refused, gate-shut, gate-open}
 use Rattle.store.proofs.Reaching.{reach-refused, reached-facts}
-use Rattle.views.specs.State.{nextFreeOf, nextFreeAnswer, stateOf, stateAnswer}
+use Rattle.asking.specs.State.{nextFreeOf, nextFreeAnswer, stateOf, stateAnswer}
 
 module _ (mst xrf : List ℕ) (g : Gate) (p : g ≡ gateOf (store mst xrf)) where
   pub next-refused : (a b : Answer) → g ≡ Shut b → a ≡ gateAnswer g → record { answer = a; next = record { 0 = 0 }; end = 0 } ≡ nextFreeOf (store mst xrf)

@@ -1,7 +1,7 @@
 use borrow.Author.Needs.{needs}
-use Rattle.views.proofs.ListAnswers.{list-answers}
-use Rattle.views.proofs.listing.list_out.Statement.{statement}
-use Rattle.views.proofs.listing.list_out.Tie as tie
+use Rattle.asking.proofs.ListAnswers.{list-answers}
+use Rattle.asking.proofs.listing.list_out.Statement.{statement}
+use Rattle.asking.proofs.listing.list_out.Tie as tie
 
 enum-known-v : tie.Need-enum-known-v
 enum-known-v c = search needs

@@ -1,0 +1,4 @@
+pub mod Lowest
+pub mod ListAnswers
+pub mod AllFields
+pub mod StateAnswers
