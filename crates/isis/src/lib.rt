@@ -225,7 +225,7 @@ pub extern "C" fn isis_update(
     ensures answers { λ r. ⌜ r ≡ numberOf (updateAnswer (store (now (mst .entry)) (now (xrf .entry))) mfn (draft (now (tags .entry)) (now (lens .entry)) (now («data» .entry)))) ⌝ }
     ensures left { λ _. ⌜ store (now (mst .exit)) (now (xrf .exit)) ≡ updateLeaves (store (now (mst .entry)) (now (xrf .entry))) mfn (draft (now (tags .entry)) (now (lens .entry)) (now («data» .entry))) ⌝ }
 {
-    number(writing::changes::update(mst, xrf, Mfn(mfn), tags, lens, data))
+    number(updating::changes::update(mst, xrf, Mfn(mfn), tags, lens, data))
 }
 
 // Deletes a record.
@@ -234,7 +234,7 @@ pub extern "C" fn isis_delete(mst: &mut [u8], xrf: &mut [u8], mfn: u32) -> u32
     ensures answers { λ r. ⌜ r ≡ numberOf (deleteAnswer (store (now (mst .entry)) (now (xrf .entry))) mfn) ⌝ }
     ensures left { λ _. ⌜ store (now (mst .exit)) (now (xrf .exit)) ≡ deleteLeaves (store (now (mst .entry)) (now (xrf .entry))) mfn ⌝ }
 {
-    number(writing::changes::delete(mst, xrf, Mfn(mfn)))
+    number(updating::changes::delete(mst, xrf, Mfn(mfn)))
 }
 
 // Makes a pending change the settled version.

@@ -84,9 +84,9 @@ fn write(
         Writing::Format => without_mfn(writing::format::format(mst, xrf)),
         Writing::Create => writing::create::create(mst, xrf, tags, lens, data),
         Writing::Update(m) => {
-            without_mfn(writing::changes::update(mst, xrf, m, tags, lens, data))
+            without_mfn(updating::changes::update(mst, xrf, m, tags, lens, data))
         }
-        Writing::Delete(m) => without_mfn(writing::changes::delete(mst, xrf, m)),
+        Writing::Delete(m) => without_mfn(updating::changes::delete(mst, xrf, m)),
         Writing::Settle(m) => without_mfn(writing::settling::settle(mst, xrf, m)),
         Writing::Revert(m) => without_mfn(writing::settling::revert(mst, xrf, m)),
     }

@@ -2,30 +2,24 @@
 -- writing half needs to know.
 use Prim.Native.Nat.{ℕ, _+_, _≤_}
 use mathlib.Core.Path.{_≡_}
-use mathlib.Core.Bool.{Bool, not, _&&_, cond}
+use mathlib.Core.Bool.{not, _&&_}
 use mathlib.Core.List.{List, [], _∷_}
-use lib.Dec.{eqb, ltb}
+use lib.Dec.{eqb}
 use lib.ListN.{length}
 use Rattle.layout.specs.Sizes.{xrfMost, mstMost, recordMost, capacityOf}
 use Rattle.files.specs.CrossReference.{xrfBlock, headRight, slotFree}
 use Rattle.files.specs.Control.{nextOf, endOf}
-use Rattle.layout.specs.declared.entry.Place.{Place}
-use Rattle.layout.specs.declared.leader.Leader.{Leader}
 use Rattle.drafts.specs.Bytes.{needFor}
 use Rattle.store.specs.Store.{Store}
 use Rattle.drafts.specs.Draft.{Draft, fieldsIn}
 use Rattle.store.specs.Answer.{refuse, lowest, after}
-use Rattle.store.specs.Reading.{placeFor, isSettled, leaderAt}
 use Rattle.store.specs.Gate.{reachedIf}
 use Rattle.store.specs.declared.answer.Answer.{Answer}
 use Rattle.store.specs.declared.answer.Answer.the-variants.{Done, NoSlot, BadEntry, NoRoom}
 use Rattle.store.specs.declared.gate.Reached.{Reached}
-use Rattle.writing.specs.Refusals.{exceeds, createAnswer, updateAnswer, deleteAnswer, settleAnswer, revertAnswer}
-use Rattle.versions.specs.Written.{updateAppends}
+use Rattle.writing.specs.Refusals.{exceeds, createAnswer, settleAnswer, revertAnswer}
 use Rattle.writing.specs.declared.create.Creating.{Creating}
 use Rattle.writing.specs.declared.create.Creating.the-variants.{Write, Unwritten}
-use Rattle.writing.specs.declared.changes.Plan.{Plan}
-use Rattle.writing.specs.declared.changes.Plan.the-variants.{NewVersion, Refuse}
 
 unfoldable pub settlePlan : Store → ℕ → Reached
 settlePlan s m = reachedIf (settleAnswer s m) s m
@@ -60,22 +54,3 @@ createPlan s d =
 abbrev pub creatingAnswer : Creating → Answer
 creatingAnswer (Write next end need) = Done
 creatingAnswer (Unwritten a) = a
-
--- where a new version of MFN m's record goes, at the end or in place, where the answer is done
-unfoldable pub planIf : Answer → Bool → Store → ℕ → Plan
-planIf a appends s m = after a (NewVersion (endOf (s .mst)) (placeFor s m) (leaderAt (s .mst) (placeFor s m)) appends) (Refuse a)
-
-abbrev pub planAnswer : Plan → Answer
-planAnswer (NewVersion end p l appends) = Done
-planAnswer (Refuse a) = a
-
-unfoldable pub updatePlan : Store → ℕ → Draft → Plan
-updatePlan s m d =
-    planIf (updateAnswer s m d) (updateAppends (placeFor s m) (leaderAt (s .mst) (placeFor s m)) (needFor (fieldsIn d))) s m
-
-unfoldable pub deletePlan : Store → ℕ → Plan
-deletePlan s m = planIf (deleteAnswer s m) (isSettled (placeFor s m .mark)) s m
-
--- where a version of a need goes in an MST of a length: at the end if it is to be appended, where there is room
-unfoldable pub roomPlan : ℕ → ℕ → ℕ → Bool → Place → Leader → Plan
-roomPlan room end need appends p l = cond (appends && ltb room (end + need)) (Refuse NoRoom) (NewVersion end p l appends)

@@ -1,7 +1,7 @@
 use borrow.Author.Needs.{needs}
-use Rattle.writing.proofs.Results.{delete-refused, delete-append-asks, delete-copied, delete-in-place-asks, delete-marked}
-use Rattle.writing.proofs.changes.delete.Statement.{statement}
-use Rattle.writing.proofs.changes.delete.Tie as tie
+use Rattle.updating.proofs.Results.{delete-refused, delete-append-asks, delete-copied, delete-in-place-asks, delete-marked}
+use Rattle.updating.proofs.changes.delete.Statement.{statement}
+use Rattle.updating.proofs.changes.delete.Tie as tie
 
 plan-delete-requires : tie.Need-plan-delete-requires
 plan-delete-requires c κs = search needs

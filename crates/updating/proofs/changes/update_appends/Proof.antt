@@ -1,7 +1,7 @@
-use Rattle.writing.proofs.Plans.{append-tests}
+use Rattle.updating.proofs.Plans.{append-tests}
 use borrow.Author.Needs.{needs}
-use Rattle.writing.proofs.changes.update_appends.Statement.{statement}
-use Rattle.writing.proofs.changes.update_appends.Tie as tie
+use Rattle.updating.proofs.changes.update_appends.Statement.{statement}
+use Rattle.updating.proofs.changes.update_appends.Tie as tie
 
 enum-told : tie.Need-enum-told
 enum-told c = search needs

@@ -1,8 +1,9 @@
 use Rattle.versions.proofs.Told.{draft-counted}
-use Rattle.writing.proofs.Plans.{draft-room-asked, update-plans}
+use Rattle.writing.proofs.Plans.{draft-room-asked}
+use Rattle.updating.proofs.Plans.{update-plans}
 use borrow.Author.Needs.{needs}
-use Rattle.writing.proofs.changes.plan_update.Statement.{statement}
-use Rattle.writing.proofs.changes.plan_update.Tie as tie
+use Rattle.updating.proofs.changes.plan_update.Statement.{statement}
+use Rattle.updating.proofs.changes.plan_update.Tie as tie
 
 open-gate-requires : tie.Need-open-gate-requires
 open-gate-requires c κs = search needs

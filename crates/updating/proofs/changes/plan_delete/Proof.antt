@@ -1,7 +1,7 @@
 use borrow.Author.Needs.{needs}
-use Rattle.writing.proofs.Plans.{delete-plans, own-room-asked}
-use Rattle.writing.proofs.changes.plan_delete.Statement.{statement}
-use Rattle.writing.proofs.changes.plan_delete.Tie as tie
+use Rattle.updating.proofs.Plans.{delete-plans, own-room-asked}
+use Rattle.updating.proofs.changes.plan_delete.Statement.{statement}
+use Rattle.updating.proofs.changes.plan_delete.Tie as tie
 
 reach-requires : tie.Need-reach-requires
 reach-requires c κs = search needs

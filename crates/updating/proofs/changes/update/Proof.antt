@@ -1,7 +1,7 @@
 use borrow.Author.Needs.{needs}
-use Rattle.writing.proofs.Results.{update-refused, update-append-asks, update-appended, update-in-place-asks, update-replaced}
-use Rattle.writing.proofs.changes.update.Statement.{statement}
-use Rattle.writing.proofs.changes.update.Tie as tie
+use Rattle.updating.proofs.Results.{update-refused, update-append-asks, update-appended, update-in-place-asks, update-replaced}
+use Rattle.updating.proofs.changes.update.Statement.{statement}
+use Rattle.updating.proofs.changes.update.Tie as tie
 
 plan-update-requires : tie.Need-plan-update-requires
 plan-update-requires c κs = search needs

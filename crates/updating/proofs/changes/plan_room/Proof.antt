@@ -1,7 +1,7 @@
 use borrow.Author.Needs.{needs}
-use Rattle.writing.proofs.Plans.{room-plans}
-use Rattle.writing.proofs.changes.plan_room.Statement.{statement}
-use Rattle.writing.proofs.changes.plan_room.Tie as tie
+use Rattle.updating.proofs.Plans.{room-plans}
+use Rattle.updating.proofs.changes.plan_room.Statement.{statement}
+use Rattle.updating.proofs.changes.plan_room.Tie as tie
 
 add-if2 : tie.Need-add-if2
 add-if2 c = search needs
