@@ -84,7 +84,7 @@ pub fn at_most(value: u32, most: usize) -> usize
 }
 
 // The next `count` numbers of the text, or as many as `out` holds; gives where the text goes on.
-pub fn read_u32s(text: &[u8], from: usize, count: u32, out: &mut [u32]) -> usize
+pub(crate) fn read_u32s(text: &[u8], from: usize, count: u32, out: &mut [u32]) -> usize
     requires { ⌜ from ≤ length (now text) ⌝ }
     ensures { λ r. ⌜ r ≤ length (now (text .entry)) ⌝ }
 {
@@ -105,7 +105,7 @@ fn low_u16(value: u32) -> u16 {
     if value < 65535 { value as u16 } else { 65535 }
 }
 
-pub fn read_u16s(text: &[u8], from: usize, count: u32, out: &mut [u16]) -> usize
+pub(crate) fn read_u16s(text: &[u8], from: usize, count: u32, out: &mut [u16]) -> usize
     requires { ⌜ from ≤ length (now text) ⌝ }
     ensures { λ r. ⌜ r ≤ length (now (text .entry)) ⌝ }
 {
@@ -126,7 +126,7 @@ fn low_u8(value: u32) -> u8 {
     if value < 255 { value as u8 } else { 255 }
 }
 
-pub fn read_u8s(text: &[u8], from: usize, count: u32, out: &mut [u8]) -> usize
+pub(crate) fn read_u8s(text: &[u8], from: usize, count: u32, out: &mut [u8]) -> usize
     requires { ⌜ from ≤ length (now text) ⌝ }
     ensures { λ r. ⌜ r ≤ length (now (text .entry)) ⌝ }
 {

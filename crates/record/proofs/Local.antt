@@ -13,7 +13,7 @@ use lib.Seq.{take-take}
 use Rattle.word.specs.Integer.{u16At, le}
 use Rattle.word.specs.Overwrite.{overwrite, part}
 use Rattle.word.proofs.Overwrite.{part-take, overwrite-length, overwrite-part-after, drop-overwritten}
-use Rattle.word.proofs.Integers.{u16-part, u16-other, u32-other, u16-inside, u32-inside, u16-le-at, u32-le}
+use Rattle.word.proofs.Integers.{u16-other, u32-other, u16-inside, u32-inside, u16-le-at, u32-le}
 use Rattle.word.proofs.Window.{window, window-u16, window-part}
 use Rattle.layout.specs.Leader.{leaderOf}
 use Rattle.layout.specs.declared.leader.Leader.{Leader}
@@ -134,13 +134,6 @@ module _ (d : List ℕ) (at n : ℕ) {m : ℕ} {deleted : Bool} {l : Leader} {fs
   part-in =
       let f : LeaderFacts m deleted (length (part d at n)) l = reads-leader r in
       omega (arith, length-take n (drop at d), length-drop at d)
-
-  -- MFRL, where it stands in the buffer
-  pub reads-mfrl : u16At d (at + 4) ≡ l .mfrl
-  unfolding leaderOf
-  reads-mfrl =
-      let b = part-in in
-      sym (u16-part d at n 4 (omega arith)) ∙ ap (λ (x : Leader). x .mfrl) (r .leader)
 
   -- the same bytes in another buffer
   pub reads-part : (d′ : List ℕ) (n′ : ℕ) → l .mfrl ≤ n′ → at + l .mfrl ≤ length d′ → part d′ at (l .mfrl) ≡ part d at (l .mfrl)

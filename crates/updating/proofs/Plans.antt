@@ -21,7 +21,7 @@ use Rattle.drafts.specs.Draft.{needOf, draftRight, draftFields, draft}
 use Rattle.drafts.specs.Bytes.{needFor}
 use Rattle.drafts.proofs.Draftable.{draft-need}
 use Rattle.store.specs.Answer.{numberOf, refuse, after}
-use Rattle.store.specs.Reading.{placeFor, isSettled, leaderAt, currentFields}
+use Rattle.store.specs.Reading.{placeFor, mfnInRange, entryFor, isMalformed, isGone, isSettled, leaderAt, currentFields}
 use Rattle.store.specs.Refusals.{fine}
 use Rattle.writing.specs.Refusals.{exceeds, updateAnswer, deleteAnswer}
 use Rattle.versions.specs.Written.{updateAppends}
@@ -29,7 +29,7 @@ use Rattle.store.specs.Gate.{gateOf, gateAnswer, knownOf, knownAnswer, reachedO
 use Rattle.updating.specs.Plans.{planIf, updatePlan, deletePlan, roomPlan}
 use Rattle.versions.specs.Asked.{RecordRead}
 use Rattle.store.specs.declared.answer.Answer.{Answer}
-use Rattle.store.specs.declared.answer.Answer.the-variants.{Done, BadDraft, Deleted, NoRoom}
+use Rattle.store.specs.declared.answer.Answer.the-variants.{Done, BadDraft, NoMfn, BadEntry, Gone as GoneAnswer, BadRecord, Deleted, NoRoom}
 use Rattle.store.specs.declared.gate.Gate.{Gate}
 use Rattle.store.specs.declared.gate.Gate.the-variants.{Open, Shut}
 use Rattle.store.specs.declared.gate.Known.{Known}
@@ -39,11 +39,30 @@ use Rattle.store.specs.declared.gate.Reached.the-variants.{There, Refused as Un
 use Rattle.updating.specs.declared.changes.Plan.{Plan}
 use Rattle.updating.specs.declared.changes.Plan.the-variants.{NewVersion, Refuse}
 use Rattle.store.proofs.answer.Answer as answer
-use Rattle.versions.proofs.Told.{read-known, not-settled}
+use Rattle.versions.proofs.Told.{draft-fits, read-known, not-settled}
 use Rattle.store.proofs.Gates.{Refusing, refused-is, done-is, gate-shut, known-refused, known-facts, gate-is, opened, Planned}
 use Rattle.store.proofs.Reaching.{reach-refused, reached-facts}
 use Rattle.store.specs.Store.{store}
-use Rattle.writing.proofs.Plans.{shut-answer, namedAnswer}
+use Rattle.writing.proofs.Plans.{shut-answer}
+
+-- what is asked behind an open gate
+module _ (mst xrf : List ℕ) (g : Gate) (p : g ≡ gateOf (store mst xrf)) (next : Mfn) (end : ℕ) (q : g ≡ Open next end) where
+  room-asked : (need : ℕ) → need ≤ recordMost → (end ≤ mstMost) × (need ≤ 65536)
+  room-asked need h = let o = opened mst xrf g p next end q in (omega arith, omega arith)
+
+  pub draft-room-asked : (tags lens bytes : List ℕ) (d : Bool) (need : ℕ) → d ≡ draftRight tags lens bytes → not d ≡ false
+      → need ≡ needOf (length tags) (length bytes) → (end ≤ mstMost) × (need ≤ 65536)
+  draft-room-asked tags lens bytes d need e h n =
+      let f = draft-fits tags lens bytes (sym e ∙ not-false d h) in
+      room-asked need (omega arith)
+
+-- the refusal of a record that was not found is the answer of a call, whatever follows
+abbrev namedAnswer : List ℕ → List ℕ → ℕ → Bool → Answer → Answer
+namedAnswer mst xrf m ok rest =
+    cond (not (mfnInRange mst m)) NoMfn
+    (cond (isMalformed (entryFor (store mst xrf) m)) BadEntry
+    (cond (isGone (entryFor (store mst xrf) m)) GoneAnswer
+    (cond (not ok) BadRecord rest)))
 
 -- ---- where a new version goes
 

@@ -150,8 +150,6 @@ module _ (mst xrf : List ℕ) (m : ℕ) (tags lens bytes : List ℕ) where
         unfolding updateLeaves updatedMst updatedXrf after numberOf
         update-replaced last s = let v = versioning in (sym (v .0), rw (v .0, v .1, h, v .4, v .3, s))
 
-pub ruleset update-results = (update-refused, update-append-asks, update-appended, update-in-place-asks, update-replaced)
-
 -- ---- delete
 
 module _ (mst xrf : List ℕ) (m : ℕ) where
@@ -222,5 +220,3 @@ module _ (mst xrf : List ℕ) (m : ℕ) where
             → (Done ≡ deleteAnswer (store mst xrf) m) × (store last lastX ≡ deleteLeaves (store mst xrf) m)
         unfolding deleteLeaves deletedMst deletedXrf after numberOf
         delete-marked last lastX s t = let v = deleting in (sym (v .0), rw (v .0, v .1, h, v .4, v .3, s, t))
-
-pub ruleset delete-results = (delete-refused, delete-append-asks, delete-copied, delete-in-place-asks, delete-marked)

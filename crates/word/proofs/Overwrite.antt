@@ -12,7 +12,7 @@ use native.Mathlib.Numerals.{add-one}
 use native.Mathlib.Omega.{arith}
 use lib.Dec.{ltb}
 use lib.ListN.{length, getD, take, drop, set, length-append, length-take, length-drop, take-append-drop, drop-of-length-le, List·getD-append}
-use lib.Seq.{length-take-le, take-all, take-nil, take-at, drop-at, take-take, take-add, drop-drop, take-append-le, drop-append-le, take-append-add, getD-take, getD-drop, set-split, sets, sets-eq}
+use lib.Seq.{length-take-le, take-all, take-nil, take-at, drop-at, take-take, take-add, drop-drop, take-append-le, take-append-add, getD-take, getD-drop, set-split, sets, sets-eq}
 use borrow.Author.Tests.{ltb-true, ltb-false}
 use borrow.Rule.Slice.PartMut.{midOf, putMid}
 use Rattle.word.specs.Overwrite.{overwrite, part}
@@ -186,32 +186,6 @@ overwrite-next d at xs ys h =
       ← add-assoc at (length xs) (length ys),
       append-assoc (take at d) xs ys,
     )
-
--- the one that lies before may be done first or last
-pub overwrite-commute : (d : List ℕ) (a : ℕ) (xs : List ℕ) (b : ℕ) (ys : List ℕ) → a + length xs ≤ b → b ≤ length d
-    → overwrite (overwrite d a xs) b ys ≡ overwrite (overwrite d b ys) a xs
-overwrite-commute d a xs b ys l h =
-    let n : ℕ = b - (a + length xs) in
-    let s : b ≡ a + length xs + n = omega arith in
-    let t : length (take b d) ≡ b = length-take-le b d h in
-    let front : take b (overwrite d a xs) ≡ take a d ++ xs ++ part d (a + length xs) n =
-    ap (λ (k : ℕ). take k (overwrite d a xs)) s
-    ∙ take-add (a + length xs) n (overwrite d a xs)
-    ∙ rw (overwrite-front d a xs (omega arith), overwrite-drop-after d a xs (a + length xs) (le-refl _)) in
-    let back : drop (a + length xs) (overwrite d b ys) ≡ part d (a + length xs) n ++ (ys ++ drop (b + length ys) d) =
-    ap (drop (a + length xs)) (overwrite-runs d b ys)
-    ∙ drop-append-le (a + length xs) (take b d) (ys ++ drop (b + length ys) d) (omega arith)
-    ∙ ap (λ (r : List ℕ). r ++ (ys ++ drop (b + length ys) d))
-    (ap (λ (k : ℕ). drop (a + length xs) (take k d)) s ∙ drop-take (a + length xs) n d) in
-    rw (
-      overwrite-is (overwrite d a xs) b ys,
-      overwrite-is (overwrite d b ys) a xs,
-      front,
-      back,
-      overwrite-take d b ys a h (omega arith),
-      overwrite-drop-after d a xs (b + length ys) (omega arith),
-    )
-    (simp append-assoc)
 
 -- one over all of an earlier one
 pub overwrite-over : (d : List ℕ) (a : ℕ) (xs : List ℕ) (b : ℕ) (ys : List ℕ) → a ≤ b → b ≤ length d → b + length ys ≤ a + length xs

@@ -9,7 +9,7 @@ use lib.ListN.{length}
 use borrow.Author.Tests.{lt-ltb, le-ltb, eq-eqb, ne-eqb, not-true, not-false}
 use denote.Enum.Declared.{tagOf}
 use types.Run.{OneOf, miss}
-use Rattle.layout.specs.Sizes.{mstMost, recordMost, capacityOf}
+use Rattle.layout.specs.Sizes.{capacityOf}
 use Rattle.files.specs.Control.{nextOf, endOf}
 use Rattle.files.specs.CrossReference.{xrfBlock, headRight, slotFree}
 use Rattle.layout.specs.declared.sizes.Mfn.{Mfn}
@@ -22,7 +22,7 @@ use Rattle.drafts.specs.Draft.{needOf, draftRight, draftFields, draft}
 use Rattle.drafts.specs.Bytes.{needFor}
 use Rattle.drafts.proofs.Draftable.{draft-need}
 use Rattle.store.specs.Answer.{numberOf, refuse}
-use Rattle.store.specs.Reading.{lengthsPermitted, controlFine, mfnInRange, entryFor, placeFor, isMalformed, isGone, isSettled, isNew}
+use Rattle.store.specs.Reading.{lengthsPermitted, controlFine, placeFor, isSettled, isNew}
 use Rattle.writing.specs.Refusals.{exceeds, createAnswer, settleAnswer, revertAnswer}
 use Rattle.store.specs.Gate.{gateOf, gateAnswer, reachedIf, reachedOf, reachedBoth}
 use Rattle.writing.specs.Plans.{settlePlan, revertPlan, slotAnswer, SlotAsked, createPlan}
@@ -60,29 +60,10 @@ not-done NoRoom v = λ z. omega arith
 not-done NotSound v = λ z. omega arith
 not-done NoRoomInList v = λ z. omega arith
 
--- what is asked behind an open gate
-module _ (mst xrf : List ℕ) (g : Gate) (p : g ≡ gateOf (store mst xrf)) (next : Mfn) (end : ℕ) (q : g ≡ Open next end) where
-  pub room-asked : (need : ℕ) → need ≤ recordMost → (end ≤ mstMost) × (need ≤ 65536)
-  room-asked need h = let o = opened mst xrf g p next end q in (omega arith, omega arith)
-
-  pub draft-room-asked : (tags lens bytes : List ℕ) (d : Bool) (need : ℕ) → d ≡ draftRight tags lens bytes → not d ≡ false
-      → need ≡ needOf (length tags) (length bytes) → (end ≤ mstMost) × (need ≤ 65536)
-  draft-room-asked tags lens bytes d need e h n =
-      let f = draft-fits tags lens bytes (sym e ∙ not-false d h) in
-      room-asked need (omega arith)
-
 -- the gate's refusal is the answer of a call, whatever follows
 pub shut-answer : (mst xrf : List ℕ) (a rest : Answer) → gateOf (store mst xrf) ≡ Shut a
     → cond (not (lengthsPermitted (store mst xrf))) BadLength (cond (not (controlFine (store mst xrf))) BadControl rest) ≡ a
 shut-answer mst xrf a rest e = gate-shut mst xrf a e .answers (refuse rest true ∷ [])
-
--- and so is that of a record that was not found
-abbrev pub namedAnswer : List ℕ → List ℕ → ℕ → Bool → Answer → Answer
-namedAnswer mst xrf m ok rest =
-    cond (not (mfnInRange mst m)) NoMfn
-    (cond (isMalformed (entryFor (store mst xrf) m)) BadEntry
-    (cond (isGone (entryFor (store mst xrf) m)) GoneAnswer
-    (cond (not ok) BadRecord rest)))
 
 -- ---- create
 

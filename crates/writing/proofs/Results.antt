@@ -162,8 +162,6 @@ module _ (mst xrf : List ℕ) (m : ℕ) (k : Reached) (u : k ≡ settlePlan (sto
     unfolding settleLeaves after numberOf
     settle-done last lastX s t = let a = settling in (sym (a .0), rw (a .0, a .2, s, t))
 
-pub ruleset settle-results = (settle-refused, settle-asks, settle-done)
-
 -- neither settled nor new
 pub only-changed : (k : Mark) → isSettled k ≡ false → isNew k ≡ false → k ≡ Changed
 only-changed Settled h i = absurd (false-true (sym h))
@@ -209,5 +207,3 @@ module _ (mst xrf : List ℕ) (m : ℕ) (k : Reached) (u : k ≡ revertPlan (sto
         → (Done ≡ revertAnswer (store mst xrf) m) × (store mst last ≡ revertLeaves (store mst xrf) m)
     unfolding revertLeaves revertedXrf after numberOf
     revert-done last s = let a = reverting in (sym (a .0), rw (a .0, a .3, s))
-
-pub ruleset revert-results = (revert-refused, revert-asks, revert-done)

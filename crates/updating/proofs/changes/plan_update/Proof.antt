@@ -1,6 +1,5 @@
 use Rattle.versions.proofs.Told.{draft-counted}
-use Rattle.writing.proofs.Plans.{draft-room-asked}
-use Rattle.updating.proofs.Plans.{update-plans}
+use Rattle.updating.proofs.Plans.{draft-room-asked, update-plans}
 use borrow.Author.Needs.{needs}
 use Rattle.updating.proofs.changes.plan_update.Statement.{statement}
 use Rattle.updating.proofs.changes.plan_update.Tie as tie
