@@ -49,7 +49,7 @@ extern "C" {
 
 /* The interface. The first number rises when a function that was here changes, the second when something is added. */
 #define ISIS_VERSION_MAJOR 1
-#define ISIS_VERSION_MINOR 1
+#define ISIS_VERSION_MINOR 2
 
 /* The format. */
 #define ISIS_BLOCK           512     /* bytes of a block, of either file */
@@ -62,6 +62,10 @@ extern "C" {
 #define ISIS_RECORD_MAX      32766   /* bytes of the longest record */
 #define ISIS_TAG_MAX         32767   /* the highest tag; the lowest is 1 */
 #define ISIS_FIELDS_MAX      5458    /* the most fields of a record */
+#define ISIS_CNT             52      /* bytes of an index's CNT */
+#define ISIS_SHORT_TERM_MAX  10      /* bytes of the longest term of the first tree */
+#define ISIS_TERM_MAX        30      /* bytes of the longest term */
+#define ISIS_NODES_MAX       16      /* the most nodes on one way down from a root */
 
 /* Bytes that a draft of so many fields and so many bytes of data takes in the MST: always even. */
 #define ISIS_NEED(fields, data) ((ISIS_LEADER + ISIS_DIRECTORY_ENTRY * (fields) + (data) + 1) / 2 * 2)
@@ -99,7 +103,10 @@ enum isis_answer {
     ISIS_NO_FIELD        = 12, /* no field of that tag and occurrence, or of that index */
     ISIS_NO_ROOM         = 13, /* the record does not fit before the end of the MST */
     ISIS_NOT_SOUND       = 14, /* check: the store is not sound */
-    ISIS_NO_ROOM_IN_LIST = 17  /* a list that is lent for outputs is too short for them */
+    ISIS_NO_ROOM_IN_LIST = 17, /* a list that is lent for outputs is too short for them */
+    ISIS_BAD_TERM        = 20, /* lookup: the term is not 1 to 30 bytes long, or ends with a space */
+    ISIS_BAD_INDEX       = 21, /* lookup, index check: a rule of the index is broken, see isis_lookup */
+    ISIS_NO_TERM         = 22  /* lookup: the index does not hold the term */
 };
 
 /*
@@ -237,6 +244,40 @@ uint32_t isis_revert(uint8_t *mst, isis_size mst_len, uint8_t *xrf, isis_size xr
  * Checks the whole store: 0 exactly if it is sound, otherwise 1, 2 or 14.
  */
 uint32_t isis_check(const uint8_t *mst, isis_size mst_len, const uint8_t *xrf, isis_size xrf_len);
+
+/*
+ * The search index of a catalogue: five files, each whole in memory, which the two
+ * functions below only read. CNT describes two B*trees, one for terms of up to 10
+ * bytes (nodes in N01, leaves in L01) and one for terms of 11 to 30 (N02, L02).
+ *
+ * Looks a term up and gives the place in the postings file (IFP) where the list of
+ * its postings begins: block and word as they stand beside the first key of the leaf
+ * that equals the term. The term is padded with spaces and compared with the keys
+ * byte by byte as unsigned numbers; capitals are the caller's to make.
+ * Answers 0, 20, 21 or 22. 21 is given where CNT does not have 52 bytes; where its
+ * part for the term's tree has another tree's type or an order that is not 1 to 16;
+ * where a node or leaf on the way is not there, has another number or type than its
+ * own, or a count of keys that is not 1 to twice the order; where a node on the way
+ * has a pointer 0 among its active entries; and where there is more than 16 nodes on
+ * the way. At most 16 nodes and one leaf are read, and nothing of the other tree.
+ * 22 is given too where the term is below every key of a node on the way.
+ */
+uint32_t isis_lookup(const uint8_t *cnt, isis_size cnt_len, const uint8_t *n01, isis_size n01_len,
+                     const uint8_t *l01, isis_size l01_len, const uint8_t *n02, isis_size n02_len,
+                     const uint8_t *l02, isis_size l02_len, const uint8_t *term, isis_size term_len,
+                     int32_t *block, int32_t *word);
+
+/*
+ * Checks the whole index: 0 exactly if in both trees no rule of 21 is broken by what
+ * is met from the root, keys ascend strictly in nodes and along the leaves, each
+ * pointer's key is the first key of its target, and the walk from the root meets no
+ * leaf twice, in the order of the leaves' successors, of which the last is 0.
+ * Otherwise 21. On an index that passes, a lookup finds a term exactly if a leaf
+ * that is met from the root of the term's tree holds it.
+ */
+uint32_t isis_check_index(const uint8_t *cnt, isis_size cnt_len, const uint8_t *n01, isis_size n01_len,
+                          const uint8_t *l01, isis_size l01_len, const uint8_t *n02, isis_size n02_len,
+                          const uint8_t *l02, isis_size l02_len);
 
 #ifdef __cplusplus
 }

@@ -22,10 +22,12 @@
 //! # Ok::<(), isis::Refusal>(())
 //! ```
 //!
-//! A [`CardRef`] reads a card whose bytes may not be written.
+//! A [`CardRef`] reads a card whose bytes may not be written. An [`Index`] looks terms up in
+//! the five files of a search index.
 
 mod draft;
 mod fields;
+mod index;
 pub mod raw;
 mod reader;
 mod refusal;
@@ -33,6 +35,7 @@ mod state;
 
 pub use draft::{Draft, Lists};
 pub use fields::{Field, Fields};
+pub use index::{IfpPlace, Index};
 pub use reader::CardRef;
 pub use refusal::{Answer, Refusal};
 pub use state::{Mark, Next, State};

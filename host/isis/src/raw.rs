@@ -1,5 +1,5 @@
 //! The C interface as it stands in `include/isis.h`. The safe functions of
-//! [`Card`](crate::Card) are all that most programs need.
+//! [`Card`](crate::Card) and [`Index`](crate::Index) are all that most programs need.
 
 unsafe extern "C" {
     /// Empties a card.
@@ -154,4 +154,36 @@ unsafe extern "C" {
 
     /// Checks the whole store.
     pub fn isis_check(mst: *const u8, mst_len: usize, xrf: *const u8, xrf_len: usize) -> u32;
+
+    /// Looks a term up in an index.
+    pub fn isis_lookup(
+        cnt: *const u8,
+        cnt_len: usize,
+        n01: *const u8,
+        n01_len: usize,
+        l01: *const u8,
+        l01_len: usize,
+        n02: *const u8,
+        n02_len: usize,
+        l02: *const u8,
+        l02_len: usize,
+        term: *const u8,
+        term_len: usize,
+        block: *mut i32,
+        word: *mut i32,
+    ) -> u32;
+
+    /// Checks a whole index.
+    pub fn isis_check_index(
+        cnt: *const u8,
+        cnt_len: usize,
+        n01: *const u8,
+        n01_len: usize,
+        l01: *const u8,
+        l01_len: usize,
+        n02: *const u8,
+        n02_len: usize,
+        l02: *const u8,
+        l02_len: usize,
+    ) -> u32;
 }

@@ -42,6 +42,12 @@ pub enum Refusal {
     NotSound = 14,
     /// 17: a list that is lent for outputs is too short for them; given last of all.
     NoRoomInList = 17,
+    /// 20: the term is not 1 to 30 bytes long, or ends with a space.
+    BadTerm = 20,
+    /// 21: a rule of the index is broken.
+    BadIndex = 21,
+    /// 22: the index does not hold the term.
+    NoTerm = 22,
 }
 
 impl Refusal {
@@ -62,6 +68,9 @@ impl Refusal {
         Refusal::NoRoom,
         Refusal::NotSound,
         Refusal::NoRoomInList,
+        Refusal::BadTerm,
+        Refusal::BadIndex,
+        Refusal::NoTerm,
     ];
 
     /// The number of the refusal.
@@ -99,6 +108,9 @@ impl Refusal {
             Refusal::NoRoom => "there is no room at the end of the MST",
             Refusal::NotSound => "the store is not sound",
             Refusal::NoRoomInList => "a list is too short for what it is to hold",
+            Refusal::BadTerm => "a term has 1 to 30 bytes and no space at its end",
+            Refusal::BadIndex => "the index is not right",
+            Refusal::NoTerm => "the index does not hold this term",
         }
     }
 }

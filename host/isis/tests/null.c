@@ -14,12 +14,14 @@ static uint8_t mst[2 * ISIS_BLOCK], xrf[ISIS_BLOCK];
 #define CARD mst, sizeof mst, xrf, sizeof xrf
 #define NO_DRAFT NULL, 0, NULL, 0, NULL, 0
 #define NO_LISTS NULL, 0, NULL, 0, NULL, 0
+#define NO_INDEX NULL, 0, NULL, 0, NULL, 0, NULL, 0, NULL, 0
 
 int main(void)
 {
     isis_size start, len, end, count;
     uint32_t mfn, next, mark, deleted;
     uint16_t tag;
+    int32_t block, word;
 
     IS(ISIS_BAD_LENGTH, isis_format(NO_CARD));
     IS(ISIS_BAD_LENGTH, isis_format(mst, sizeof mst, NULL, 0));
@@ -38,6 +40,9 @@ int main(void)
     IS(ISIS_BAD_LENGTH, isis_settle(NO_CARD, 1));
     IS(ISIS_BAD_LENGTH, isis_revert(NO_CARD, 1));
     IS(ISIS_BAD_LENGTH, isis_check(NO_CARD));
+    IS(ISIS_BAD_TERM, isis_lookup(NO_INDEX, NULL, 0, &block, &word));
+    IS(ISIS_BAD_INDEX, isis_lookup(NO_INDEX, (const uint8_t *)"KITE", 4, &block, &word));
+    IS(ISIS_BAD_INDEX, isis_check_index(NO_INDEX));
 
     IS(ISIS_DONE, isis_format(CARD));
     IS(ISIS_DONE, isis_create(CARD, NO_DRAFT, &mfn));
