@@ -13,7 +13,7 @@ use Rattle.word.proofs.Overwrite.{part-short}
 use Rattle.layout.specs.Entry.{placeAddress}
 use Rattle.files.specs.Control.{endOf}
 use Rattle.layout.specs.Leader.{leaderOf}
-use Rattle.layout.proofs.Tests.{and-iff}
+use Rattle.word.proofs.Tests.{and-iff}
 use Rattle.layout.specs.declared.entry.Place.{Place}
 use Rattle.record.proofs.Facts.{readable-facts}
 use Rattle.walking.specs.Inner.{Listable}

@@ -5,7 +5,7 @@ use mathlib.Core.Bool.{true}
 use mathlib.Core.List.{List}
 use lib.ListN.{length}
 use Rattle.layout.specs.Sizes.{recordMost}
-use Rattle.layout.proofs.Tests.{tests}
+use Rattle.word.proofs.Tests.{tests}
 use Rattle.drafts.specs.Draft.{sum, tagsPermitted, needOf, draftRight}
 
 -- a right draft

@@ -11,7 +11,7 @@ use lib.Seq.{take-all, take-add}
 use Rattle.layout.specs.Sizes.{recordMost, recordLength}
 use Rattle.layout.specs.Leader.{leaderOf}
 use Rattle.layout.specs.declared.leader.Leader.{Leader}
-use Rattle.layout.proofs.Tests.{tests}
+use Rattle.word.proofs.Tests.{tests}
 use Rattle.layout.proofs.Facts.{record-length-from}
 use Rattle.record.specs.Directory.{lenAt, directoryRight}
 use Rattle.record.specs.Fields.{Field, fieldsFrom, fieldsOf, dataOf}

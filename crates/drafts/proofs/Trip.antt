@@ -16,7 +16,7 @@ use Rattle.word.proofs.Integers.{u16-drop, u16-le, u16-le-at}
 use Rattle.layout.specs.Sizes.{tagMost, recordLength, tagPermitted}
 use Rattle.layout.specs.Leader.{leaderOf, leaderBytes}
 use Rattle.layout.specs.declared.leader.Leader.{Leader}
-use Rattle.layout.proofs.Tests.{tests}
+use Rattle.word.proofs.Tests.{tests}
 use Rattle.layout.proofs.Facts.{tag-facts, RecordLengthFacts, record-length-facts}
 use Rattle.layout.proofs.LeaderBytes.{leader-length, Ranged, leader-of-bytes}
 use Rattle.record.specs.Directory.{tagAt, posAt, lenAt, entriesRight, directoryRight}

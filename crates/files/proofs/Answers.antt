@@ -27,7 +27,7 @@ use Rattle.files.specs.declared.control.Control.the-variants.{Right, Wro
 use Rattle.layout.specs.declared.entry.Place.{Place}
 use Rattle.layout.specs.declared.entry.Entry.{Entry}
 use Rattle.layout.specs.declared.entry.Entry.the-variants.{Malformed}
-use Rattle.layout.proofs.Tests.{tests, and-false}
+use Rattle.word.proofs.Tests.{tests, and-false}
 use Rattle.layout.proofs.Facts.{blocks-facts}
 use Rattle.files.proofs.ControlRecord.{next-length}
 use Rattle.files.proofs.CrossReference.{heads-more}

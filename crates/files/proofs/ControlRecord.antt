@@ -17,7 +17,7 @@ use Rattle.files.specs.Control.{controlRead, storedOffset, readOffset, e
 use Rattle.files.specs.Inner.{controlOf}
 use Rattle.layout.specs.declared.sizes.Mfn.{Mfn}
 use Rattle.files.specs.declared.control.Control.the-variants.{Right, Wrong}
-use Rattle.layout.proofs.Tests.{tests}
+use Rattle.word.proofs.Tests.{tests}
 use Rattle.files.proofs.Zero.{zeros, zero-u16, zero-u32}
 use Rattle.layout.proofs.Facts.{address-of-at, blocks-facts}
 

@@ -11,6 +11,9 @@ ghost use Rattle.views.specs.Fields.{fieldOf, settledFieldOf};
 ghost use Rattle.asking.specs.Listing.{lists, allFieldsOf, allFieldsLeaves, settledAllFieldsOf, settledAllFieldsLeaves};
 ghost use Rattle.asking.specs.State.{nextFreeOf, stateOf, markNumber, deletedNumber};
 ghost use Rattle.soundness.specs.Sound.{checkAnswer};
+ghost use Rattle.index.specs.Files.{index};
+ghost use Rattle.index.specs.Lookup.{answerOf, blockOf, wordOf, lookupOf};
+ghost use Rattle.index_check.specs.Sound.{indexAnswer};
 ghost use Rattle.store.specs.Store.{store};
 ghost use Rattle.drafts.specs.Draft.{draft};
 
@@ -261,4 +264,40 @@ pub extern "C" fn isis_check(mst: &[u8], xrf: &[u8]) -> u32
     ensures { λ r. ⌜ r ≡ numberOf (checkAnswer (store (now (mst .entry)) (now (xrf .entry)))) ⌝ }
 {
     number(soundness::check::check(mst, xrf))
+}
+
+// Looks a term up in an index: the place in the IFP where the list of its postings begins.
+#[no_mangle]
+pub extern "C" fn isis_lookup(
+    cnt: &[u8],
+    n01: &[u8],
+    l01: &[u8],
+    n02: &[u8],
+    l02: &[u8],
+    term: &[u8],
+    block: &mut i32,
+    word: &mut i32,
+) -> u32
+    ensures answers { λ r. ⌜ r ≡ answerOf (lookupOf (index (now (cnt .entry)) (now (n01 .entry)) (now (l01 .entry)) (now (n02 .entry)) (now (l02 .entry))) (now (term .entry))) ⌝ }
+    ensures blocks { λ _. ⌜ now (block .exit) ≡ blockOf (lookupOf (index (now (cnt .entry)) (now (n01 .entry)) (now (l01 .entry)) (now (n02 .entry)) (now (l02 .entry))) (now (term .entry))) ⌝ }
+    ensures words { λ _. ⌜ now (word .exit) ≡ wordOf (lookupOf (index (now (cnt .entry)) (now (n01 .entry)) (now (l01 .entry)) (now (n02 .entry)) (now (l02 .entry))) (now (term .entry))) ⌝ }
+{
+    let found = index::lookup::lookup(cnt, n01, l01, n02, l02, term);
+    *block = index::lookup::block(found);
+    *word = index::lookup::word(found);
+    index::lookup::answer(found)
+}
+
+// Checks a whole index.
+#[no_mangle]
+pub extern "C" fn isis_check_index(
+    cnt: &[u8],
+    n01: &[u8],
+    l01: &[u8],
+    n02: &[u8],
+    l02: &[u8],
+) -> u32
+    ensures { λ r. ⌜ r ≡ indexAnswer (index (now (cnt .entry)) (now (n01 .entry)) (now (l01 .entry)) (now (n02 .entry)) (now (l02 .entry))) ⌝ }
+{
+    index_check::check::check_index(cnt, n01, l01, n02, l02)
 }

@@ -19,7 +19,7 @@ use Rattle.layout.specs.declared.entry.Mark.{Mark}
 use Rattle.layout.specs.declared.entry.Mark.the-variants.{Settled, Changed, New}
 use Rattle.layout.specs.declared.entry.Entry.{Entry}
 use Rattle.layout.specs.declared.entry.Entry.the-variants.{Malformed, At}
-use Rattle.layout.proofs.Tests.{and-false}
+use Rattle.word.proofs.Tests.{and-false}
 use Rattle.layout.proofs.Facts.{end-stays, end-moves}
 use Rattle.layout.proofs.LeaderBytes.{leader-is, first-bytes-leader}
 

@@ -20,7 +20,7 @@ use Rattle.layout.specs.declared.entry.Mark.the-variants.{Settled, Chang
 use Rattle.layout.specs.declared.entry.Place.{Place}
 use Rattle.layout.specs.declared.entry.Entry.{Entry}
 use Rattle.layout.specs.declared.entry.Entry.the-variants.{Gone, Malformed, At}
-use Rattle.layout.proofs.Tests.{false-true}
+use Rattle.word.proofs.Tests.{false-true}
 use Rattle.layout.proofs.Facts.{well-placed-facts, well-placed-later, encodable}
 
 -- ---- what decode and encode ask

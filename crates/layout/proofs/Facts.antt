@@ -9,7 +9,7 @@ use borrow.Author.Tests.{le-leb, lt-leb}
 use Rattle.word.proofs.Overwrite.{lt-or-ge}
 use Rattle.layout.specs.Sizes.{mstBlocks, xrfBlocks, mstMost, xrfMost, mfnMost, recordMost, fieldsMost, tagMost, offsetMost, addressLimit, blocksWithin, addressOf, blockAt, offsetAt, endMoved, recordLength, tagPermitted}
 use Rattle.layout.specs.Entry.{wellPlaced}
-use Rattle.layout.proofs.Tests.{tests}
+use Rattle.word.proofs.Tests.{tests}
 
 -- ---- limits
 

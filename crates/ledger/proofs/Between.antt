@@ -7,7 +7,7 @@ use mathlib.Core.Path.{_≡_, refl, sym, ap, _∙_}
 use mathlib.Core.Bool.{Bool, true, false}
 use mathlib.Core.List.{List, [], _∷_}
 use lib.ListN.{length}
-use Rattle.layout.proofs.Tests.{false-true}
+use Rattle.word.proofs.Tests.{false-true}
 use Rattle.record.specs.Fields.{Field}
 use Rattle.ledger.specs.Call.{Call, format, settle, revert}
 use Rattle.ledger.specs.Ledger.{Marking, new, changed, Item, held, Ledger, nextMfn, lengthsFine, itemOf, keptFields, keptMark, isNewMark}

@@ -10,7 +10,7 @@ use lib.Dec.{ltb}
 use lib.ListN.{length}
 use borrow.Author.Tests.{eqb-false, lt-ltb, le-ltb}
 use Rattle.word.proofs.Overwrite.{lt-or-ge}
-use Rattle.layout.proofs.Tests.{false-true}
+use Rattle.word.proofs.Tests.{false-true}
 use Rattle.store.specs.Answer.{after, numberOf}
 use Rattle.store.specs.declared.answer.Answer.the-variants.{BadLength, NoMfn}
 use Rattle.store.specs.Store.{Store}

@@ -8,7 +8,7 @@ use mathlib.Core.List.{List, [], _∷_, _++_}
 use lib.Dec.{eqb, ltb}
 use borrow.Author.Tests.{lt-ltb}
 use Rattle.layout.specs.Sizes.{capacityOf}
-use Rattle.layout.proofs.Tests.{tests, false-true}
+use Rattle.word.proofs.Tests.{tests, false-true}
 use Rattle.drafts.specs.Bytes.{needFor}
 use Rattle.store.specs.Answer.{Refusal, refuse, lowest, numberOf}
 use Rattle.store.specs.declared.answer.Answer.{Answer}

@@ -11,7 +11,7 @@ use Rattle.layout.specs.declared.entry.Mark.{Mark}
 use Rattle.layout.specs.declared.entry.Mark.the-variants.{Settled, Changed, New}
 use Rattle.layout.specs.declared.entry.Place.{Place}
 use Rattle.layout.specs.declared.leader.Leader.{Leader}
-use Rattle.layout.proofs.Tests.{false-true}
+use Rattle.word.proofs.Tests.{false-true}
 use Rattle.record.specs.Fields.{Field, fieldsOf}
 use Rattle.drafts.specs.Bytes.{needFor}
 use Rattle.drafts.proofs.Draftable.{Draftable}

@@ -12,7 +12,7 @@ use Rattle.layout.specs.declared.entry.Mark.{Mark}
 use Rattle.layout.specs.declared.entry.Mark.the-variants.{Settled, Changed, New}
 use Rattle.layout.specs.declared.entry.Place.{Place}
 use Rattle.layout.specs.declared.entry.Entry.the-variants.{Gone}
-use Rattle.layout.proofs.Tests.{cond-holds}
+use Rattle.word.proofs.Tests.{cond-holds}
 use Rattle.record.specs.Fields.{fieldsOf, fieldNamed, findOf}
 use Rattle.record.specs.declared.fields.Found.{Found}
 use Rattle.store.specs.Answer.{after, numberOf}

@@ -10,7 +10,7 @@ use Rattle.layout.specs.Sizes.{recordMost, recordLength, tagPermitted}
 use Rattle.layout.specs.Leader.{leaderOf}
 use Rattle.layout.specs.declared.entry.Place.{Place}
 use Rattle.layout.specs.declared.leader.Leader.{Leader}
-use Rattle.layout.proofs.Tests.{tests}
+use Rattle.word.proofs.Tests.{tests}
 use Rattle.layout.proofs.Facts.{record-length-facts}
 use Rattle.record.specs.Directory.{tagAt, posAt, lenAt, entryRight, entriesRight, directoryRight}
 use Rattle.record.specs.Record.{leaderRight, extentRight, baseRight, fieldsRight, statusFor, statusRight, backFine, wellFormed, recordRight, noBack, Readable}

@@ -9,7 +9,7 @@ use mathlib.Core.Option.{Option, some, none}
 use lib.ListN.{length, getD}
 use borrow.Author.Tests.{le-leb, lt-leb}
 use Rattle.word.proofs.Overwrite.{lt-or-ge}
-use Rattle.layout.proofs.Tests.{tests}
+use Rattle.word.proofs.Tests.{tests}
 use Rattle.ledger.specs.Call.{Call}
 use Rattle.script.specs.Ops.{callSize, opIf, opNamed, takenBy, countsFit, opFitting, opIn}
 use Rattle.replay.specs.Calls.{Script, callOf, leftOf, firstOp, firstCall}

@@ -14,7 +14,7 @@ use lib.Seq.{take-at, drop-drop}
 use borrow.Author.Tests.{lt-ltb, le-ltb}
 use Rattle.word.specs.Overwrite.{overwrite}
 use Rattle.word.proofs.Overwrite.{overwrite-none, overwrite-next, overwrite-length}
-use Rattle.layout.proofs.Tests.{tests}
+use Rattle.word.proofs.Tests.{tests}
 use Rattle.store.specs.Store.{Store}
 use Rattle.ledger.specs.Call.{Call, Outcome}
 use Rattle.ledger.specs.StoreRun.{answerS, nextS, answersS, afterS}

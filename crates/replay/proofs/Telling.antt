@@ -7,7 +7,7 @@ use mathlib.Core.Bool.{Bool, true, false}
 use mathlib.Core.List.{List, [], _∷_}
 use denote.Enum.Declared.{tagOf}
 use types.Run.{OneOf}
-use Rattle.layout.proofs.Tests.{false-true}
+use Rattle.word.proofs.Tests.{false-true}
 use Rattle.store.specs.Reading.{lengthsPermitted}
 use Rattle.writing.specs.Refusals.{formatAnswer}
 use Rattle.writing.specs.Calls.{formatLeaves}

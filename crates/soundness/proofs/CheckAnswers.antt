@@ -10,7 +10,7 @@ use borrow.Author.Tests.{not-true, not-false}
 use Rattle.layout.specs.Sizes.{capacityOf}
 use Rattle.files.specs.Control.{nextOf}
 use Rattle.layout.specs.declared.sizes.Mfn.{Mfn}
-use Rattle.layout.proofs.Tests.{and-false}
+use Rattle.word.proofs.Tests.{and-false}
 use Rattle.store.specs.Answer.{refuse}
 use Rattle.store.specs.Gate.{gateOf, gateAnswer}
 use Rattle.store.specs.declared.answer.Answer.{Answer}

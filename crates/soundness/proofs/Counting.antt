@@ -11,7 +11,7 @@ use mathlib.Core.List.{List, [], _∷_}
 use lib.Dec.{eqb, eqb·suc-suc}
 use lib.ListN.{length}
 use borrow.Author.Tests.{eqb-true, eqb-false, eq-eqb, ne-eqb}
-use Rattle.layout.proofs.Tests.{and-iff, false-true}
+use Rattle.word.proofs.Tests.{and-iff, false-true}
 use Rattle.soundness.specs.Sound.{allTo, elem}
 use Rattle.soundness.specs.Passes.{bit, count, sumTo}
 use Rattle.soundness.proofs.Stepping.{Ascends}

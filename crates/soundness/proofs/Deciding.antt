@@ -15,7 +15,7 @@ use Rattle.layout.specs.Leader.{leaderOf}
 use Rattle.layout.specs.declared.entry.Place.{Place}
 use Rattle.layout.specs.declared.entry.Entry.{Entry}
 use Rattle.layout.specs.declared.entry.Entry.the-variants.{Gone, Malformed, At}
-use Rattle.layout.proofs.Tests.{tests, and-iff, false-true, not-both, cond-holds}
+use Rattle.word.proofs.Tests.{tests, and-iff, false-true, not-both, cond-holds}
 use Rattle.record.specs.Record.{recordRight, noBack, backRight}
 use Rattle.record.proofs.Facts.{right-facts}
 use Rattle.store.specs.Reading.{mfnInRange, entryFor, isChanged, recordFrom, recordAt, leaderAt, backAddress, backFine, recordFine, settledRecord, settledFine, versionFine}

@@ -23,7 +23,7 @@ use Rattle.layout.specs.declared.entry.Mark.the-variants.{Settled, Changed, New
 use Rattle.layout.specs.declared.entry.Place.{Place}
 use Rattle.layout.specs.declared.entry.Entry.the-variants.{At}
 use Rattle.layout.specs.declared.leader.Leader.{Leader}
-use Rattle.layout.proofs.Tests.{tests, false-true}
+use Rattle.word.proofs.Tests.{tests, false-true}
 use Rattle.layout.proofs.Facts.{address-of-at, well-placed-at, RecordLengthFacts, record-length-facts, EndMovedFacts, end-moved-facts, end-moved-in}
 use Rattle.files.proofs.ControlRecord.{control-facts, next-placed, control-right-placed}
 use Rattle.files.proofs.ControlMoves.{control-front, EndPlace, ControlMoved, end-moved}

@@ -24,7 +24,7 @@ use Rattle.layout.specs.declared.entry.Mark.the-variants.{Settled, Changed, New
 use Rattle.layout.specs.declared.entry.Place.{Place}
 use Rattle.layout.specs.declared.entry.Entry.the-variants.{At}
 use Rattle.layout.specs.declared.leader.Leader.{Leader}
-use Rattle.layout.proofs.Tests.{tests}
+use Rattle.word.proofs.Tests.{tests}
 use Rattle.layout.proofs.Facts.{well-placed-later, end-moved-facts}
 use Rattle.files.proofs.ControlRecord.{control-facts, next-placed, end-placed, control-right-placed}
 use Rattle.files.proofs.ControlMoves.{out-of, control-front}

@@ -20,7 +20,7 @@ use Rattle.layout.specs.declared.entry.Mark.the-variants.{Settled, Changed, New
 use Rattle.layout.specs.declared.entry.Place.{Place}
 use Rattle.layout.specs.declared.entry.Entry.{Entry}
 use Rattle.layout.specs.declared.entry.Entry.the-variants.{Gone, Malformed, At}
-use Rattle.layout.proofs.Tests.{tests, false-true}
+use Rattle.word.proofs.Tests.{tests, false-true}
 use Rattle.files.proofs.ControlRecord.{ControlFacts, control-facts}
 use Rattle.files.proofs.CrossReference.{block-in}
 use Rattle.store.specs.Answer.{Refusal, refuse, lowest}

@@ -16,7 +16,7 @@ use Rattle.layout.specs.Sizes.{recordMost, endMoved, recordLength}
 use Rattle.files.specs.Control.{endOf}
 use Rattle.layout.specs.Leader.{leaderOf}
 use Rattle.layout.specs.declared.leader.Leader.{Leader}
-use Rattle.layout.proofs.Tests.{tests, false-true}
+use Rattle.word.proofs.Tests.{tests, false-true}
 use Rattle.layout.proofs.Facts.{RecordLengthFacts, record-length-facts, EndMovedFacts, end-moved-facts}
 use Rattle.layout.proofs.LeaderBytes.{leader-same, leader-front}
 use Rattle.store.specs.Reading.{recordFrom}

@@ -21,7 +21,7 @@ use Rattle.layout.specs.declared.entry.Mark.the-variants.{Settled, Changed, New
 use Rattle.layout.specs.declared.entry.Place.{Place}
 use Rattle.layout.specs.declared.entry.Entry.the-variants.{At}
 use Rattle.layout.specs.declared.leader.Leader.{Leader}
-use Rattle.layout.proofs.Tests.{false-true, or-false}
+use Rattle.word.proofs.Tests.{false-true, or-false}
 use Rattle.layout.proofs.Facts.{well-placed-facts, well-placed-later, encodable}
 use Rattle.files.proofs.ControlRecord.{formatted-length, formatted-next, formatted-end, formatted-right}
 use Rattle.files.proofs.ControlMoves.{ControlMoved, both-moved}

@@ -22,7 +22,7 @@ use Rattle.layout.specs.declared.entry.Place.{Place}
 use Rattle.layout.specs.declared.entry.Entry.{Entry}
 use Rattle.layout.specs.declared.entry.Entry.the-variants.{Gone, Malformed, At}
 use Rattle.layout.specs.declared.leader.Leader.{Leader}
-use Rattle.layout.proofs.Tests.{tests, false-true, not-both, cond-holds}
+use Rattle.word.proofs.Tests.{tests, false-true, not-both, cond-holds}
 use Rattle.layout.proofs.Facts.{blocks-facts, WellPlacedFacts, well-placed-facts}
 use Rattle.files.proofs.ControlRecord.{control-facts}
 use Rattle.files.proofs.CrossReference.{entry-well-placed}

@@ -14,7 +14,7 @@ use Rattle.layout.specs.declared.sizes.Mfn.{Mfn}
 use Rattle.layout.specs.declared.entry.Place.{Place}
 use Rattle.layout.specs.declared.entry.Entry.the-variants.{At}
 use Rattle.layout.specs.declared.leader.Leader.{Leader}
-use Rattle.layout.proofs.Tests.{tests}
+use Rattle.word.proofs.Tests.{tests}
 use Rattle.store.specs.Store.{Store, store}
 use Rattle.store.specs.Answer.{numberOf, Refusal, lowest, after}
 use Rattle.store.specs.Reading.{lengthsPermitted, controlFine, mfnInRange, entryFor, placeFor, leaderAt, versionFine}

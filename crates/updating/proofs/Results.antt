@@ -13,7 +13,7 @@ use Rattle.files.specs.CrossReference.{withEntry}
 use Rattle.layout.specs.declared.entry.Mark.the-variants.{Changed}
 use Rattle.layout.specs.declared.entry.Place.{Place}
 use Rattle.layout.specs.declared.leader.Leader.{Leader}
-use Rattle.layout.proofs.Tests.{false-true, or-false}
+use Rattle.word.proofs.Tests.{false-true, or-false}
 use Rattle.drafts.specs.Draft.{needOf, draftRight, draftFields, draft}
 use Rattle.record.specs.Fields.{Field}
 use Rattle.drafts.specs.Bytes.{needFor}

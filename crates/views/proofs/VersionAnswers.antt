@@ -17,7 +17,7 @@ use Rattle.layout.specs.declared.entry.Mark.{Mark}
 use Rattle.layout.specs.declared.entry.Mark.the-variants.{Settled, Changed, New}
 use Rattle.layout.specs.declared.entry.Place.{Place}
 use Rattle.layout.specs.declared.leader.Leader.{Leader}
-use Rattle.layout.proofs.Tests.{and-false}
+use Rattle.word.proofs.Tests.{and-false}
 use Rattle.record.specs.Record.{Readable}
 use Rattle.record.proofs.Facts.{readable-facts}
 use Rattle.store.specs.Answer.{numberOf, Refusal, refuse, lowest, after}

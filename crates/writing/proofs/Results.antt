@@ -18,7 +18,7 @@ use Rattle.layout.specs.declared.entry.Mark.{Mark}
 use Rattle.layout.specs.declared.entry.Mark.the-variants.{Settled, Changed, New}
 use Rattle.layout.specs.declared.entry.Place.{Place}
 use Rattle.layout.specs.declared.leader.Leader.{Leader}
-use Rattle.layout.proofs.Tests.{false-true, and-left}
+use Rattle.word.proofs.Tests.{false-true, and-left}
 use Rattle.drafts.specs.Draft.{needOf, draftRight, draftFields, draft}
 use Rattle.drafts.specs.Bytes.{needFor}
 use Rattle.drafts.proofs.Draftable.{draft-need}

@@ -1,0 +1,4 @@
+pub mod Shapes
+pub mod Records
+pub mod Finding
+pub mod Looking

@@ -1,0 +1,201 @@
+-- The tests of CNT's part and of records, by what each test found: one law per `return`, whose premises are what is known there.
+use Prim.Native.Nat.{ℕ, zero, suc, _+_, _*_, _-_, _<_, _≤_}
+use native.Mathlib.Nat.{add-zero, add-suc}
+use native.Mathlib.Numerals.{add-one}
+use native.Mathlib.Omega.{arith}
+use mathlib.Core.Path.{_≡_, refl, sym, ap, _∙_}
+use mathlib.Core.Bool.{Bool, true, false, not, _&&_, cond, and-false}
+use mathlib.Core.List.{List}
+use lib.Dec.{eqb, leb}
+use lib.ListN.{length}
+use borrow.Author.Tests.{eq-eqb, ne-eqb, le-leb, lt-leb, lt-ltb, le-ltb, not-true, not-false}
+use Rattle.word.specs.Integer.{u16At, u32At}
+use Rattle.terms.specs.Key.{below, ascending, ascendingAfter}
+use Rattle.terms.specs.Term.{widthOf}
+use Rattle.terms.proofs.Padding.{width-high}
+use Rattle.index.specs.Inner.{TreeFits}
+use Rattle.index.specs.Layout.{sizeOf, placeOf, ockAt, puntAt, keyAt, keysOf, keysFrom, partPlace, treeOf, nodeShape, leafShape}
+use Rattle.index.specs.Rules.{orderRight, partRight, partOf, recordThere, recordRight, puntsRight, nodeRight}
+use Rattle.index.specs.declared.layout.Shape.{Shape}
+use Rattle.index.specs.declared.layout.Tree.{Tree}
+use Rattle.index.specs.declared.layout.Part.{Part}
+use Rattle.index.specs.declared.layout.Part.the-variants.{Right, Wrong}
+use Rattle.word.proofs.Tests.{tests, and-left}
+
+-- ---- CNT's part
+
+module _ (n : ℕ) where
+  pub order-none : n < 1 → false ≡ orderRight n
+  order-none h = rw (lt-leb _ _ h)
+
+  pub order-rest : 1 ≤ n → leb n 16 ≡ orderRight n
+  order-rest h = rw (le-leb _ _ h)
+
+  pub order-high : (b : Bool) → b ≡ orderRight n → not b ≡ false → n ≤ 16
+  order-high b e h = let q = simp tests at (sym e ∙ not-false b h) in q .1
+
+module _ (cnt : List ℕ) (kind : ℕ) where
+  pub part-length : (length cnt ≡ 52 → ⊥) → Wrong ≡ partOf cnt kind
+  unfolding partOf partRight
+  part-length h = rw (ne-eqb _ _ h)
+
+  pub part-type : (id : ℕ) → id ≡ u16At cnt (partPlace kind) → (id ≡ kind → ⊥) → Wrong ≡ partOf cnt kind
+  unfolding partOf partRight
+  part-type id e h = rw (← e, ne-eqb _ _ h, and-false)
+
+  module _ (n : ℕ) (b : Bool) (r : b ≡ orderRight n) (h : not b ≡ true) where
+    pub part-ordn : n ≡ u16At cnt (partPlace kind + 2) → Wrong ≡ partOf cnt kind
+    unfolding partOf partRight
+    part-ordn e = rw (← e, ← r, not-true b h, and-false)
+
+    pub part-ordf : n ≡ u16At cnt (partPlace kind + 4) → Wrong ≡ partOf cnt kind
+    unfolding partOf partRight
+    part-ordf e = rw (← e, ← r, not-true b h, and-false)
+
+pub ruleset part-answers = (order-none, order-rest, part-length, part-type, part-ordn, part-ordf)
+
+-- ---- a record met
+
+module _ (f : List ℕ) (s : Shape) (n : ℕ) where
+  pub there-none : n < 1 → false ≡ recordThere f s n
+  unfolding recordThere
+  there-none h = rw (lt-leb _ _ h)
+
+  pub there-negative : 2147483647 < n → false ≡ recordThere f s n
+  unfolding recordThere
+  there-negative h = rw (le-ltb n 2147483648 (omega arith), and-false)
+
+  pub there-rest : (size : ℕ) → 1 ≤ n → n ≤ 2147483647 → size ≡ sizeOf s → leb (n * size) (length f) ≡ recordThere f s n
+  unfolding recordThere
+  there-rest size h k e = rw (le-leb _ _ h, lt-ltb n 2147483648 (omega arith), e)
+
+  module _ (b : Bool) (r : b ≡ recordThere f s n) where
+    pub right-not-there : not b ≡ true → false ≡ recordRight f s n
+    unfolding recordRight
+    right-not-there h = rw (← r, not-true b h)
+
+    pub is-there : not b ≡ false → recordThere f s n ≡ true
+    is-there h = sym r ∙ not-false b h
+
+  module _ (at : ℕ) (e : at ≡ placeOf s n) where
+    pub right-number : (pos : ℕ) → pos ≡ u32At f at → (pos ≡ n → ⊥) → false ≡ recordRight f s n
+    unfolding recordRight
+    right-number pos p h = rw (← e, ← p, ne-eqb _ _ h, and-false)
+
+    pub right-rest : (b : Bool) (pos count kind : ℕ) → b ≡ recordThere f s n → not b ≡ false → pos ≡ u32At f at → pos ≡ n
+        → count ≡ ockAt f s n → 1 ≤ count → count ≤ s .most → kind ≡ u16At f (at + 6) → eqb kind (s .kind) ≡ recordRight f s n
+    unfolding recordRight
+    right-rest b pos count kind r h p q k l m i =
+        rw (← k, ← e, ← p, ← i, ← r, not-false b h, eq-eqb _ _ q, le-leb _ _ l, le-leb _ _ m)
+
+  module _ (count : ℕ) (k : count ≡ ockAt f s n) where
+    pub right-empty : count < 1 → false ≡ recordRight f s n
+    unfolding recordRight
+    right-empty h = rw (← k, lt-leb _ _ h, and-false)
+
+    pub right-full : s .most < count → false ≡ recordRight f s n
+    unfolding recordRight
+    right-full h = rw (← k, lt-leb _ _ h, and-false, and-false)
+
+    -- the loop over PUNTs
+    pub punts-done : (i : ℕ) → count ≤ i → i ≤ count → puntsRight f s n i ≡ true → true ≡ puntsRight f s n (ockAt f s n)
+    punts-done i h l inv = let z : count ≡ i = omega arith in rw (← k, z, inv)
+
+  module _ (b : Bool) (r : b ≡ recordRight f s n) where
+    pub node-not : not b ≡ true → false ≡ nodeRight f s n
+    unfolding nodeRight
+    node-not h = rw (← r, not-true b h)
+
+    pub node-rest : (p : Bool) → not b ≡ false → p ≡ puntsRight f s n (ockAt f s n) → p ≡ nodeRight f s n
+    unfolding nodeRight
+    node-rest p h e = rw (← r, not-false b h, e)
+
+    pub is-right : not b ≡ false → recordRight f s n ≡ true
+    is-right h = sym r ∙ not-false b h
+
+  pub punts-more : (i punt : ℕ) → puntsRight f s n i ≡ true → punt ≡ puntAt f s n i → (punt ≡ 0 → ⊥) → puntsRight f s n (i + 1) ≡ true
+  unfolding puntsRight
+  punts-more i punt inv e h = rw (add-one, inv, ← e, ne-eqb _ _ h)
+
+  punts-fail : (d i : ℕ) → puntAt f s n i ≡ 0 → puntsRight f s n (suc i + d) ≡ false
+  unfolding puntsRight
+  punts-fail zero i e = rw (add-zero, e, and-false)
+  punts-fail (suc d) i e = rw (add-suc, punts-fail d i e)
+
+  pub punts-zero : (count i punt : ℕ) → count ≡ ockAt f s n → i < count → punt ≡ puntAt f s n i → punt ≡ 0 → false ≡ puntsRight f s n (ockAt f s n)
+  punts-zero count i punt k h e z =
+      let d : ℕ = count - suc i in
+      let q : suc i + d ≡ count = omega arith in
+      rw (← k, ← q) (sym (punts-fail d i (sym e ∙ z)))
+
+pub ruleset record-answers = (there-none, there-negative, there-rest, right-not-there, right-number, right-rest, right-empty, right-full, punts-done, punts-zero, node-not, node-rest, is-there, is-right)
+
+-- ---- CNT's part is right
+
+pub part-right : (cnt : List ℕ) (kind id n m w root : ℕ) (a b : Bool) (x y : Shape) → length cnt ≡ 52 → id ≡ u16At cnt (partPlace kind) → id ≡ kind
+    → n ≡ u16At cnt (partPlace kind + 2) → a ≡ orderRight n → not a ≡ false → m ≡ u16At cnt (partPlace kind + 4) → b ≡ orderRight m → not b ≡ false
+    → w ≡ widthOf kind → x ≡ nodeShape kind w n → y ≡ leafShape kind w m → root ≡ u32At cnt (partPlace kind + 12)
+    → Right (record { nodes = x; leaves = y; root = root }) ≡ partOf cnt kind
+unfolding partOf partRight treeOf
+part-right cnt kind id n m w root a b x y l i j p q r s t u v d e z =
+    rw (d, e, z, v, ← p, ← s, ← i, eq-eqb _ _ l, eq-eqb _ _ j, ← q, ← t, not-false a r, not-false b u)
+
+-- ---- the keys of a record ascend
+
+module _ (f : List ℕ) (s : Shape) (n count : ℕ) where
+  start : (m : ℕ) → ascending (keysFrom f s n (suc m) 0) ≡ ascendingAfter (keyAt f s n 0) (keysFrom f s n m 1)
+  unfolding ascending keysFrom
+  start m = refl
+
+  pub keys-start : count ≡ ockAt f s n → 1 ≤ count → ascending (keysOf f s n) ≡ ascendingAfter (keyAt f s n (1 - 1)) (keysFrom f s n (count - 1) 1)
+  keys-start k h =
+      let e : count ≡ suc (count - 1) = omega arith in
+      ap (λ (m : ℕ). ascending (keysFrom f s n m 0)) (sym k ∙ e) ∙ start (count - 1)
+
+  module _ (r : Bool) (i : ℕ) (inv : r ≡ ascendingAfter (keyAt f s n (i - 1)) (keysFrom f s n (count - i) i)) where
+    pub keys-done : count ≤ i → true ≡ r
+    unfolding ascendingAfter keysFrom
+    keys-done h = let z : count - i ≡ 0 = omega arith in rw (inv, z)
+
+    keys-step : i < count
+        → r ≡ (below (keyAt f s n (i - 1)) (keyAt f s n i) && ascendingAfter (keyAt f s n i) (keysFrom f s n (count - (i + 1)) (i + 1)))
+    unfolding ascendingAfter keysFrom
+    keys-step h = let e : count - i ≡ suc (count - (i + 1)) = omega arith in rw (inv, e)
+
+    module _ (b : Bool) (h : i < count) (e : b ≡ below (keyAt f s n (i - 1)) (keyAt f s n i)) where
+      pub keys-stop : not b ≡ true → false ≡ r
+      keys-stop q = rw (keys-step h, ← e, not-true b q)
+
+      pub keys-more : not b ≡ false → r ≡ ascendingAfter (keyAt f s n (i + 1 - 1)) (keysFrom f s n (count - (i + 1)) (i + 1))
+      keys-more q = let z : i + 1 - 1 ≡ i = omega arith in rw (keys-step h, ← e, not-false b q, z)
+
+-- a right node is a right record
+pub node-record : (f : List ℕ) (s : Shape) (n : ℕ) (b : Bool) → b ≡ nodeRight f s n → not b ≡ false → recordRight f s n ≡ true
+unfolding nodeRight
+node-record f s n b e q = and-left _ _ (sym e ∙ not-false b q)
+
+-- ---- the tree that CNT's part describes
+
+module _ (cnt : List ℕ) (kind : ℕ) where
+  tree-fits : partRight cnt kind ≡ true → TreeFits (treeOf cnt kind)
+  unfolding partRight treeOf
+  tree-fits e =
+      let q = simp tests at e in
+      let w = width-high kind in
+      record {
+        nodes-fit = record { head-low = omega arith; head-high = omega arith; width-high = w; step-low = omega arith; step-high = omega arith; most-low = omega (arith, q .0 .1 .0); most-high = omega (arith, q .0 .1 .1) };
+        leaves-fit = record {
+          shape = record { head-low = omega arith; head-high = omega arith; width-high = w; step-low = omega arith; step-high = omega arith; most-low = omega (arith, q .1 .0); most-high = omega (arith, q .1 .1) };
+          head-leaf = omega arith;
+          step-leaf = omega arith;
+        };
+        widths = refl;
+      }
+
+  part-cases : (b : Bool) (u t : Tree) → (b ≡ true → TreeFits u) → cond b (Right u) Wrong ≡ Right t → TreeFits t
+  part-cases true u t f e = let z : u ≡ t = cc in rw z at (f refl)
+  part-cases false u t f e = let z : _≡_ {A = ℕ} 0 1 = cc in absurd (omega arith)
+
+  pub part-fits : (p : Part) (t : Tree) → p ≡ partOf cnt kind → p ≡ Right t → TreeFits t
+  unfolding partOf
+  part-fits p t e q = part-cases (partRight cnt kind) (treeOf cnt kind) t tree-fits (sym e ∙ q)

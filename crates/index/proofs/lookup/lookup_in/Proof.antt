@@ -1,0 +1,64 @@
+use Rattle.terms.proofs.Padding.{width-high, key-length}
+use Rattle.index.proofs.Looking.{tree-wrong, tree-searched}
+use native.Mathlib.Omega.{arith}
+use mathlib.Core.Path.{sym}
+use borrow.Author.Needs.{needs}
+use Rattle.index.proofs.Records.{part-fits}
+use Rattle.index.proofs.lookup.lookup_in.Statement.{statement}
+use Rattle.index.proofs.lookup.lookup_in.Tie as tie
+
+read-part-requires : tie.Need-read-part-requires
+read-part-requires c κs = (c .before .before .before .before .pre .0, c .before .before .before .before .pre .1)
+
+enum-known-p : tie.Need-enum-known-p
+enum-known-p c = search needs
+
+enum-told : tie.Need-enum-told
+enum-told c = search needs
+
+returns : tie.Need-returns
+returns c = tree-wrong _ _ _ _ _ _ (c .before .before .read-part .ensures) (c .enum-told .given .1)
+
+slice-aggregate-copy-to : tie.Need-slice-aggregate-copy-to
+slice-aggregate-copy-to c = search needs
+
+copy-to-requires : tie.Need-copy-to-requires
+copy-to-requires c κs =
+    let start = c .before .before .before .before .before .before .before .before .before in
+    omega (arith, start .pre .2, width-high (start .args .kind))
+
+slice-aggregate-go-down : tie.Need-slice-aggregate-go-down
+slice-aggregate-go-down c =
+    let start = c .before .before .before .before .before .before .before .before .before .before .before .before in
+    sym (key-length (start .args .term .now) _ (omega (arith, start .pre .2, width-high (start .args .kind))) (c .before .before .copy-to .ensures))
+
+go-down-requires : tie.Need-go-down-requires
+go-down-requires c κs =
+    let c7 = c .before .before .before .before .before .before .before in
+    let start = c7 .before .before .before .before .before in
+    let f = part-fits _ _ _ _ (c7 .read-part .ensures) (c .before .before .before .before .before .p .given .1) in
+    let l = key-length (start .args .term .now) _ (omega (arith, start .pre .2, width-high (start .args .kind))) (c .before .before .copy-to .ensures) in
+    (f, omega (arith, f .nodes-fit .width-high))
+
+returns-2 : tie.Need-returns-2
+returns-2 c =
+    let c3 = c .before .before .before in
+    let c6 = c3 .before .before .before in
+    let c8 = c6 .before .before in
+    let c13 = c8 .before .before .before .before .before in
+    tree-searched _ _ _ _ _ _ (c8 .read-part .ensures) _ _ _ (c6 .p .given .1) (c13 .pre .2)
+    (part-fits _ _ _ _ (c8 .read-part .ensures) (c6 .p .given .1) .nodes-fit .width-high) (c3 .copy-to .ensures) (c .go-down .ensures)
+
+pub lookup-in-spec : {M : Type 1} → statement M
+lookup-in-spec =
+    tie.close
+    (tie.spec
+    read-part-requires
+    enum-known-p
+    enum-told
+    returns
+    slice-aggregate-copy-to
+    copy-to-requires
+    slice-aggregate-go-down
+    go-down-requires
+    returns-2)

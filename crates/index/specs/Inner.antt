@@ -1,0 +1,27 @@
+-- Inner: serves functions of this crate and of the check, no part of what is promised.
+use Prim.Native.Nat.{ℕ, _+_, _≤_}
+use mathlib.Core.Path.{_≡_}
+use Rattle.index.specs.declared.layout.Shape.{Shape}
+use Rattle.index.specs.declared.layout.Tree.{Tree}
+
+-- what functions ask of the records of a file: the bounds that CNT's rules give
+pub record ShapeFits (s : Shape) : Type 0 where
+  pub head-low : 8 ≤ s .head
+  pub head-high : s .head ≤ 12
+  pub width-high : s .width ≤ 30
+  pub step-low : s .width + 4 ≤ s .step
+  pub step-high : s .step ≤ 38
+  pub most-low : 1 ≤ s .most
+  pub most-high : s .most ≤ 32
+
+-- of a leaf file's
+pub record LeafFits (s : Shape) : Type 0 where
+  pub shape : ShapeFits s
+  pub head-leaf : 12 ≤ s .head
+  pub step-leaf : s .width + 8 ≤ s .step
+
+-- of a tree
+pub record TreeFits (t : Tree) : Type 0 where
+  pub nodes-fit : ShapeFits (t .nodes)
+  pub leaves-fit : LeafFits (t .leaves)
+  pub widths : t .nodes .width ≡ t .leaves .width

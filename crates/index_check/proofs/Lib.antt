@@ -1,0 +1,5 @@
+pub mod Passing
+pub mod Sound
+pub mod Checking
+pub mod Held
+pub mod Theorems

@@ -1,0 +1,290 @@
+-- The check, by what each step found: one law per `return` and per turn of a loop.
+use Prim.Native.Nat.{ℕ, zero, suc, _+_, _-_, _<_, _≤_}
+use native.Mathlib.Nat.{add-zero, add-suc}
+use native.Mathlib.Numerals.{add-one}
+use native.Mathlib.Omega.{arith}
+use mathlib.Core.Path.{_≡_, refl, sym, ap, _∙_}
+use mathlib.Core.Bool.{Bool, true, false, not, cond, and-false}
+use mathlib.Core.List.{List, [], _∷_, _++_}
+use lib.Dec.{eqb}
+use borrow.Author.Tests.{eq-eqb, ne-eqb, lt-ltb, le-ltb, not-true, not-false}
+use Rattle.terms.specs.Key.{same, below, ascending}
+use Rattle.index.specs.Layout.{keyPlace, ockAt, keyAt, puntAt, psAt, keysOf}
+use Rattle.index.specs.Rules.{recordThere, recordRight, nodeRight}
+use Rattle.index.specs.Lookup.{leafNumber}
+use Rattle.index.specs.Reading.{Met, Node, Leaf, TooDeep}
+use Rattle.index.specs.declared.layout.Shape.{Shape}
+use Rattle.index.specs.declared.layout.Tree.{Tree}
+use Rattle.word.proofs.Tests.{and-left, false-true}
+use Rattle.word.specs.Overwrite.{part}
+use Rattle.index_check.specs.Walk.{behind, behindFirst, walk}
+use Rattle.index_check.specs.Sound.{pointerRight, pointersRight}
+use Rattle.index_check.specs.Passes.{nodeSound, lastKey, follows, leafSound, leafStep, ended, Reached, isStopped, passOne, pass}
+use Rattle.index_check.specs.declared.check.Progress.{Progress}
+use Rattle.index_check.specs.declared.check.Progress.the-variants.{Stopped, Before, After}
+
+-- ---- a pointer
+
+module _ (nodes leaves : List ℕ) (t : Tree) (n i punt : ℕ) (p : punt ≡ puntAt nodes (t .nodes) n i) where
+  module _ (b : Bool) (l : punt < 2147483648) (e : b ≡ recordThere nodes (t .nodes) punt) where
+    pub pointer-node-out : not b ≡ true → false ≡ pointerRight nodes leaves t n i
+    unfolding pointerRight
+    pointer-node-out q = rw (← p, lt-ltb _ _ l, ← e, not-true b q)
+
+    pub pointer-node : (r : Bool) → not b ≡ false → r ≡ same (keyAt nodes (t .nodes) n i) (keyAt nodes (t .nodes) punt 0) → r ≡ pointerRight nodes leaves t n i
+    unfolding pointerRight
+    pointer-node r q d = rw (← p, lt-ltb _ _ l, ← e, not-false b q, d)
+
+  module _ (m : ℕ) (b : Bool) (l : 2147483648 ≤ punt) (k : m ≡ leafNumber punt) (e : b ≡ recordThere leaves (t .leaves) m) where
+    pub pointer-leaf-out : not b ≡ true → false ≡ pointerRight nodes leaves t n i
+    unfolding pointerRight
+    pointer-leaf-out q = rw (← p, le-ltb _ _ l, ← k, ← e, not-true b q)
+
+    pub pointer-leaf : (r : Bool) → not b ≡ false → t .nodes .width ≡ t .leaves .width
+        → r ≡ same (keyAt nodes (t .nodes) n i) (part leaves (keyPlace (t .leaves) m 0) (t .nodes .width)) → r ≡ pointerRight nodes leaves t n i
+    unfolding pointerRight
+    pointer-leaf r q z d =
+        rw (← p, le-ltb _ _ l, ← k, ← e, not-false b q)
+        (d ∙ ap (λ (v : ℕ). same (keyAt nodes (t .nodes) n i) (part leaves (keyPlace (t .leaves) m 0) v)) z)
+
+pub leaf-number : (punt : ℕ) → punt < 4294967296 → 2147483648 ≤ punt → 4294967295 - punt + 1 ≡ leafNumber punt
+leaf-number punt h l = omega arith
+
+-- ---- the pointers of a node
+
+module _ (nodes leaves : List ℕ) (t : Tree) (n : ℕ) where
+  pub pointers-more : (i : ℕ) (b : Bool) → pointersRight nodes leaves t n i ≡ true → b ≡ pointerRight nodes leaves t n i → not b ≡ false
+      → pointersRight nodes leaves t n (i + 1) ≡ true
+  unfolding pointersRight
+  pointers-more i b inv e q = rw (add-one, inv, ← e, not-false b q)
+
+  pointers-fail : (d i : ℕ) → pointerRight nodes leaves t n i ≡ false → pointersRight nodes leaves t n (suc i + d) ≡ false
+  unfolding pointersRight
+  pointers-fail zero i e = rw (add-zero, e, and-false)
+  pointers-fail (suc d) i e = rw (add-suc, pointers-fail d i e)
+
+  module _ (count : ℕ) (k : count ≡ ockAt nodes (t .nodes) n) where
+    pub pointers-done : (i : ℕ) → count ≤ i → i ≤ count → pointersRight nodes leaves t n i ≡ true
+        → true ≡ pointersRight nodes leaves t n (ockAt nodes (t .nodes) n)
+    pointers-done i h l inv = let z : count ≡ i = omega arith in rw (← k, z, inv)
+
+    pub pointers-stop : (i : ℕ) (b : Bool) → i < count → b ≡ pointerRight nodes leaves t n i → not b ≡ true
+        → false ≡ pointersRight nodes leaves t n (ockAt nodes (t .nodes) n)
+    pointers-stop i b h e q =
+        let d : ℕ = count - suc i in
+        let z : suc i + d ≡ count = omega arith in
+        rw (← k, ← z) (sym (pointers-fail d i (sym e ∙ not-true b q)))
+
+  -- ---- a node
+
+  module _ (a : Bool) (e : a ≡ nodeRight nodes (t .nodes) n) where
+    pub sound-not-right : not a ≡ true → false ≡ nodeSound nodes leaves t n
+    unfolding nodeSound
+    sound-not-right q = rw (← e, not-true a q)
+
+    module _ (b : Bool) (q : not a ≡ false) (d : b ≡ ascending (keysOf nodes (t .nodes) n)) where
+      pub sound-not-ascending : not b ≡ true → false ≡ nodeSound nodes leaves t n
+      unfolding nodeSound
+      sound-not-ascending p = rw (← e, not-false a q, ← d, not-true b p)
+
+      pub sound-rest : (r : Bool) → not b ≡ false → r ≡ pointersRight nodes leaves t n (ockAt nodes (t .nodes) n) → r ≡ nodeSound nodes leaves t n
+      unfolding nodeSound
+      sound-rest r p z = rw (← e, not-false a q, ← d, not-false b p, z)
+
+-- ---- a leaf
+
+module _ (leaves : List ℕ) (s : Shape) (n : ℕ) where
+  pub not-successor : (m ps : ℕ) → ps ≡ psAt leaves s m → (ps ≡ n → ⊥) → false ≡ follows leaves s (After m) n
+  unfolding follows
+  not-successor m ps e h = rw (← e, ne-eqb _ _ h)
+
+  pub successor : (m ps : ℕ) (r : Bool) → ps ≡ psAt leaves s m → ps ≡ n → r ≡ below (lastKey leaves s m) (keyAt leaves s n 0) → r ≡ follows leaves s (After m) n
+  unfolding follows
+  successor m ps r e h d = rw (← e, eq-eqb _ _ h, d)
+
+  module _ (w : Progress) where
+    pub follows-stopped : w ≡ Stopped → false ≡ follows leaves s w n
+    unfolding follows
+    follows-stopped e = rw e
+
+    pub follows-before : w ≡ Before → true ≡ follows leaves s w n
+    unfolding follows
+    follows-before e = rw e
+
+    pub follows-after : (m : ℕ) (r : Bool) → w ≡ After m → r ≡ follows leaves s (After m) n → r ≡ follows leaves s w n
+    follows-after m r e d = rw e d
+
+    module _ (a : Bool) (e : a ≡ recordRight leaves s n) where
+      pub leaf-not-right : not a ≡ true → Stopped ≡ leafStep leaves s n w
+      unfolding leafStep leafSound
+      leaf-not-right q = rw (← e, not-true a q)
+
+      module _ (b : Bool) (q : not a ≡ false) (d : b ≡ ascending (keysOf leaves s n)) where
+        pub leaf-not-ascending : not b ≡ true → Stopped ≡ leafStep leaves s n w
+        unfolding leafStep leafSound
+        leaf-not-ascending p = rw (← e, not-false a q, ← d, not-true b p)
+
+        module _ (c : Bool) (p : not b ≡ false) (g : c ≡ follows leaves s w n) where
+          pub leaf-not-following : not c ≡ true → Stopped ≡ leafStep leaves s n w
+          unfolding leafStep leafSound
+          leaf-not-following o = rw (← e, not-false a q, ← d, not-false b p, ← g, not-true c o)
+
+          pub leaf-follows : not c ≡ false → After n ≡ leafStep leaves s n w
+          unfolding leafStep leafSound
+          leaf-follows o = rw (← e, not-false a q, ← d, not-false b p, ← g, not-false c o)
+
+  pub reached-after : (w : Progress) (m : ℕ) → w ≡ After m → Reached leaves s w → recordRight leaves s m ≡ true
+  unfolding Reached
+  reached-after w m e r = rw e at r
+
+-- ---- the end
+
+module _ (leaves : List ℕ) (s : Shape) (w : Progress) where
+  pub ended-stopped : w ≡ Stopped → false ≡ ended leaves s w
+  unfolding ended
+  ended-stopped e = rw e
+
+  pub ended-before : w ≡ Before → true ≡ ended leaves s w
+  unfolding ended
+  ended-before e = rw e
+
+  pub ended-after : (m ps : ℕ) → w ≡ After m → ps ≡ psAt leaves s m → eqb ps 0 ≡ ended leaves s w
+  unfolding ended
+  ended-after m ps e d = rw (e, d)
+
+-- ---- a pass
+
+module _ (nodes leaves : List ℕ) (t : Tree) where
+  pub pass-append : (xs ys : List Met) (w : Progress) → pass nodes leaves t (xs ++ ys) w ≡ pass nodes leaves t ys (pass nodes leaves t xs w)
+  unfolding pass
+  pass-append [] ys w = refl
+  pass-append (x ∷ xs) ys w = pass-append xs ys (passOne nodes leaves t x w)
+
+  cond-same : (b : Bool) (w : Progress) → cond b w w ≡ w
+  cond-same true w = refl
+  cond-same false w = refl
+
+  one-stopped : (m : Met) → passOne nodes leaves t m Stopped ≡ Stopped
+  unfolding passOne leafStep leafSound follows
+  one-stopped (Node n) = cond-same (nodeSound nodes leaves t n) Stopped
+  one-stopped (Leaf n) = simp and-false
+  one-stopped TooDeep = refl
+
+  pub pass-stopped : (ms : List Met) → pass nodes leaves t ms Stopped ≡ Stopped
+  unfolding pass
+  pass-stopped [] = refl
+  pass-stopped (m ∷ ms) = ap (pass nodes leaves t ms) (one-stopped m) ∙ pass-stopped ms
+
+  -- the last leaf met keeps its rules
+  reached-cond : (b : Bool) (v w : Progress) → (b ≡ true → Reached leaves (t .leaves) v) → Reached leaves (t .leaves) w → Reached leaves (t .leaves) (cond b v w)
+  reached-cond true v w f g = f refl
+  reached-cond false v w f g = g
+
+  reached-stopped : Reached leaves (t .leaves) Stopped
+  unfolding Reached
+  reached-stopped = tt
+
+  reached-leaf : (n : ℕ) (w : Progress) → leafSound leaves (t .leaves) w n ≡ true → Reached leaves (t .leaves) (After n)
+  unfolding Reached leafSound
+  reached-leaf n w e = and-left _ _ (and-left _ _ e)
+
+  pub leaf-reached : (n : ℕ) (w : Progress) → Reached leaves (t .leaves) (leafStep leaves (t .leaves) n w)
+  unfolding leafStep
+  leaf-reached n w = reached-cond (leafSound leaves (t .leaves) w n) (After n) Stopped (reached-leaf n w) reached-stopped
+
+  reached-one : (m : Met) (w : Progress) → Reached leaves (t .leaves) w → Reached leaves (t .leaves) (passOne nodes leaves t m w)
+  unfolding passOne
+  reached-one (Node n) w r = reached-cond (nodeSound nodes leaves t n) w Stopped (λ e. r) reached-stopped
+  reached-one (Leaf n) w r = leaf-reached n w
+  reached-one TooDeep w r = reached-stopped
+
+  pub pass-reached : (ms : List Met) (w : Progress) → Reached leaves (t .leaves) w → Reached leaves (t .leaves) (pass nodes leaves t ms w)
+  unfolding pass
+  pass-reached [] w r = r
+  pass-reached (m ∷ ms) w r = pass-reached ms (passOne nodes leaves t m w) (reached-one m w r)
+
+  pub reached-before : Reached leaves (t .leaves) Before
+  unfolding Reached
+  reached-before = tt
+
+  -- ---- over a node
+
+  module _ (n : ℕ) (b : Bool) (e : b ≡ nodeSound nodes leaves t n) (q : not b ≡ false) where
+    sound-node : nodeRight nodes (t .nodes) n ≡ true
+    unfolding nodeSound
+    sound-node = and-left _ _ (and-left _ _ (sym e ∙ not-false b q))
+
+    pub sound-record : recordRight nodes (t .nodes) n ≡ true
+    unfolding nodeRight
+    sound-record = and-left _ _ sound-node
+
+  module _ (left n : ℕ) (w : Progress) where
+    pub over-none : left ≡ 0 → Stopped ≡ pass nodes leaves t (walk nodes (t .nodes) left n) w
+    unfolding pass walk passOne
+    over-none h = rw h
+
+    over-step : (left ≡ 0 → ⊥)
+        → pass nodes leaves t (walk nodes (t .nodes) left n) w
+        ≡ pass nodes leaves t
+        (cond (nodeRight nodes (t .nodes) n) (behindFirst (λ m. walk nodes (t .nodes) (left - 1) m) nodes (t .nodes) n (ockAt nodes (t .nodes) n)) [])
+        (cond (nodeSound nodes leaves t n) w Stopped)
+    unfolding pass walk passOne
+    over-step h =
+        let e : left ≡ suc (left - 1) = omega arith in
+        ap (λ (k : ℕ). pass nodes leaves t (walk nodes (t .nodes) k n) w) e
+
+    module _ (b : Bool) (h : left ≡ 0 → ⊥) (e : b ≡ nodeSound nodes leaves t n) where
+      pub over-unsound : not b ≡ true → Stopped ≡ pass nodes leaves t (walk nodes (t .nodes) left n) w
+      over-unsound q = sym (over-step h ∙ rw (← e, not-true b q) (pass-stopped _))
+
+      -- all entries done
+      pub over-done : (count i : ℕ) (at : Progress) → not b ≡ false → count ≡ ockAt nodes (t .nodes) n → count ≤ i → i ≤ count
+          → at ≡ pass nodes leaves t (behindFirst (λ m. walk nodes (t .nodes) (left - 1) m) nodes (t .nodes) n i) w
+          → at ≡ pass nodes leaves t (walk nodes (t .nodes) left n) w
+      over-done count i at q k l m inv =
+          let z : ockAt nodes (t .nodes) n ≡ i = omega arith in
+          inv ∙ sym (over-step h ∙ rw (← e, not-false b q, sound-node n b e q, z))
+
+      over-rest : (from : ℕ → List Met) (d i : ℕ) → pass nodes leaves t (behindFirst from nodes (t .nodes) n i) w ≡ Stopped
+          → pass nodes leaves t (behindFirst from nodes (t .nodes) n (i + d)) w ≡ Stopped
+      unfolding behindFirst
+      over-rest from zero i z = rw add-zero z
+      over-rest from (suc d) i z =
+          rw add-suc
+          (pass-append (behindFirst from nodes (t .nodes) n (i + d)) (behind from (puntAt nodes (t .nodes) n (i + d))) w
+          ∙ ap (pass nodes leaves t (behind from (puntAt nodes (t .nodes) n (i + d)))) (over-rest from d i z)
+          ∙ pass-stopped (behind from (puntAt nodes (t .nodes) n (i + d))))
+
+      -- stopped among the entries
+      pub over-stopped : (count i : ℕ) (at : Progress) → not b ≡ false → count ≡ ockAt nodes (t .nodes) n → i < count → at ≡ Stopped
+          → at ≡ pass nodes leaves t (behindFirst (λ m. walk nodes (t .nodes) (left - 1) m) nodes (t .nodes) n i) w
+          → Stopped ≡ pass nodes leaves t (walk nodes (t .nodes) left n) w
+      over-stopped count i at q k l s inv =
+          let z : i + (count - i) ≡ ockAt nodes (t .nodes) n = omega arith in
+          sym (over-step h ∙ rw (← e, not-false b q, sound-node n b e q, ← z) (over-rest (λ m. walk nodes (t .nodes) (left - 1) m) (count - i) i (sym inv ∙ s)))
+
+  -- ---- one entry more
+
+  module _ (from : ℕ → List Met) (n i punt : ℕ) (w at : Progress) (p : punt ≡ puntAt nodes (t .nodes) n i)
+      (inv : at ≡ pass nodes leaves t (behindFirst from nodes (t .nodes) n i) w) where
+    more : (ms : List Met) → behind from punt ≡ ms → (next : Progress) → next ≡ pass nodes leaves t ms at
+        → next ≡ pass nodes leaves t (behindFirst from nodes (t .nodes) n (i + 1)) w
+    unfolding behindFirst
+    more ms b next e =
+        rw (add-one, ← p, b) (e ∙ ap (pass nodes leaves t ms) inv ∙ sym (pass-append (behindFirst from nodes (t .nodes) n i) ms w))
+
+    pub more-node : (next : Progress) → punt < 2147483648 → next ≡ pass nodes leaves t (from punt) at
+        → next ≡ pass nodes leaves t (behindFirst from nodes (t .nodes) n (i + 1)) w
+    more-node next l e = more (from punt) (rw (lt-ltb _ _ l)) next e
+
+    pub more-leaf : (next : Progress) → 2147483648 ≤ punt → punt < 4294967296 → next ≡ leafStep leaves (t .leaves) (4294967295 - punt + 1) at
+        → next ≡ pass nodes leaves t (behindFirst from nodes (t .nodes) n (i + 1)) w
+    unfolding pass passOne
+    more-leaf next l m e =
+        let k : 4294967295 - punt + 1 ≡ 4294967296 - punt = omega arith in
+        more (Leaf (4294967296 - punt) ∷ []) (rw (le-ltb _ _ l)) next (e ∙ rw k)
+
+pub stopped-is : (w : Progress) → isStopped w ≡ true → w ≡ Stopped
+stopped-is Stopped e = refl
+stopped-is Before e = absurd (false-true e)
+stopped-is (After m) e = absurd (false-true e)

@@ -1,0 +1,394 @@
+use mathlib.Core.Logic.{⊎-elim}
+use mathlib.Core.List.{List}
+use native.Mathlib.Omega.{arith}
+use Prim.Native.Nat.{_-_, _≤_, ℕ, _<_}
+use mathlib.Core.Path.{_≡_, refl, sym, _∙_}
+use borrow.Author.Needs.{needs}
+use Rattle.index_check.proofs.Passing.{over-none, over-unsound, sound-record, over-done, over-stopped, more-node, more-leaf, pass-reached, leaf-reached, stopped-is}
+use borrow.Fn.Kinds.{In}
+use borrow.Fn.PlainCycle.{Measures, is, falls, and}
+use Rattle.index.specs.Reading.{Met}
+use Rattle.index.proofs.Shapes.{right-facts}
+use Rattle.index_check.specs.Walk.{walk, behindFirst}
+use Rattle.index_check.specs.Passes.{pass, Reached}
+use Rattle.index_check.proofs.check.+over_node.{statement}
+use Rattle.index_check.proofs.check.+over_node.Tie.{close}
+use Rattle.index_check.proofs.check.over_node.Reads as over-node
+use Rattle.index_check.proofs.check.over_node.Kinds as over-node-kinds
+use Rattle.index_check.proofs.check.+over_node.Lts-over_node as over-node-lts
+use Rattle.index_check.proofs.check.node_sound.Reads as node-sound-reads
+use Rattle.index_check.proofs.check.over_leaf.Reads as over-leaf-reads
+use Rattle.index_check.proofs.check.stopped.Reads as stopped-reads
+use Rattle.index.proofs.rules.count_at.Reads as count-at-reads
+use Rattle.index.proofs.rules.punt_at.Reads as punt-at-reads
+
+abbrev μ-over-node : Measures 2 over-node-kinds.ps ℕ
+μ-over-node κs a = a .1 .1 .1 .0
+
+abbrev over-node-at : ℕ → In 2 over-node-kinds.ps
+over-node-at t = and 2 over-node-kinds.ps (is 2 over-node-kinds.ps μ-over-node t) over-node.Pre
+
+abbrev over-node-below : ℕ → In 2 over-node-kinds.ps
+over-node-below t =
+    and 2 over-node-kinds.ps (falls 2 over-node-kinds.ps _<_ μ-over-node t) over-node.Pre
+
+abbrev over-node-Inv-loop : over-node-lts.InvT-loop
+over-node-Inv-loop nodes leaves t left n s l count at₀ i₀ at i =
+    (i ≤ count) × (Reached leaves (t .leaves) at) ×
+    (at ≡ pass nodes leaves t (behindFirst (λ m. walk nodes (t .nodes) (left - 1) m) nodes (t .nodes) n i) at₀)
+
+abbrev over-node-μ-loop : over-node-lts.MeasureT-loop
+over-node-μ-loop nodes leaves t left n s l count at₀ i₀ at i = count - i
+
+over-node-returns : (t : ℕ) → over-node-lts.Need-returns (
+  node-sound-reads.Asked,
+  node-sound-reads.Learnt,
+  count-at-reads.Asked,
+  count-at-reads.Learnt,
+  stopped-reads.Asked,
+  stopped-reads.Learnt,
+  punt-at-reads.Asked,
+  punt-at-reads.Learnt,
+  over-node-below t,
+  over-node.Post,
+  over-leaf-reads.Asked,
+  over-leaf-reads.Learnt,
+) (over-node-at t) over-node.Post over-node-Inv-loop over-node-μ-loop
+over-node-returns t c = over-none _ _ _ _ _ _ (c .if1 .taken)
+
+over-node-node-sound-requires : (t : ℕ) → over-node-lts.Need-node-sound-requires (
+  node-sound-reads.Asked,
+  node-sound-reads.Learnt,
+  count-at-reads.Asked,
+  count-at-reads.Learnt,
+  stopped-reads.Asked,
+  stopped-reads.Learnt,
+  punt-at-reads.Asked,
+  punt-at-reads.Learnt,
+  over-node-below t,
+  over-node.Post,
+  over-leaf-reads.Asked,
+  over-leaf-reads.Learnt,
+) (over-node-at t) over-node.Post over-node-Inv-loop over-node-μ-loop
+over-node-node-sound-requires t c κs = c .before .before .before .pre .1 .0
+
+over-node-returns-2 : (t : ℕ) → over-node-lts.Need-returns-2 (
+  node-sound-reads.Asked,
+  node-sound-reads.Learnt,
+  count-at-reads.Asked,
+  count-at-reads.Learnt,
+  stopped-reads.Asked,
+  stopped-reads.Learnt,
+  punt-at-reads.Asked,
+  punt-at-reads.Learnt,
+  over-node-below t,
+  over-node.Post,
+  over-leaf-reads.Asked,
+  over-leaf-reads.Learnt,
+) (over-node-at t) over-node.Post over-node-Inv-loop over-node-μ-loop
+over-node-returns-2 t c = over-unsound _ _ _ _ _ _ _ (c .before .before .if1 .left) (c .before .node-sound .ensures) (c .if2 .taken)
+
+over-node-count-at-requires : (t : ℕ) → over-node-lts.Need-count-at-requires (
+  node-sound-reads.Asked,
+  node-sound-reads.Learnt,
+  count-at-reads.Asked,
+  count-at-reads.Learnt,
+  stopped-reads.Asked,
+  stopped-reads.Learnt,
+  punt-at-reads.Asked,
+  punt-at-reads.Learnt,
+  over-node-below t,
+  over-node.Post,
+  over-leaf-reads.Asked,
+  over-leaf-reads.Learnt,
+) (over-node-at t) over-node.Post over-node-Inv-loop over-node-μ-loop
+over-node-count-at-requires t c κs =
+    let c3 = c .before .before .before in
+    let c7 = c3 .before .before .before .before in
+    (c7 .pre .1 .0 .nodes-fit, right-facts _ _ _ (sound-record _ _ _ _ _ (c3 .node-sound .ensures) (c .before .before .if2 .left)) .there)
+
+over-node-loop-holds : (t : ℕ) → over-node-lts.Need-loop-holds (
+  node-sound-reads.Asked,
+  node-sound-reads.Learnt,
+  count-at-reads.Asked,
+  count-at-reads.Learnt,
+  stopped-reads.Asked,
+  stopped-reads.Learnt,
+  punt-at-reads.Asked,
+  punt-at-reads.Learnt,
+  over-node-below t,
+  over-node.Post,
+  over-leaf-reads.Asked,
+  over-leaf-reads.Learnt,
+) (over-node-at t) over-node.Post over-node-Inv-loop over-node-μ-loop
+unfolding pass behindFirst
+over-node-loop-holds t c = (omega arith, c .before .before .before .before .before .before .before .before .pre .1 .1, refl)
+
+over-node-stopped-requires : (t : ℕ) → over-node-lts.Need-stopped-requires (
+  node-sound-reads.Asked,
+  node-sound-reads.Learnt,
+  count-at-reads.Asked,
+  count-at-reads.Learnt,
+  stopped-reads.Asked,
+  stopped-reads.Learnt,
+  punt-at-reads.Asked,
+  punt-at-reads.Learnt,
+  over-node-below t,
+  over-node.Post,
+  over-leaf-reads.Asked,
+  over-leaf-reads.Learnt,
+) (over-node-at t) over-node.Post over-node-Inv-loop over-node-μ-loop
+over-node-stopped-requires t c κs = search needs
+
+over-node-returns-3 : (t : ℕ) → over-node-lts.Need-returns-3 (
+  node-sound-reads.Asked,
+  node-sound-reads.Learnt,
+  count-at-reads.Asked,
+  count-at-reads.Learnt,
+  stopped-reads.Asked,
+  stopped-reads.Learnt,
+  punt-at-reads.Asked,
+  punt-at-reads.Learnt,
+  over-node-below t,
+  over-node.Post,
+  over-leaf-reads.Asked,
+  over-leaf-reads.Learnt,
+) (over-node-at t) over-node.Post over-node-Inv-loop over-node-μ-loop
+over-node-returns-3 t c =
+    let c3 = c .before .before .before in
+    let c4 = c3 .before in
+    let c7 = c4 .before .before .before in
+    let c8 = c7 .before in
+    let c9 = c8 .before in
+    over-stopped _ _ _ _ _ _ _ (c9 .if1 .left) (c8 .node-sound .ensures) _ _ _ (c7 .if2 .left) (c4 .count-at .ensures .0)
+    (c .before .before .loop-test .taken) (stopped-is _ (sym (c .before .stopped .ensures) ∙ c .if3 .taken)) (c3 .loop .inv .2)
+
+over-node-punt-at-requires : (t : ℕ) → over-node-lts.Need-punt-at-requires (
+  node-sound-reads.Asked,
+  node-sound-reads.Learnt,
+  count-at-reads.Asked,
+  count-at-reads.Learnt,
+  stopped-reads.Asked,
+  stopped-reads.Learnt,
+  punt-at-reads.Asked,
+  punt-at-reads.Learnt,
+  over-node-below t,
+  over-node.Post,
+  over-leaf-reads.Asked,
+  over-leaf-reads.Learnt,
+) (over-node-at t) over-node.Post over-node-Inv-loop over-node-μ-loop
+over-node-punt-at-requires t c κs =
+    let p = c .before .before .before .before .before .before .before .before .before .before .before .before .pre in (
+      p .1 .0 .nodes-fit,
+      (sound-record _ _ _ _ _ (c .before .before .before .before .before .before .before .before .node-sound .ensures) (c .before .before .before .before .before .before .before .if2 .left)),
+      omega arith,
+    )
+
+over-node-sub-over-node : (t : ℕ) → over-node-lts.Need-sub-over-node (
+  node-sound-reads.Asked,
+  node-sound-reads.Learnt,
+  count-at-reads.Asked,
+  count-at-reads.Learnt,
+  stopped-reads.Asked,
+  stopped-reads.Learnt,
+  punt-at-reads.Asked,
+  punt-at-reads.Learnt,
+  over-node-below t,
+  over-node.Post,
+  over-leaf-reads.Asked,
+  over-leaf-reads.Learnt,
+) (over-node-at t) over-node.Post over-node-Inv-loop over-node-μ-loop
+over-node-sub-over-node t c = omega arith
+
+over-node-over-node-requires : (t : ℕ) → over-node-lts.Need-over-node-requires (
+  node-sound-reads.Asked,
+  node-sound-reads.Learnt,
+  count-at-reads.Asked,
+  count-at-reads.Learnt,
+  stopped-reads.Asked,
+  stopped-reads.Learnt,
+  punt-at-reads.Asked,
+  punt-at-reads.Learnt,
+  over-node-below t,
+  over-node.Post,
+  over-leaf-reads.Asked,
+  over-leaf-reads.Learnt,
+) (over-node-at t) over-node.Post over-node-Inv-loop over-node-μ-loop
+over-node-over-node-requires t c κs = (
+  omega arith,
+  (
+    c .before .before .before .before .before .before .before .before .before .before .before .before .before .before .pre .1 .0,
+    c .before .before .before .before .before .loop .inv .1,
+  ),
+)
+
+over-node-sub-over-leaf : (t : ℕ) → over-node-lts.Need-sub-over-leaf (
+  node-sound-reads.Asked,
+  node-sound-reads.Learnt,
+  count-at-reads.Asked,
+  count-at-reads.Learnt,
+  stopped-reads.Asked,
+  stopped-reads.Learnt,
+  punt-at-reads.Asked,
+  punt-at-reads.Learnt,
+  over-node-below t,
+  over-node.Post,
+  over-leaf-reads.Asked,
+  over-leaf-reads.Learnt,
+) (over-node-at t) over-node.Post over-node-Inv-loop over-node-μ-loop
+over-node-sub-over-leaf t c = omega arith
+
+over-node-add-over-leaf : (t : ℕ) → over-node-lts.Need-add-over-leaf (
+  node-sound-reads.Asked,
+  node-sound-reads.Learnt,
+  count-at-reads.Asked,
+  count-at-reads.Learnt,
+  stopped-reads.Asked,
+  stopped-reads.Learnt,
+  punt-at-reads.Asked,
+  punt-at-reads.Learnt,
+  over-node-below t,
+  over-node.Post,
+  over-leaf-reads.Asked,
+  over-leaf-reads.Learnt,
+) (over-node-at t) over-node.Post over-node-Inv-loop over-node-μ-loop
+over-node-add-over-leaf t c = omega arith
+
+over-node-over-leaf-requires : (t : ℕ) → over-node-lts.Need-over-leaf-requires (
+  node-sound-reads.Asked,
+  node-sound-reads.Learnt,
+  count-at-reads.Asked,
+  count-at-reads.Learnt,
+  stopped-reads.Asked,
+  stopped-reads.Learnt,
+  punt-at-reads.Asked,
+  punt-at-reads.Learnt,
+  over-node-below t,
+  over-node.Post,
+  over-leaf-reads.Asked,
+  over-leaf-reads.Learnt,
+) (over-node-at t) over-node.Post over-node-Inv-loop over-node-μ-loop
+over-node-over-leaf-requires t c κs =
+    let c5 = c .before .before .before .before .before in
+    let c14 = c5 .before .before .before .before .before .before .before .before .before in
+    (c14 .pre .1 .0 .leaves-fit, c5 .loop .inv .1)
+
+over-node-add-i : (t : ℕ) → over-node-lts.Need-add-i (
+  node-sound-reads.Asked,
+  node-sound-reads.Learnt,
+  count-at-reads.Asked,
+  count-at-reads.Learnt,
+  stopped-reads.Asked,
+  stopped-reads.Learnt,
+  punt-at-reads.Asked,
+  punt-at-reads.Learnt,
+  over-node-below t,
+  over-node.Post,
+  over-leaf-reads.Asked,
+  over-leaf-reads.Learnt,
+) (over-node-at t) over-node.Post over-node-Inv-loop over-node-μ-loop
+over-node-add-i t c = omega arith
+
+over-node-loop-less : (t : ℕ) → over-node-lts.Need-loop-less (
+  node-sound-reads.Asked,
+  node-sound-reads.Learnt,
+  count-at-reads.Asked,
+  count-at-reads.Learnt,
+  stopped-reads.Asked,
+  stopped-reads.Learnt,
+  punt-at-reads.Asked,
+  punt-at-reads.Learnt,
+  over-node-below t,
+  over-node.Post,
+  over-leaf-reads.Asked,
+  over-leaf-reads.Learnt,
+) (over-node-at t) over-node.Post over-node-Inv-loop over-node-μ-loop
+over-node-loop-less t c = omega arith
+
+over-node-loop-again : (t : ℕ) → over-node-lts.Need-loop-again (
+  node-sound-reads.Asked,
+  node-sound-reads.Learnt,
+  count-at-reads.Asked,
+  count-at-reads.Learnt,
+  stopped-reads.Asked,
+  stopped-reads.Learnt,
+  punt-at-reads.Asked,
+  punt-at-reads.Learnt,
+  over-node-below t,
+  over-node.Post,
+  over-leaf-reads.Asked,
+  over-leaf-reads.Learnt,
+) (over-node-at t) over-node.Post over-node-Inv-loop over-node-μ-loop
+over-node-loop-again t c =
+    let a = c .before .before .before .before .before .before .before .before .before .before .before .before .before .before .args in
+    let l = c .before .before .before .before .before .loop in
+    let p = c .before .punt-at .ensures in
+    let from : ℕ → List Met = λ m. walk (a .nodes .now) (a .t .nodes) (a .left - 1) m in
+    ⊎-elim
+    (λ w. (
+      omega arith,
+      rw (w .2, w .1 .ensures) (pass-reached _ _ _ _ _ (l .inv .1)),
+      rw (w .2) (more-node _ _ _ from _ _ _ _ _ p (l .inv .2) _ (w .0 .taken) (w .1 .ensures)),
+    ))
+    (λ w. (
+      omega arith,
+      rw (w .2, w .1 .ensures) (leaf-reached (a .nodes .now) _ (a .t) _ _),
+      rw (w .2) (more-leaf _ _ _ from _ _ _ _ _ p (l .inv .2) _ (w .0 .left) (omega arith) (w .1 .ensures)),
+    ))
+    (c .if4 .came)
+
+over-node-returns-4 : (t : ℕ) → over-node-lts.Need-returns-4 (
+  node-sound-reads.Asked,
+  node-sound-reads.Learnt,
+  count-at-reads.Asked,
+  count-at-reads.Learnt,
+  stopped-reads.Asked,
+  stopped-reads.Learnt,
+  punt-at-reads.Asked,
+  punt-at-reads.Learnt,
+  over-node-below t,
+  over-node.Post,
+  over-leaf-reads.Asked,
+  over-leaf-reads.Learnt,
+) (over-node-at t) over-node.Post over-node-Inv-loop over-node-μ-loop
+over-node-returns-4 t c =
+    over-done _ _ _ _ _ _ _ (c .before .before .before .before .before .before .before .if1 .left)
+    (c .before .before .before .before .before .before .node-sound .ensures) _ _ _ (c .before .before .before .before .before .if2 .left)
+    (c .before .before .count-at .ensures .0) (omega arith) (c .before .loop .inv .0) (c .before .loop .inv .2)
+
+pub +over-node-spec : {M : Type 1} → statement M
++over-node-spec = close μ-over-node λ t. over-node-lts.spec (
+  node-sound-reads.Asked,
+  node-sound-reads.Learnt,
+  count-at-reads.Asked,
+  count-at-reads.Learnt,
+  stopped-reads.Asked,
+  stopped-reads.Learnt,
+  punt-at-reads.Asked,
+  punt-at-reads.Learnt,
+  over-node-below t,
+  over-node.Post,
+  over-leaf-reads.Asked,
+  over-leaf-reads.Learnt,
+)
+    (over-node-at t)
+    over-node.Post
+    over-node-Inv-loop
+    over-node-μ-loop
+    (over-node-returns t)
+    (over-node-node-sound-requires t)
+    (over-node-returns-2 t)
+    (over-node-count-at-requires t)
+    (over-node-loop-holds t)
+    (over-node-stopped-requires t)
+    (over-node-returns-3 t)
+    (over-node-punt-at-requires t)
+    (over-node-sub-over-node t)
+    (over-node-over-node-requires t)
+    (over-node-sub-over-leaf t)
+    (over-node-add-over-leaf t)
+    (over-node-over-leaf-requires t)
+    (over-node-add-i t)
+    (over-node-loop-less t)
+    (over-node-loop-again t)
+    (over-node-returns-4 t)

@@ -1,0 +1,62 @@
+-- What is proved of an index that passes. Document 02, C-11: "On an index that passes, a term is found exactly if a leaf met from its tree's root holds it."
+use Prim.Native.Nat.{ℕ}
+use mathlib.Core.Path.{_≡_}
+use mathlib.Core.Logic.{_⊎_, _↔_}
+use mathlib.Core.Bool.{true}
+use mathlib.Core.List.{List, [], _∷_}
+use Rattle.terms.specs.Key.{ascending}
+use Rattle.terms.specs.Term.{termRight, kindFor, widthOf, padded}
+use Rattle.index.specs.Files.{Index, nodesIn, leavesIn}
+use Rattle.index.specs.Rules.{partOf}
+use Rattle.index.specs.Lookup.{Entry, entriesOf, lookupOf}
+use Rattle.index.specs.Reading.{Met, leavesAmong}
+use Rattle.index.specs.declared.layout.Shape.{Shape}
+use Rattle.index.specs.declared.layout.Tree.{Tree}
+use Rattle.index.specs.declared.layout.Part.{Part}
+use Rattle.index.specs.declared.layout.Part.the-variants.{Right, Wrong}
+use Rattle.index.specs.declared.lookup.Found.{Found}
+use Rattle.index.specs.declared.lookup.Found.the-variants.{At, NoTerm}
+use Rattle.index_check.specs.Walk.{met, keysAlong}
+use Rattle.index_check.specs.Sound.{all, keepsRules, noneTwice, soundOf}
+
+-- ---- what the leaves hold
+
+-- an entry among these has the key, and this block and word
+unfoldable pub Among : List ℕ → ℕ → ℕ → List Entry → Type 0
+Among key block word [] = ⊥
+Among key block word (e ∷ es) = ((e .key ≡ key) × (e .block ≡ block) × (e .word ≡ word)) ⊎ Among key block word es
+
+-- one of these leaves holds the key with this block and word
+unfoldable pub HeldBy : List ℕ → Shape → List ℕ → ℕ → ℕ → List ℕ → Type 0
+HeldBy f s key block word [] = ⊥
+HeldBy f s key block word (n ∷ ns) = Among key block word (entriesOf f s n) ⊎ HeldBy f s key block word ns
+
+-- a leaf met from the root of the tree that CNT's part describes holds the key
+unfoldable pub HeldIn : List ℕ → List ℕ → List ℕ → ℕ → ℕ → Part → Type 0
+HeldIn nodes leaves key block word Wrong = ⊥
+HeldIn nodes leaves key block word (Right t) = HeldBy leaves (t .leaves) key block word (leavesAmong (met nodes t))
+
+-- a leaf met from the root of the term's tree holds the padded term
+abbrev pub Held : Index → List ℕ → ℕ → ℕ → Type 0
+Held x term block word =
+    HeldIn (nodesIn x (kindFor term)) (leavesIn x (kindFor term)) (padded (widthOf (kindFor term)) term) block word (partOf (x .cnt) (kindFor term))
+
+-- ---- the theorems
+
+-- on an index that passes, a lookup of a right term finds block and word exactly if a leaf met holds the padded term with them
+unfoldable pub FoundExactlyIfHeld : Type 0
+FoundExactlyIfHeld =
+    (x : Index) (term : List ℕ) → soundOf x ≡ true → termRight term ≡ true
+    → (block word : ℕ) → (lookupOf x term ≡ At block word) ↔ Held x term block word
+
+-- and answers 22 otherwise
+unfoldable pub AbsentOtherwise : Type 0
+AbsentOtherwise =
+    (x : Index) (term : List ℕ) → soundOf x ≡ true → termRight term ≡ true
+    → ((block word : ℕ) → Held x term block word → ⊥) → lookupOf x term ≡ NoTerm
+
+-- strict ascent along the leaves makes a leaf met twice impossible, where the leaves keep their rules
+unfoldable pub AscentMeetsOnce : Type 0
+AscentMeetsOnce =
+    (nodes leaves : List ℕ) (t : Tree) (ms : List Met) → all (keepsRules nodes leaves t) ms ≡ true
+    → ascending (keysAlong leaves (t .leaves) (leavesAmong ms)) ≡ true → noneTwice (leavesAmong ms) ≡ true

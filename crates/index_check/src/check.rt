@@ -1,0 +1,211 @@
+// The check of a whole index: one walk from each root by recursion, which stops at the first broken rule and remembers only the last leaf met.
+use index::layout::Part;
+use index::layout::Shape;
+use index::layout::Tree;
+use index::layout::key_place;
+use index::layout::place;
+use index::layout::read_part;
+use index::lookup::NODES_MOST;
+use index::rules::count_at;
+use index::rules::keys_ascend;
+use index::rules::node_right;
+use index::rules::punt_at;
+use index::rules::record_right;
+use index::rules::record_there;
+use terms::key::below_key;
+use terms::key::same_key;
+use word::integer::u32_at;
+ghost use mathlib.Core.Path.{_≡_};
+ghost use mathlib.Core.Bool.{true};
+ghost use Prim.Native.Nat.{_≤_, _<_};
+ghost use Rattle.index.specs.Files.{index};
+ghost use Rattle.index.specs.Inner.{LeafFits, TreeFits};
+ghost use Rattle.index.specs.Layout.{ockAt};
+ghost use Rattle.index.specs.Rules.{recordRight, partOf};
+ghost use Rattle.index_check.specs.Walk.{walk};
+ghost use Rattle.index_check.specs.Sound.{pointerRight, pointersRight, treeSound, indexAnswer};
+ghost use Rattle.index_check.specs.Passes.{nodeSound, follows, leafStep, pass, ended, Reached, isStopped};
+ghost use Rattle.index_check.specs.declared.check.Progress.the-variants.{After};
+
+// How far a walk is: stopped at a broken rule, before the first leaf, or after a leaf.
+pub enum Progress {
+    Stopped,
+    Before,
+    After(u32),
+}
+
+// Whether the target of entry `i` of node `n` is there and its first key is the entry's.
+fn pointer_right(nodes: &[u8], leaves: &[u8], t: Tree, n: u32, i: usize) -> bool
+    requires { ⌜ (TreeFits t) × (recordRight (now nodes) (t .nodes) n ≡ true) × (i < ockAt (now nodes) (t .nodes) n) ⌝ }
+    ensures { λ r. ⌜ r ≡ pointerRight (now (nodes .entry)) (now (leaves .entry)) t n i ⌝ }
+{
+    let s = t.nodes;
+    let at = key_place(s, n, i);
+    let punt = punt_at(nodes, s, n, i);
+    if punt < 2147483648 {
+        if !record_there(nodes, s, punt) {
+            return false;
+        }
+        return same_key(nodes, at, nodes, key_place(s, punt, 0), s.width);
+    }
+    let l = t.leaves;
+    let m = 4294967295 - punt + 1;
+    if !record_there(leaves, l, m) {
+        return false;
+    }
+    same_key(nodes, at, leaves, key_place(l, m, 0), s.width)
+}
+
+fn pointers_right(nodes: &[u8], leaves: &[u8], t: Tree, n: u32) -> bool
+    requires { ⌜ (TreeFits t) × (recordRight (now nodes) (t .nodes) n ≡ true) ⌝ }
+    ensures { λ r. ⌜ r ≡ pointersRight (now (nodes .entry)) (now (leaves .entry)) t n (ockAt (now (nodes .entry)) (t .nodes) n) ⌝ }
+{
+    let s = t.nodes;
+    let count = count_at(nodes, s, n);
+    let mut i: usize = 0;
+    while i < count {
+        if !pointer_right(nodes, leaves, t, n, i) {
+            return false;
+        }
+        i += 1;
+    }
+    true
+}
+
+// Whether node `n` keeps the three sentences of a node.
+fn node_sound(nodes: &[u8], leaves: &[u8], t: Tree, n: u32) -> bool
+    requires { ⌜ TreeFits t ⌝ }
+    ensures { λ r. ⌜ r ≡ nodeSound (now (nodes .entry)) (now (leaves .entry)) t n ⌝ }
+{
+    let s = t.nodes;
+    if !node_right(nodes, s, n) {
+        return false;
+    }
+    if !keys_ascend(nodes, s, n) {
+        return false;
+    }
+    pointers_right(nodes, leaves, t, n)
+}
+
+// Whether leaf `n` is the successor of leaf `m`, and begins above its last key.
+fn succeeds(leaves: &[u8], s: Shape, m: u32, n: u32) -> bool
+    requires { ⌜ (LeafFits s) × (recordRight (now leaves) s m ≡ true) × (recordRight (now leaves) s n ≡ true) ⌝ }
+    ensures { λ r. ⌜ r ≡ follows (now (leaves .entry)) s (After m) n ⌝ }
+{
+    if u32_at(leaves, place(s, m) + 8) != n {
+        return false;
+    }
+    let last = count_at(leaves, s, m) - 1;
+    let a = key_place(s, m, last);
+    let b = key_place(s, n, 0);
+    below_key(leaves, a, leaves, b, s.width)
+}
+
+// Whether leaf `n` may follow where the walk is.
+fn may_follow(leaves: &[u8], s: Shape, w: Progress, n: u32) -> bool
+    requires { ⌜ (LeafFits s) × (Reached (now leaves) s w) × (recordRight (now leaves) s n ≡ true) ⌝ }
+    ensures { λ r. ⌜ r ≡ follows (now (leaves .entry)) s w n ⌝ }
+{
+    match w {
+        Progress::Stopped => false,
+        Progress::Before => true,
+        Progress::After(m) => succeeds(leaves, s, m, n),
+    }
+}
+
+// On from `w` over leaf `n`.
+fn over_leaf(leaves: &[u8], s: Shape, n: u32, w: Progress) -> Progress
+    requires { ⌜ (LeafFits s) × (Reached (now leaves) s w) ⌝ }
+    ensures { λ r. ⌜ r ≡ leafStep (now (leaves .entry)) s n w ⌝ }
+{
+    if !record_right(leaves, s, n) {
+        return Progress::Stopped;
+    }
+    if !keys_ascend(leaves, s, n) {
+        return Progress::Stopped;
+    }
+    if !may_follow(leaves, s, w, n) {
+        return Progress::Stopped;
+    }
+    Progress::After(n)
+}
+
+fn stopped(w: Progress) -> bool
+    ensures { λ r. ⌜ r ≡ isStopped w ⌝ }
+{
+    match w {
+        Progress::Stopped => true,
+        Progress::Before => false,
+        Progress::After(_) => false,
+    }
+}
+
+// On from `w` over all that the walk from node `n` meets, over at most `left` nodes on one way down.
+fn over_node(nodes: &[u8], leaves: &[u8], t: Tree, left: u32, n: u32, w: Progress) -> Progress
+    requires { ⌜ (TreeFits t) × (Reached (now leaves) (t .leaves) w) ⌝ }
+    ensures { λ r. ⌜ r ≡ pass (now (nodes .entry)) (now (leaves .entry)) t (walk (now (nodes .entry)) (t .nodes) left n) w ⌝ }
+{
+    if left == 0 {
+        return Progress::Stopped;
+    }
+    if !node_sound(nodes, leaves, t, n) {
+        return Progress::Stopped;
+    }
+    let s = t.nodes;
+    let l = t.leaves;
+    let count = count_at(nodes, s, n);
+    let mut at = w;
+    let mut i: usize = 0;
+    while i < count {
+        if stopped(at) {
+            return Progress::Stopped;
+        }
+        let punt = punt_at(nodes, s, n, i);
+        if punt < 2147483648 {
+            at = over_node(nodes, leaves, t, left - 1, punt, at);
+        } else {
+            at = over_leaf(leaves, l, 4294967295 - punt + 1, at);
+        }
+        i += 1;
+    }
+    at
+}
+
+// Whether the walk ended where it may: the last leaf's successor is 0.
+fn well_ended(leaves: &[u8], s: Shape, w: Progress) -> bool
+    requires { ⌜ (LeafFits s) × (Reached (now leaves) s w) ⌝ }
+    ensures { λ r. ⌜ r ≡ ended (now (leaves .entry)) s w ⌝ }
+{
+    match w {
+        Progress::Stopped => false,
+        Progress::Before => true,
+        Progress::After(m) => u32_at(leaves, place(s, m) + 8) == 0,
+    }
+}
+
+// Whether the tree of type `kind` is sound.
+fn tree_sound(cnt: &[u8], nodes: &[u8], leaves: &[u8], kind: u16) -> bool
+    requires { ⌜ (1 ≤ kind) × (kind ≤ 2) ⌝ }
+    ensures { λ r. ⌜ r ≡ treeSound (now (nodes .entry)) (now (leaves .entry)) (partOf (now (cnt .entry)) kind) ⌝ }
+{
+    let p = read_part(cnt, kind);
+    let Part::Right(t) = p else {
+        return false;
+    };
+    let w = over_node(nodes, leaves, t, NODES_MOST, t.root, Progress::Before);
+    let l = t.leaves;
+    well_ended(leaves, l, w)
+}
+
+// Checks both trees: 0, or 21 where a rule is broken.
+pub fn check_index(cnt: &[u8], n01: &[u8], l01: &[u8], n02: &[u8], l02: &[u8]) -> u32
+    ensures { λ r. ⌜ r ≡ indexAnswer (index (now (cnt .entry)) (now (n01 .entry)) (now (l01 .entry)) (now (n02 .entry)) (now (l02 .entry))) ⌝ }
+{
+    if !tree_sound(cnt, n01, l01, 1) {
+        return 21;
+    }
+    if !tree_sound(cnt, n02, l02, 2) {
+        return 21;
+    }
+    0
+}

@@ -1,0 +1,4 @@
+pub mod Order
+pub mod Keys
+pub mod Chunks
+pub mod Padding
