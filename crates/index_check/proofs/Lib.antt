@@ -3,3 +3,4 @@ pub mod Sound
 pub mod Checking
 pub mod Held
 pub mod Theorems
+pub mod Meeting

@@ -1,15 +1,17 @@
 -- What is proved of an index that passes. Document 02, C-11: "On an index that passes, a term is found exactly if a leaf met from its tree's root holds it."
-use Prim.Native.Nat.{ℕ}
+use Prim.Native.Nat.{ℕ, _+_, _*_, _≤_}
 use mathlib.Core.Path.{_≡_}
 use mathlib.Core.Logic.{_⊎_, _↔_}
-use mathlib.Core.Bool.{true}
+use mathlib.Core.Bool.{Bool, true, cond}
 use mathlib.Core.List.{List, [], _∷_}
+use lib.ListN.{length}
 use Rattle.terms.specs.Key.{ascending}
 use Rattle.terms.specs.Term.{termRight, kindFor, widthOf, padded}
 use Rattle.index.specs.Files.{Index, nodesIn, leavesIn}
+use Rattle.index.specs.Layout.{nodesMost}
 use Rattle.index.specs.Rules.{partOf}
 use Rattle.index.specs.Lookup.{Entry, entriesOf, lookupOf}
-use Rattle.index.specs.Reading.{Met, leavesAmong}
+use Rattle.index.specs.Reading.{Met, nodesAmong, leavesAmong}
 use Rattle.index.specs.declared.layout.Shape.{Shape}
 use Rattle.index.specs.declared.layout.Tree.{Tree}
 use Rattle.index.specs.declared.layout.Part.{Part}
@@ -60,3 +62,17 @@ unfoldable pub AscentMeetsOnce : Type 0
 AscentMeetsOnce =
     (nodes leaves : List ℕ) (t : Tree) (ms : List Met) → all (keepsRules nodes leaves t) ms ≡ true
     → ascending (keysAlong leaves (t .leaves) (leavesAmong ms)) ≡ true → noneTwice (leavesAmong ms) ≡ true
+
+-- ---- what the check goes over
+
+-- the longest beginning of what is met in which each keeps a sentence
+unfoldable pub unbroken : (Met → Bool) → List Met → List Met
+unbroken p [] = []
+unbroken p (m ∷ ms) = cond (p m) (m ∷ unbroken p ms) []
+
+-- up to the first broken rule no more than 16 nodes are met for each leaf, and 16 besides. The check stops at the first broken rule, and no leaf is met
+-- twice while keys ascend along the leaves, so that it meets no more nodes than 16 for each leaf of the file and 17 besides
+unfoldable pub MeetsFew : Type 0
+MeetsFew =
+    (nodes leaves : List ℕ) (t : Tree)
+    → nodesAmong (unbroken (keepsRules nodes leaves t) (met nodes t)) ≤ nodesMost * (length (leavesAmong (unbroken (keepsRules nodes leaves t) (met nodes t))) + 1)
