@@ -40,9 +40,9 @@ const CARD: On = On {
 const INDEX: On = On {
     names: "NAME",
     about: "\
-NAME is what the five files of a search index have in common: NAME.CNT, NAME.N01, NAME.L01, NAME.N02
-and NAME.L02. An ending may be in capitals or in small letters; where a file is there in both, CNT is
-taken in capitals and the others as CNT is. The files are only read.
+NAME is what the five files of a search index have in common: NAME.CNT, NAME.N01, NAME.L01,
+NAME.N02 and NAME.L02. An ending may be in capitals or in small letters; where a file is there in
+both, CNT is taken in capitals and the others as CNT is. The files are only read, up to 512 MB each.
 ",
 };
 

@@ -116,7 +116,7 @@ fn advice(name: &Path) -> &'static str {
         Some(ending) if ENDINGS.iter().any(|known| ending == *known) => {
             "; an index is named without an ending"
         }
-        _ if name.is_dir() => "; this is a folder, and an index is named by its files",
+        _ if name.is_dir() => "; an index is named by its files, not by a folder",
         _ => "",
     }
 }

@@ -11,17 +11,19 @@ use std::ops::RangeInclusive;
 const CNT: usize = 52;
 const PART: usize = CNT / 2;
 
+/// Where the orders and the root's number stand in a part of CNT.
+const ORDN: usize = 2;
+const ORDF: usize = 4;
+const POSRX: usize = 12;
+
 /// The orders that a tree may have.
 const ORDERS: RangeInclusive<usize> = 1..=16;
 
 /// The most nodes on one way down.
 const DEEPEST: usize = 16;
 
-/// The longest term of each tree, which is also the length of its keys.
-pub const LONGEST: [usize; 2] = [10, 30];
-
-/// The node of the root stands at this byte of a part of CNT.
-const POSRX: usize = 12;
+/// Bytes of a key in each tree, which are those of its longest term.
+pub const KEYS: [usize; 2] = [10, 30];
 
 /// What is wrong, in words.
 pub type Fault = String;
@@ -29,14 +31,13 @@ pub type Fault = String;
 /// One of the two trees.
 #[derive(Clone, Copy)]
 pub struct Tree<'a> {
-    files: &'a IndexFiles,
-    /// Its nodes.
+    cnt: &'a IndexFile,
     nodes: Records<'a>,
     /// Its leaves.
     pub leaves: Records<'a>,
 }
 
-/// The records of a file: they have a head, and then entries of a key and what it leads to.
+/// The records of a file: each has a head and then entries, a key and what it leads to.
 #[derive(Clone, Copy)]
 pub struct Records<'a> {
     file: &'a IndexFile,
@@ -60,11 +61,18 @@ pub struct Record<'a> {
     bytes: &'a [u8],
 }
 
+/// An active entry of a record; they count from 1.
+#[derive(Clone, Copy)]
+pub struct Entry<'a> {
+    record: Record<'a>,
+    number: usize,
+}
+
 /// How a record is reached.
 #[derive(Clone, Copy)]
 pub struct Way<'a> {
-    /// The node and its entry that point there; the root has none.
-    pub from: Option<(Record<'a>, usize)>,
+    /// The entry that points there; the root has none.
+    pub from: Option<Entry<'a>>,
     /// Nodes on the way so far.
     nodes: usize,
 }
@@ -82,62 +90,61 @@ impl<'a> Tree<'a> {
             let words = format!("{path}, byte {part}: IDTYPE is {found}, not {kind}");
             return Err(words);
         }
-        let order = |name, at| match short(cnt, part + at) {
+        let order = |name, at| match short(cnt, at) {
             order if ORDERS.contains(&order) => Ok(order),
             found => Err(format!(
-                "{path}, byte {}: {name} is {found}, not in 1 to 16",
-                part + at
+                "{path}, byte {at}: {name} is {found}, not in 1 to 16"
             )),
         };
-        let (nodes, leaves) = (order("ORDN", 2)?, order("ORDF", 4)?);
+        let (nodes, leaves) = (order("ORDN", part + ORDN)?, order("ORDF", part + ORDF)?);
         Ok(Tree {
-            files,
+            cnt: &files.cnt,
             nodes: Records::of(&files.nodes[kind - 1], kind, false, nodes),
             leaves: Records::of(&files.leaves[kind - 1], kind, true, leaves),
         })
     }
 
-    /// The number that a way leads by: POSRX, or an entry's PUNT.
-    fn pointer(&self, way: Way) -> i32 {
-        match way.from {
-            Some((node, entry)) => long(node.entry(entry), node.records.key),
-            None => long(&self.files.cnt.bytes, self.root_at()),
-        }
-    }
-
-    /// The byte of CNT that names the root.
-    fn root_at(&self) -> usize {
-        PART * (self.nodes.kind - 1) + POSRX
-    }
-
-    /// A way in words.
-    fn words(&self, way: Way) -> String {
-        let number = self.pointer(way);
-        match way.from {
-            Some((node, entry)) => format!("{}, entry {entry}: its PUNT is {number}", node.name()),
-            None => {
-                let (path, at) = (self.files.cnt.path.display(), self.root_at());
-                format!("{path}, byte {at}: POSRX is {number}")
-            }
-        }
-    }
-
     /// The record that a way leads to, if it is as a lookup wants it.
-    pub fn follow(&self, way: Way) -> Result<Record<'a>, Fault> {
+    pub fn follow(&self, way: Way<'a>) -> Result<Record<'a>, Fault> {
         let number = self.pointer(way);
         let to_leaf = number < 0 && way.from.is_some();
         if !to_leaf && way.nodes == DEEPEST {
             let words = self.words(way);
             return Err(format!("{words}, a seventeenth node on one way down"));
         }
-        let (records, number) = match to_leaf {
-            true => (self.leaves, usize::try_from(number.unsigned_abs()).ok()),
-            false => (self.nodes, usize::try_from(number).ok()),
+        let (records, wanted) = match to_leaf {
+            true => (self.leaves, -i64::from(number)),
+            false => (self.nodes, i64::from(number)),
         };
-        match number.and_then(|number| records.get(number)) {
+        match records.get(wanted) {
             Some(record) => record.right().map(|()| record),
             None => Err(format!("{}, but {}", self.words(way), records.there())),
         }
+    }
+
+    /// The number that a way goes by: an entry's PUNT or POSRX.
+    fn pointer(&self, way: Way) -> i32 {
+        match way.from {
+            Some(entry) => entry.pointer(),
+            None => long(&self.cnt.bytes, self.root_at()),
+        }
+    }
+
+    /// That number in words.
+    fn words(&self, way: Way) -> String {
+        let number = self.pointer(way);
+        match way.from {
+            Some(entry) => format!("{}: its PUNT is {number}", entry.name()),
+            None => {
+                let (path, at) = (self.cnt.path.display(), self.root_at());
+                format!("{path}, byte {at}: POSRX is {number}")
+            }
+        }
+    }
+
+    /// The byte of CNT at which POSRX stands.
+    fn root_at(&self) -> usize {
+        PART * (self.nodes.kind - 1) + POSRX
     }
 }
 
@@ -150,7 +157,7 @@ impl<'a> Records<'a> {
             are_leaves,
             entries: 2 * order,
             head,
-            key: LONGEST[kind - 1],
+            key: KEYS[kind - 1],
             to,
         }
     }
@@ -166,7 +173,8 @@ impl<'a> Records<'a> {
     }
 
     /// The record of a number, if it is there.
-    fn get(&self, number: usize) -> Option<Record<'a>> {
+    fn get(&self, number: i64) -> Option<Record<'a>> {
+        let number = usize::try_from(number).ok()?;
         let there = (1..=self.count()).contains(&number);
         there.then(|| Record {
             records: *self,
@@ -175,22 +183,18 @@ impl<'a> Records<'a> {
         })
     }
 
-    /// What one of them is called.
-    fn called(&self) -> &'static str {
-        if self.are_leaves { "leaf" } else { "node" }
-    }
-
-    /// Which are there, in words.
+    /// How many are there, in words.
     fn there(&self) -> String {
         let (path, count) = (self.file.path.display(), self.count());
-        let cut = match self.file.bytes.len() % self.len() {
-            0 => "",
-            _ => " and a part of one more",
+        let called = match (self.are_leaves, count) {
+            (false, 1) => "node",
+            (false, _) => "nodes",
+            (true, 1) => "leaf",
+            (true, _) => "leaves",
         };
-        match (count, self.are_leaves) {
-            (0 | 1, _) => format!("{path} has {count} {}{cut}", self.called()),
-            (_, false) => format!("{path} has {count} nodes{cut}"),
-            (_, true) => format!("{path} has {count} leaves{cut}"),
+        match self.file.bytes.len() % self.len() {
+            0 => format!("{path} has {count} {called}"),
+            more => format!("{path} has {count} {called} and {more} bytes of another"),
         }
     }
 }
@@ -201,7 +205,7 @@ impl<'a> Record<'a> {
         self.records.are_leaves
     }
 
-    /// OCK: how many of its entries are active, from the first on.
+    /// OCK: how many of its entries are active.
     pub fn active(&self) -> usize {
         short(self.bytes, 4)
     }
@@ -211,65 +215,100 @@ impl<'a> Record<'a> {
         long(self.bytes, 8)
     }
 
-    /// An entry; they count from 1.
-    fn entry(&self, entry: usize) -> &'a [u8] {
-        let Records { head, key, to, .. } = self.records;
-        &self.bytes[head + (entry - 1) * (key + to)..][..key + to]
+    /// Its active entries.
+    pub fn entries(self) -> impl DoubleEndedIterator<Item = Entry<'a>> {
+        (1..=self.active()).map(move |number| self.entry(number))
     }
 
-    /// The key of an entry.
-    pub fn key(&self, entry: usize) -> &'a [u8] {
-        &self.entry(entry)[..self.records.key]
+    /// The first of them.
+    pub fn first(self) -> Entry<'a> {
+        self.entry(1)
+    }
+
+    /// The last of them.
+    pub fn last(self) -> Entry<'a> {
+        self.entry(self.active())
+    }
+
+    fn entry(self, number: usize) -> Entry<'a> {
+        let record = self;
+        Entry { record, number }
     }
 
     /// Its name in a sentence.
     pub fn name(&self) -> String {
-        let (path, called) = (self.records.file.path.display(), self.records.called());
-        let (number, at) = (self.number, (self.number - 1) * self.records.len());
+        let Records {
+            file, are_leaves, ..
+        } = self.records;
+        let (path, number) = (file.path.display(), self.number);
+        let called = if are_leaves { "leaf" } else { "node" };
+        let at = (number - 1) * self.records.len();
         format!("{path}, {called} {number} at byte {at}")
     }
 
     /// What a lookup asks of a record that it meets.
-    fn right(&self) -> Result<(), Fault> {
+    fn right(self) -> Result<(), Fault> {
         let Records { kind, entries, .. } = self.records;
         let (pos, active, it) = (long(self.bytes, 0), self.active(), short(self.bytes, 6));
-        let is_wrong = |words: String| Err(format!("{}: {words}", self.name()));
-        if usize::try_from(pos) != Ok(self.number) {
-            return is_wrong(format!("its POS is {pos}, not {}", self.number));
+        let wrong = |words: String| Err(format!("{}: {words}", self.name()));
+        if i64::from(pos) != self.number as i64 {
+            return wrong(format!("its POS is {pos}, not {}", self.number));
         }
         if !(1..=entries).contains(&active) {
-            return is_wrong(format!("its OCK is {active}, not in 1 to {entries}"));
+            return wrong(format!("its OCK is {active}, not in 1 to {entries}"));
         }
         if it != kind {
-            return is_wrong(format!("its IT is {it}, not {kind}"));
+            return wrong(format!("its IT is {it}, not {kind}"));
         }
-        let nowhere = |entry: &usize| long(self.entry(*entry), self.records.key) == 0;
-        match (1..=active).find(|entry| !self.is_leaf() && nowhere(entry)) {
-            Some(entry) => Err(format!("{}, entry {entry}: its PUNT is 0", self.name())),
+        let nowhere = |entry: &Entry| !self.is_leaf() && entry.pointer() == 0;
+        match self.entries().find(nowhere) {
+            Some(entry) => Err(format!("{}: its PUNT is 0", entry.name())),
             None => Ok(()),
         }
     }
 }
 
-impl<'a> Way<'a> {
-    /// The way to the root.
-    pub fn to_root() -> Way<'a> {
-        Way {
-            from: None,
-            nodes: 0,
-        }
+impl<'a> Entry<'a> {
+    fn bytes(&self) -> &'a [u8] {
+        let Records { head, key, to, .. } = self.record.records;
+        &self.record.bytes[head + (self.number - 1) * (key + to)..][..key + to]
     }
 
-    /// The way on, from the node that this one leads to, by one of its entries.
-    pub fn on(self, node: Record<'a>, entry: usize) -> Way<'a> {
-        Way {
-            from: Some((node, entry)),
-            nodes: self.nodes + 1,
-        }
+    /// Its key.
+    pub fn key(&self) -> &'a [u8] {
+        &self.bytes()[..self.record.records.key]
+    }
+
+    /// Its key in a sentence, without the spaces that pad it.
+    pub fn shown(&self) -> String {
+        let last = self.key().iter().rposition(|&byte| byte != b' ');
+        let end = last.map_or(0, |last| last + 1);
+        format!("'{}'", printable(&self.key()[..end]))
+    }
+
+    /// PUNT of an entry of a node.
+    fn pointer(&self) -> i32 {
+        long(self.bytes(), self.record.records.key)
+    }
+
+    /// Its name in a sentence.
+    pub fn name(&self) -> String {
+        format!("{}, entry {}", self.record.name(), self.number)
     }
 }
 
-/// A key in a sentence, without the spaces that pad it.
-pub fn shown(key: &[u8]) -> String {
-    format!("'{}'", printable(key.trim_ascii_end()))
+impl<'a> Way<'a> {
+    /// The way to the root.
+    pub const TO_ROOT: Way<'static> = Way {
+        from: None,
+        nodes: 0,
+    };
+
+    /// The way on, by an entry of the node that this one leads to.
+    pub fn on(self, entry: Entry<'a>) -> Way<'a> {
+        Way {
+            from: Some(entry),
+            nodes: self.nodes + 1,
+        }
+    }
 }
