@@ -42,7 +42,8 @@ const INDEX: On = On {
     about: "\
 NAME is what the five files of a search index have in common: NAME.CNT, NAME.N01, NAME.L01,
 NAME.N02 and NAME.L02. An ending may be in capitals or in small letters; where a file is there in
-both, CNT is taken in capitals and the others as CNT is. The files are only read, up to 512 MB each.
+both, CNT is taken in capitals and the others as CNT is. The files are only read; they may have
+512 MB in all.
 ",
 };
 

@@ -9,7 +9,7 @@ use std::fs;
 use std::io;
 use std::path::{Path, PathBuf};
 
-/// Longer files are refused unread. The format has no limit, but memory has.
+/// Of an index no more bytes are read. The format has no limit, but memory has.
 const LONGEST: u64 = 1 << 29;
 
 /// The endings in capitals, CNT first.
@@ -37,9 +37,15 @@ impl IndexFiles {
     /// Reads the five files of a name. Where an ending is there in capitals and in small
     /// letters, CNT is taken in capitals and the others as CNT is.
     pub fn read(name: &Path) -> Result<IndexFiles, Trouble> {
+        let mut reading = Reading {
+            name,
+            capitals: true,
+            left: LONGEST,
+        };
         let [cnt, n01, l01, n02, l02] = ENDINGS;
-        let (cnt, capitals) = file(name, cnt, true)?;
-        let other = |ending| file(name, ending, capitals).map(|(file, _)| file);
+        let (cnt, capitals) = reading.file(cnt)?;
+        reading.capitals = capitals;
+        let mut other = |ending| reading.file(ending).map(|(file, _)| file);
         let (n01, l01) = (other(n01)?, other(l01)?);
         let (n02, l02) = (other(n02)?, other(l02)?);
         Ok(IndexFiles {
@@ -61,24 +67,33 @@ impl IndexFiles {
     }
 }
 
-/// Reads the file of an ending, and tells whether it is in capitals: first it is looked for
-/// as is asked, then in the other letters.
-fn file(name: &Path, ending: &str, capitals: bool) -> Result<(IndexFile, bool), Trouble> {
-    let path = |capitals| with_ending(name, ending, capitals);
-    let there = [capitals, !capitals]
-        .into_iter()
-        .find(|&capitals| is_there(&path(capitals)));
-    let Some(capitals) = there else {
-        return Err(none(name, &path(capitals), &path(!capitals)));
-    };
-    let path = path(capitals);
-    let (_, bytes) = read(&path, LONGEST, |len| {
-        let path = path.display();
-        Trouble::File(format!(
-            "{path}: cannot be read: it has {len} bytes, and no more than {LONGEST} are read of a file"
-        ))
-    })?;
-    Ok((IndexFile { path, bytes }, capitals))
+/// Files of a name that are being read.
+struct Reading<'a> {
+    name: &'a Path,
+    /// Whether an ending is looked for in capitals first.
+    capitals: bool,
+    /// How many bytes may still be read.
+    left: u64,
+}
+
+impl Reading<'_> {
+    /// The file of an ending, and whether that is in capitals.
+    fn file(&mut self, ending: &str) -> Result<(IndexFile, bool), Trouble> {
+        let path = |capitals| with_ending(self.name, ending, capitals);
+        let cases = [self.capitals, !self.capitals];
+        let Some(capitals) = cases.into_iter().find(|&case| is_there(&path(case))) else {
+            return Err(none(self.name, cases.map(path)));
+        };
+        let path = path(capitals);
+        let (_, bytes) = read(&path, self.left, |len| {
+            let path = path.display();
+            Trouble::File(format!(
+                "{path}: cannot be read: it has {len} bytes, and the five files may have {LONGEST} in all"
+            ))
+        })?;
+        self.left = self.left.saturating_sub(bytes.len() as u64);
+        Ok((IndexFile { path, bytes }, capitals))
+    }
 }
 
 /// A name with an ending.
@@ -92,16 +107,16 @@ fn with_ending(name: &Path, ending: &str, capitals: bool) -> PathBuf {
     path.into()
 }
 
-/// Whether a name leads to something, or to a trouble that is worth to be told.
+/// Whether a name leads to something, or to a trouble that is worth telling.
 fn is_there(path: &Path) -> bool {
     !fs::metadata(path).is_err_and(|why| disk::is_missing(&why))
 }
 
-/// That a file is there in neither letters.
-fn none(name: &Path, path: &Path, other: &Path) -> Trouble {
-    let trouble = disk::trouble(path, "cannot be read", &io::ErrorKind::NotFound.into());
+/// That a file is not there, in capitals or in small letters.
+fn none(name: &Path, [path, other]: [PathBuf; 2]) -> Trouble {
+    let trouble = disk::trouble(&path, "cannot be read", &io::ErrorKind::NotFound.into());
     match trouble {
-        Trouble::File(words) if disk::folder(path).exists() => {
+        Trouble::File(words) if disk::folder(&path).exists() => {
             let (other, advice) = (other.display(), advice(name));
             Trouble::File(format!("{words}, nor {other}{advice}"))
         }

@@ -6,6 +6,7 @@ use crate::index::IndexFiles;
 use crate::printable::printable;
 use crate::progress::with_progress;
 use crate::say::{Lines, print, tell};
+use crate::tree::KEYS;
 use crate::tree_faults::{of_index, of_lookup};
 use crate::trouble::Trouble;
 use isis::{IfpPlace, Refusal};
@@ -58,7 +59,7 @@ fn reason(refusal: Refusal, files: &IndexFiles, term: &OsStr) -> String {
     let (shown, bytes) = (quoted(term), term.as_bytes());
     match refusal {
         Refusal::BadTerm if bytes.is_empty() => "this one is empty".into(),
-        Refusal::BadTerm if bytes.len() > 30 => format!("{shown} has {} bytes", bytes.len()),
+        Refusal::BadTerm if bytes.len() > KEYS[1] => format!("{shown} has {} bytes", bytes.len()),
         Refusal::BadTerm => format!("{shown} ends with a space"),
         Refusal::BadIndex => of_lookup(files, bytes).unwrap_or_default(),
         Refusal::NoTerm if term.to_string_lossy().chars().any(char::is_lowercase) => {

@@ -176,7 +176,8 @@ mod tests {
             } else {
                 &mut not_sound
             }) += 1;
-            for term in &terms {
+            let others = [&b"@"[..], b"BBB", b"ZZZ", b"@@@@@@@@@@@", b"BBBBBBBBBBBB"];
+            for term in terms.iter().map(Vec::as_slice).chain(others) {
                 let (found, answer) = (of_lookup(&files, term), files.index().lookup(term));
                 let wrong = answer == Err(Refusal::BadIndex);
                 assert_eq!(found.is_some(), wrong, "{term:?}: {found:?} {answer:?}");

@@ -235,16 +235,29 @@ fn links_and_what_is_no_plain_file() {
     folder.refused("check-index b", 66, "b.L01: this is not a plain file");
 }
 
-/// A file that is too long for memory is refused unread, whatever the others hold.
+/// What is too long for memory is refused unread: one file, or all up to one.
 #[test]
-fn a_file_of_more_than_512_mb_is_refused_unread() {
+fn no_more_than_512_mb_are_read() {
     let folder = Folder::with_index("lookup-huge");
-    let file = fs::File::create(folder.0.join("a.N02")).unwrap();
-    file.set_len((1 << 40) + 1).unwrap();
-    let run = folder.card("lookup a KITE");
-    assert_eq!((run.status, run.out.as_str()), (66, ""), "{run:?}");
-    let why = "a.N02: cannot be read: it has 1099511627777 bytes, and no more than 536870912";
-    assert!(run.err.contains(why), "{run:?}");
+    let lengthen = |name: &str, len: u64| {
+        let file = fs::OpenOptions::new()
+            .append(true)
+            .open(folder.0.join(name));
+        file.unwrap().set_len(len).unwrap();
+    };
+    let is_refused = |why: &str| {
+        let run = folder.card("lookup a KITE");
+        assert_eq!((run.status, run.out.as_str()), (66, ""), "{run:?}");
+        assert!(run.err.contains(why), "{run:?}");
+        assert!(
+            run.err.contains("the five files may have 536870912 in all"),
+            "{run:?}"
+        );
+    };
+    lengthen("a.N02", (1 << 40) + 1);
+    is_refused("a.N02: cannot be read: it has 1099511627777 bytes");
+    lengthen("a.N02", (1 << 29) - 1);
+    is_refused("a.N02: cannot be read: it has 536870911 bytes");
 }
 
 /// A result that cannot be printed has a status of its own, behind a refusal's.
