@@ -3,9 +3,9 @@
  *
  * The key keeps a card in two static buffers. This program formats it, catalogues
  * two books, changes a title by mistake while the index still describes the right
- * one, takes the change back, deletes the other book, and checks the card. On a
- * key, each call that writes would follow one touch of the sensor; firmware/main.c
- * does so. It compiles unchanged for both:
+ * one, takes the change back, deletes the other book, and checks the card. Then it
+ * looks terms up in a search index. On a key, each call that writes would follow one
+ * touch of the sensor; firmware/main.c does so. It compiles unchanged for both:
  *
  *   cc -std=c11 -Wall -Wextra -Werror -Iinclude examples/key.c target/staticlib/libisis.a -o key
  *   firmware/run cortex-m0 examples/key.c
@@ -105,6 +105,54 @@ static uint32_t draft_of(const char *title, const char *author, uint16_t lens[2]
     return (uint32_t)lens[0] + lens[1];
 }
 
+/* A search index: CNT, and for each of its two trees one node, the root, and one leaf. The
+ * desktop writes it; here it is made by hand. An order of 1 gives records of two entries. */
+static uint8_t cnt[ISIS_CNT];
+static uint8_t n01[8 + 2 * (10 + 4)], l01[12 + 2 * (10 + 8)]; /* terms of up to 10 bytes */
+static uint8_t n02[8 + 2 * (30 + 4)], l02[12 + 2 * (30 + 8)]; /* longer ones */
+
+/* Writes a number into so many bytes, the lowest first. */
+static void put(uint8_t *at, int32_t number, unsigned bytes)
+{
+    for (unsigned i = 0; i < bytes; i++)
+        at[i] = (uint8_t)((uint32_t)number >> 8 * i);
+}
+
+/* Writes a tree of one term, whose postings begin at a block and word of the IFP. */
+static void write_tree(int type, uint8_t *node, uint8_t *leaf, const char *term, int32_t block, int32_t word)
+{
+    const unsigned key = type == 1 ? ISIS_SHORT_TERM_MAX : ISIS_TERM_MAX;
+    uint8_t *control = cnt + (type - 1) * ISIS_CNT / 2;
+
+    put(control, type, 2);      /* IDTYPE: the tree's type */
+    put(control + 2, 1, 2);     /* ORDN: the order of nodes */
+    put(control + 4, 1, 2);     /* ORDF: the order of leaves */
+    put(control + 12, 1, 4);    /* POSRX: the root is node 1 */
+    put(node, 1, 4);            /* POS: its number */
+    put(node + 4, 1, 2);        /* OCK: one key is active */
+    put(node + 6, type, 2);     /* IT: the tree's type */
+    memset(node + 8, ' ', key); /* KEY: the term, padded with spaces */
+    memcpy(node + 8, term, strlen(term));
+    put(node + 8 + key, -1, 4); /* PUNT: leaf 1 */
+    memcpy(leaf, node, 8);      /* POS, OCK and IT are the same; PS stays 0: no leaf follows */
+    memcpy(leaf + 12, node + 8, key);
+    put(leaf + 12 + key, block, 4);
+    put(leaf + 16 + key, word, 4);
+}
+
+/* Looks a term up and prints where its postings begin. */
+static uint32_t look_up(const char *what, const char *term)
+{
+    int32_t block, word;
+    uint32_t answer = isis_lookup(cnt, sizeof cnt, n01, sizeof n01, l01, sizeof l01, n02, sizeof n02, l02,
+                                  sizeof l02, (const uint8_t *)term, strlen(term), &block, &word);
+
+    report(what, answer);
+    if (answer == ISIS_DONE)
+        printf("    postings of %s: block %d, word %d\n", term, (int)block, (int)word);
+    return answer;
+}
+
 int main(void)
 {
     uint16_t lens[2];
@@ -151,6 +199,16 @@ int main(void)
         failed = 1;
 
     failed |= report("check the whole card", isis_check(mst, sizeof mst, xrf, sizeof xrf));
+
+    write_tree(1, n01, l01, "KITE", 1, 0);
+    write_tree(2, n02, l02, "HOSSEINI, KHALED", 1, 7);
+    failed |= report("check the search index",
+                     isis_check_index(cnt, sizeof cnt, n01, sizeof n01, l01, sizeof l01, n02, sizeof n02, l02,
+                                      sizeof l02));
+    failed |= look_up("look a short term up", "KITE");
+    failed |= look_up("look a long term up", "HOSSEINI, KHALED");
+    if (look_up("look for what is not there", "WIND") != ISIS_NO_TERM)
+        failed = 1;
 
     puts(failed ? "something was refused" : "all done");
     return failed ? 1 : 0;

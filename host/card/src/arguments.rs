@@ -70,13 +70,27 @@ impl Arguments {
             let words = "'-' is no file; './-' names one of that name";
             return Err(self.usage(words));
         }
-        let name = self.wanted(&format!("the name of the {which} file"))?;
+        let name = self.wanted(&format!("the name of the {which}"))?;
         Ok(name.into())
     }
 
     /// The two files.
     pub fn files(&mut self) -> Result<(PathBuf, PathBuf), Trouble> {
-        Ok((self.file("MST")?, self.file("XRF")?))
+        Ok((self.file("MST file")?, self.file("XRF file")?))
+    }
+
+    /// The name of an index.
+    pub fn index(&mut self) -> Result<PathBuf, Trouble> {
+        self.file("index")
+    }
+
+    /// The terms: all words that are left, one or more.
+    pub fn terms(&mut self) -> Result<Vec<OsString>, Trouble> {
+        let mut terms = vec![self.wanted("a term")?];
+        while let Some(term) = self.unless_flag()? {
+            terms.push(term);
+        }
+        Ok(terms)
     }
 
     /// An MFN.

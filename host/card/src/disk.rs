@@ -22,7 +22,7 @@ pub fn trouble(path: &Path, what: &str, why: &io::Error) -> Trouble {
 }
 
 /// The folder of a file.
-fn folder(path: &Path) -> &Path {
+pub fn folder(path: &Path) -> &Path {
     match path.parent() {
         Some(folder) if folder != Path::new("") => folder,
         _ => Path::new("."),

@@ -29,8 +29,12 @@ pub struct Files {
     pub xrf: Vec<u8>,
 }
 
-/// Opens a file and reads it whole.
-fn read(path: &Path) -> Result<(File, Vec<u8>), Trouble> {
+/// Opens a file and reads it whole, unless it is longer than some bytes.
+pub fn read(
+    path: &Path,
+    longest: u64,
+    too_long: impl FnOnce(u64) -> Trouble,
+) -> Result<(File, Vec<u8>), Trouble> {
     let cannot = |why: io::Error| disk::trouble(path, "cannot be read", &why);
     let meta = fs::metadata(path).map_err(cannot)?;
     if meta.is_dir() {
@@ -40,10 +44,8 @@ fn read(path: &Path) -> Result<(File, Vec<u8>), Trouble> {
         let path = path.display();
         return Err(Trouble::File(format!("{path}: this is not a plain file")));
     }
-    if meta.len() > LONGEST {
-        let (path, len) = (path.display(), meta.len());
-        let words = format!("{path} has {len} bytes, more than the longest MST");
-        return Err(Trouble::Refused(Refusal::BadLength, words));
+    if meta.len() > longest {
+        return Err(too_long(meta.len()));
     }
     let mut file = File::open(path).map_err(cannot)?;
     let mut bytes = Vec::new();
@@ -52,6 +54,15 @@ fn read(path: &Path) -> Result<(File, Vec<u8>), Trouble> {
     })
     .map_err(cannot)?;
     Ok((file, bytes))
+}
+
+/// Reads a file of a card.
+fn read_card(path: &Path) -> Result<(File, Vec<u8>), Trouble> {
+    read(path, LONGEST, |len| {
+        let path = path.display();
+        let words = format!("{path} has {len} bytes, more than the longest MST");
+        Trouble::Refused(Refusal::BadLength, words)
+    })
 }
 
 /// The real place of a file that is to be written.
@@ -75,8 +86,8 @@ impl Files {
         let (mst_path, xrf_path) = paths;
         loop {
             recover(&mst_path, &xrf_path)?;
-            let (mst_file, mst) = read(&mst_path)?;
-            let (xrf_file, xrf) = read(&xrf_path)?;
+            let (mst_file, mst) = read_card(&mst_path)?;
+            let (xrf_file, xrf) = read_card(&xrf_path)?;
             // If another process has replaced one meanwhile, they are read again. The
             // intent comes first: it goes only after both files are replaced.
             let as_one = !is_pending(&mst_path)

@@ -4,7 +4,7 @@
 use crate::arguments::{Arguments, quoted};
 use crate::say::print;
 use crate::trouble::{STATUSES, Trouble};
-use crate::{calls, check, draw, show, stat};
+use crate::{calls, check, draw, lookup, show, stat};
 use isis::Refusal;
 use std::ffi::OsStr;
 
@@ -14,13 +14,38 @@ pub struct Verb {
     pub name: &'static str,
     /// What does its work.
     pub run: fn(Arguments) -> Result<(), Trouble>,
-    /// What stands behind the two files, and what it does then.
+    /// What it works on.
+    on: On,
+    /// What stands behind that, and what it does then.
     forms: &'static [(&'static str, &'static str)],
     /// What else is to be known.
     more: &'static str,
     /// The numbers of its refusals.
     refusals: &'static [u32],
 }
+
+/// What a command works on.
+struct On {
+    /// How that is named.
+    names: &'static str,
+    /// What these names are, if it is to be said.
+    about: &'static str,
+}
+
+const CARD: On = On {
+    names: "MST XRF",
+    about: "",
+};
+
+const INDEX: On = On {
+    names: "NAME",
+    about: "\
+NAME is what the five files of a search index have in common: NAME.CNT, NAME.N01, NAME.L01,
+NAME.N02 and NAME.L02. An ending may be in capitals or in small letters; where a file is there in
+both, CNT is taken in capitals and the others as CNT is. The files are only read; they may have
+512 MB in all.
+",
+};
 
 const FIELDS: &str = "\
 A FIELD is TAG=TEXT, with a tag from 1 to 32767. TAG=@FILE takes the bytes of a file, of which no
@@ -29,10 +54,11 @@ in place of the fields makes a record without any.
 ";
 
 /// Every command.
-pub const VERBS: [Verb; 10] = [
+pub const VERBS: [Verb; 12] = [
     Verb {
         name: "format",
         run: calls::format,
+        on: CARD,
         forms: &[
             ("BLOCKS BLOCKS", "make both files, empty, of so many blocks"),
             ("--erase", "empty the catalogue in two files that exist"),
@@ -44,6 +70,7 @@ pub const VERBS: [Verb; 10] = [
     Verb {
         name: "show",
         run: show::show,
+        on: CARD,
         forms: &[("[MFN]", "show a record, or all")],
         more: "A record is shown with its state and its fields; under a pending change, its settled version\n\
                too. What is no printable text is shown as \\xNN for each byte, and a backslash as two. Where\n\
@@ -53,6 +80,7 @@ pub const VERBS: [Verb; 10] = [
     Verb {
         name: "create",
         run: calls::create,
+        on: CARD,
         forms: &[("FIELD...", "write a new record, pending, and print its MFN")],
         more: FIELDS,
         refusals: &[1, 2, 3, 5, 6, 13],
@@ -60,6 +88,7 @@ pub const VERBS: [Verb; 10] = [
     Verb {
         name: "update",
         run: calls::update,
+        on: CARD,
         forms: &[(
             "MFN FIELD...",
             "replace all fields of a record; this is pending",
@@ -70,6 +99,7 @@ pub const VERBS: [Verb; 10] = [
     Verb {
         name: "delete",
         run: calls::delete,
+        on: CARD,
         forms: &[("MFN", "delete a record; this is pending")],
         more: "",
         refusals: &[1, 2, 4, 6, 7, 8, 9, 13],
@@ -77,6 +107,7 @@ pub const VERBS: [Verb; 10] = [
     Verb {
         name: "settle",
         run: calls::settle,
+        on: CARD,
         forms: &[(
             "MFN",
             "make a pending change final: the index is up to date",
@@ -87,6 +118,7 @@ pub const VERBS: [Verb; 10] = [
     Verb {
         name: "revert",
         run: calls::revert,
+        on: CARD,
         forms: &[("MFN", "take a pending change back")],
         more: "",
         refusals: &[1, 2, 4, 6, 7, 8, 10, 11],
@@ -94,6 +126,7 @@ pub const VERBS: [Verb; 10] = [
     Verb {
         name: "check",
         run: check::check,
+        on: CARD,
         forms: &[("", "check the whole store and say what is wrong")],
         more: "The first cause is named, and then what is independent of it.\n",
         refusals: &[1, 2, 14],
@@ -101,6 +134,7 @@ pub const VERBS: [Verb; 10] = [
     Verb {
         name: "stat",
         run: stat::stat,
+        on: CARD,
         forms: &[("", "count the records and draw the space")],
         more: "",
         refusals: &[1, 2, 14],
@@ -108,11 +142,33 @@ pub const VERBS: [Verb; 10] = [
     Verb {
         name: "draw",
         run: draw::draw,
+        on: CARD,
         forms: &[("[SVG] [--replace]", "draw the layout of the card")],
         more: "Without SVG, or with -, the picture goes to standard output. A link is followed; what is no plain\n\
                file is written to as it is. A file that is there already is replaced if it is such a picture,\n\
                any other with --replace, and a file of the card never.\n",
         refusals: &[1, 2],
+    },
+    Verb {
+        name: "lookup",
+        run: lookup::lookup,
+        on: INDEX,
+        forms: &[("TERM...", "look terms up in a search index")],
+        more: "For each term a line says where its postings begin in the postings file (IFP):\n    \
+               KITE: block 3, word 12\n\
+               A term has 1 to 30 bytes and no space at its end. It is compared with the keys byte by byte, as they\n\
+               stand; most indexes hold capitals. Where several are named, a refused one has its line too, and the\n\
+               status is that of the first.\n",
+        refusals: &[20, 21, 22],
+    },
+    Verb {
+        name: "check-index",
+        run: lookup::check_index,
+        on: INDEX,
+        forms: &[("", "check a whole search index and say what is wrong")],
+        more: "Of an index that is sound the terms of each tree are counted; of any other the first broken rule\n\
+               is named.\n",
+        refusals: &[21],
     },
 ];
 
@@ -150,15 +206,16 @@ fn overview() -> String {
         .to_string();
     for verb in &VERBS {
         for (form, does) in verb.forms {
-            let name = verb.name;
-            text += &format!("  card {name:6} MST XRF {form:17}  {does}\n");
+            let line = format!("card {:6} {} {form}", verb.name, verb.on.names);
+            text += &format!("  {line:37}  {does}\n");
         }
     }
     text += "  card help [COMMAND]                    tell more about a command\n";
     text += "  card --version                         tell the version of this command\n\n";
     text += FIELDS;
+    text += INDEX.about;
     text += "Words behind -- are no flags. A change is on the disk when the command ends, both files or none.\n\n";
-    text + "Exit status: 0 if done, the answer number if refused (1 to 14), and\n" + &statuses()
+    text + "Exit status: 0 if done, the answer number if refused (1 to 22), and\n" + &statuses()
 }
 
 /// The statuses that every command has.
@@ -173,12 +230,13 @@ impl Verb {
     pub fn help(&self) -> String {
         let mut text = String::new();
         for (form, does) in self.forms {
-            let line = format!("card {} MST XRF {form}", self.name);
+            let line = format!("card {} {} {form}", self.name, self.on.names);
             text += &format!("{}\n    {does}\n", line.trim_end());
         }
         text += "\n";
-        if !self.more.is_empty() {
-            text += self.more;
+        let more = [self.on.about, self.more].concat();
+        if !more.is_empty() {
+            text += &more;
             text += "\n";
         }
         text += "Exit status\n   0  done\n";

@@ -1,7 +1,8 @@
-//! `card`: the command for a CDS/ISIS card kept in two files.
+//! `card`: the command for a CDS/ISIS card kept in two files, and its search index.
 //!
 //! Every change is made by the proved library, and every answer number is its own.
-//! The words beside a number come from a second reading of the bytes, in `faults`.
+//! The words beside a number come from a second reading of the bytes, in `faults` and
+//! `tree_faults`.
 
 mod arguments;
 mod calls;
@@ -12,9 +13,11 @@ mod faults;
 mod fields;
 mod files;
 mod help;
+mod index;
 mod intent;
 mod keep;
 mod layout;
+mod lookup;
 mod mark;
 mod picture;
 mod printable;
@@ -27,6 +30,8 @@ mod show;
 mod stat;
 mod steps;
 mod survey;
+mod tree;
+mod tree_faults;
 #[cfg(test)]
 mod trials;
 pub mod trouble;

@@ -1,6 +1,19 @@
-//! Cards for tests: made by calls of the library at random, and then damaged.
+//! Cards and indexes for tests: made at random, by calls of the library and by the model's
+//! builder, and then damaged.
 
+use crate::index::{IndexFile, IndexFiles};
 use isis::Card;
+use model::index::{Entry, shuffled};
+use model::random::Random;
+use std::collections::BTreeSet;
+
+/// The seed of a test: `ISIS_SEED`, or 1. It is printed.
+pub fn seed() -> u64 {
+    let given = std::env::var("ISIS_SEED").ok();
+    let seed = given.map_or(1, |text| text.parse().expect("a whole number"));
+    println!("ISIS_SEED={seed}");
+    seed
+}
 
 /// Numbers that look random and are the same in every run.
 pub struct Dice(pub u64);
@@ -51,5 +64,57 @@ pub fn damage(dice: &mut Dice, mst: &mut [u8], xrf: &mut [u8]) {
             1 => bytes[at].wrapping_add(2),
             _ => bytes[at] ^ 1 << dice.below(8),
         };
+    }
+}
+
+/// An index of any shape, and its terms.
+pub fn index(dice: &mut Dice) -> (IndexFiles, Vec<Vec<u8>>) {
+    let mut terms = BTreeSet::new();
+    for longest in [10, 30] {
+        for _ in 0..1 + dice.below(12) {
+            let least = if longest == 10 { 1 } else { 11 };
+            let len = least + dice.below(longest - least + 1);
+            terms.insert((0..len).map(|_| b'A' + dice.below(3) as u8).collect());
+        }
+    }
+    let terms: Vec<Vec<u8>> = terms.into_iter().collect();
+    let entries = terms.iter().map(|term| Entry {
+        term: term.clone(),
+        block: dice.below(100) as i32,
+        word: dice.below(127) as i32,
+    });
+    let entries: Vec<Entry> = entries.collect();
+    let order = |dice: &mut Dice| 1 + dice.below(3) as u16;
+    let orders = [(); 2].map(|()| (order(dice), order(dice)));
+    let files = shuffled(&entries, orders, &mut Random::new(dice.0));
+    let file = |name: &str, bytes| IndexFile {
+        path: name.into(),
+        bytes,
+    };
+    let files = IndexFiles {
+        cnt: file("a.CNT", files.cnt),
+        nodes: [file("a.N01", files.n01), file("a.N02", files.n02)],
+        leaves: [file("a.L01", files.l01), file("a.L02", files.l02)],
+    };
+    (files, terms)
+}
+
+/// Changes a few bytes anywhere, or cuts a file, most of all where much depends on it.
+pub fn damage_index(dice: &mut Dice, files: &mut IndexFiles) {
+    for _ in 0..dice.below(3) {
+        let IndexFiles { cnt, nodes, leaves } = files;
+        let bytes = match dice.below(9) {
+            0 => &mut cnt.bytes,
+            1..5 => &mut nodes[dice.below(2)].bytes,
+            _ => &mut leaves[dice.below(2)].bytes,
+        };
+        let at = dice.below(bytes.len());
+        match dice.below(20) {
+            0 => bytes.truncate(at.max(1)),
+            1..5 => bytes[at] = dice.below(256) as u8,
+            5..12 => bytes[at] = bytes[at].wrapping_add(1),
+            12..19 => bytes[at] = bytes[at].wrapping_sub(1),
+            _ => bytes[at] ^= 1 << dice.below(8),
+        }
     }
 }

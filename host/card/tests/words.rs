@@ -9,17 +9,29 @@ use std::io::Write;
 use std::process::Command;
 use std::thread::JoinHandle;
 
-const VERBS: [&str; 10] = [
-    "format", "show", "create", "update", "delete", "settle", "revert", "check", "stat", "draw",
+/// Every command, and what it works on.
+const VERBS: [(&str, &str); 12] = [
+    ("format", "MST XRF"),
+    ("show", "MST XRF"),
+    ("create", "MST XRF"),
+    ("update", "MST XRF"),
+    ("delete", "MST XRF"),
+    ("settle", "MST XRF"),
+    ("revert", "MST XRF"),
+    ("check", "MST XRF"),
+    ("stat", "MST XRF"),
+    ("draw", "MST XRF"),
+    ("lookup", "NAME TERM..."),
+    ("check-index", "NAME"),
 ];
 
 #[test]
 fn every_command_has_help() {
     let folder = Folder::new("help");
     let all = folder.done("help");
-    for verb in VERBS {
+    for (verb, on) in VERBS {
         let help = folder.done(&format!("help {verb}"));
-        assert!(help.starts_with(&format!("card {verb} MST XRF")), "{help}");
+        assert!(help.starts_with(&format!("card {verb} {on}")), "{help}");
         assert!(help.contains("Exit status"), "{help}");
         for asked in ["--help", "-h", "a.mst a.xrf --help", "--help a.mst"] {
             assert_eq!(
@@ -40,6 +52,9 @@ fn every_command_has_help() {
         ("create", "TAG=@FILE"),
         ("draw", "--replace"),
         ("format", "--erase"),
+        ("lookup", "KITE: block 3, word 12"),
+        ("lookup", "NAME.CNT"),
+        ("check-index", "small letters"),
     ] {
         assert!(
             folder.done(&format!("help {verb}")).contains(word),

@@ -37,6 +37,9 @@ fn the_example_compiles_without_a_warning_and_does_what_it_says() {
         "{printed}"
     );
     assert!(printed.contains("answer 10\n"), "{printed}");
+    let postings = "    postings of HOSSEINI, KHALED: block 1, word 7\n";
+    assert!(printed.contains(postings), "{printed}");
+    assert!(printed.contains("answer 22\n"), "{printed}");
     assert!(printed.ends_with("all done\n"), "{printed}");
 }
 

@@ -10,6 +10,9 @@
 //! * the **ledger** ([`ledger`]): the plain ledger of demand 3, which never sees a
 //!   buffer and is only fed the calls.
 //!
+//! Beside them stands the search index of request C-11 ([`index`]), which has files of its
+//! own: it is built from lists of terms, looked up and checked.
+//!
 //! [`call`] gives both the same list of calls to answer, and [`lists`] makes such
 //! lists at random from a seed.
 
@@ -19,6 +22,7 @@ pub mod bytes;
 pub mod call;
 pub mod draft;
 pub mod fault;
+pub mod index;
 pub mod layout;
 pub mod ledger;
 pub mod lists;

@@ -4,6 +4,7 @@
 #![allow(dead_code)]
 
 pub mod cut;
+pub mod index;
 
 use std::fs;
 use std::os::unix::fs::PermissionsExt;
