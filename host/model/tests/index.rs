@@ -8,15 +8,23 @@ use model::index::Files;
 use model::index::fault::Broken::*;
 use model::index::fault::Why::{self, *};
 
+/// Bytes from their hexadecimal digits.
+fn hex(text: &str) -> Vec<u8> {
+    let digits: Vec<u32> = text.chars().filter_map(|c| c.to_digit(16)).collect();
+    let pairs = digits.chunks(2);
+    pairs.map(|two| (two[0] * 16 + two[1]) as u8).collect()
+}
+
+/// An active entry with its key and numbers, and one that is all 0.
+fn two_entries(key: &str, width: usize, numbers: &str) -> String {
+    let spaces = "20".repeat(width - key.len() / 2);
+    let inactive = "00".repeat(width + numbers.len() / 2);
+    format!("{key}{spaces}{numbers}{inactive}")
+}
+
 /// The layout, every byte of it: orders 1 and 1, one term in each tree.
 #[test]
 fn the_bytes_of_the_smallest_index() {
-    let hex = |text: &str| -> Vec<u8> {
-        let digits: Vec<u32> = text.chars().filter_map(|c| c.to_digit(16)).collect();
-        let pairs = digits.chunks(2);
-        pairs.map(|two| (two[0] * 16 + two[1]) as u8).collect()
-    };
-    let spaces = |n: usize| "20".repeat(n);
     let (kite, kites) = ("4B495445", "486967684C616E64204B69746573");
     let files = Files {
         // IDTYPE, ORDN, ORDF, N, K, LIV, POSRX, NMAXPOS, FMAXPOS, ABNORMAL.
@@ -24,27 +32,23 @@ fn the_bytes_of_the_smallest_index() {
             "0100 0100 0100 0F00 0500 0100 01000000 02000000 02000000 0000",
             "0200 0100 0100 0F00 0500 0100 01000000 02000000 02000000 0000"
         )),
-        // POS, OCK, IT; KEY, PUNT; an inactive entry.
+        // POS, OCK, IT; KEY, PUNT.
         n01: hex(&format!(
-            "01000000 0100 0100 {kite}{} FFFFFFFF {}",
-            spaces(6),
-            "00".repeat(14)
-        )),
-        // POS, OCK, IT, PS; KEY, INFO[1], INFO[2]; an inactive entry.
-        l01: hex(&format!(
-            "01000000 0100 0100 00000000 {kite}{} 02010000 FEFFFFFF {}",
-            spaces(6),
-            "00".repeat(18)
+            "01000000 0100 0100 {}",
+            two_entries(kite, 10, "FFFFFFFF")
         )),
         n02: hex(&format!(
-            "01000000 0100 0200 {kites}{} FFFFFFFF {}",
-            spaces(16),
-            "00".repeat(34)
+            "01000000 0100 0200 {}",
+            two_entries(kites, 30, "FFFFFFFF")
+        )),
+        // POS, OCK, IT, PS; KEY, INFO[1], INFO[2].
+        l01: hex(&format!(
+            "01000000 0100 0100 00000000 {}",
+            two_entries(kite, 10, "02010000FEFFFFFF")
         )),
         l02: hex(&format!(
-            "01000000 0100 0200 00000000 {kites}{} 07000000 08000000 {}",
-            spaces(16),
-            "00".repeat(38)
+            "01000000 0100 0200 00000000 {}",
+            two_entries(kites, 30, "0700000008000000")
         )),
     };
     let lengths = files.all().map(<[u8]>::len);
@@ -195,45 +199,48 @@ fn orders_are_1_to_16() {
     }
 }
 
+/// Orders 2 and 1: a node of three pointers over leaves of two keys, A and B to E and F, in
+/// which the node and leaf 2 have these counts.
+fn counted(of_node: u16, of_leaf: u16) -> Files {
+    let mut root = node(1, 2, 1, &[(b"A", -1), (b"C", -2), (b"E", -3)]);
+    put16(&mut root, OCK, of_node);
+    let mut leaves = [
+        leaf(1, 1, 1, 2, &[(b"A", 1, 1), (b"B", 1, 2)]),
+        leaf(1, 1, 2, 3, &[(b"C", 2, 1), (b"D", 2, 2)]),
+        leaf(1, 1, 3, 0, &[(b"E", 3, 1), (b"F", 3, 2)]),
+    ];
+    put16(&mut leaves[1], OCK, of_leaf);
+    with_first((2, 1), 1, &[root], &leaves)
+}
+
 #[test]
 fn key_counts_are_1_to_twice_the_order() {
-    let keys: Vec<Vec<u8>> = (0..8).map(|n| vec![b'A' + n]).collect();
-    let tree = |nodes: u16, leaves: u16| {
-        let pointers: Vec<(&[u8], i32)> = (1..=3)
-            .map(|n| (&keys[2 * n - 2][..], -(n as i32)))
-            .collect();
-        let mut node = node(1, 2, 1, &pointers);
-        put16(&mut node, OCK, nodes);
-        let of = |n: i32, ps: i32| {
-            let at = 2 * n as usize - 2;
-            leaf(1, 1, n, ps, &[(&keys[at], n, 1), (&keys[at + 1], n, 2)])
-        };
-        let mut all = [of(1, 2), of(2, 3), of(3, 0)];
-        put16(&mut all[1], OCK, leaves);
-        with_first((2, 1), 1, &[node], &all)
-    };
-    assert_eq!(checked(&tree(3, 2)), Ok(()));
-    assert_eq!(look(&tree(3, 2), b"D"), Ok((2, 2)));
+    assert_eq!(checked(&counted(3, 2)), Ok(()));
+    assert_eq!(look(&counted(3, 2), b"D"), Ok((2, 2)));
     assert_eq!(
-        look(&tree(3, 1), b"D"),
+        look(&counted(3, 1), b"D"),
         Err(Absent),
         "the second key is inactive"
     );
-    assert_eq!(checked(&tree(3, 1)), Ok(()));
+    assert_eq!(checked(&counted(3, 1)), Ok(()));
     assert_eq!(
-        look(&tree(1, 2), b"D"),
+        look(&counted(1, 2), b"D"),
         Err(Absent),
         "the second pointer is inactive"
     );
     for count in [0, 5, 0x0102, 0xFFFF] {
-        both_find(&tree(count, 2), b"D", KeyCount);
-        assert_eq!(look(&tree(count, 2), b"0"), Err(Broken(KeyCount)));
+        both_find(&counted(count, 2), b"D", KeyCount);
+        assert_eq!(look(&counted(count, 2), b"0"), Err(Broken(KeyCount)));
     }
     for count in [0, 3, 0x0101] {
-        both_find(&tree(3, count), b"D", KeyCount);
-        assert_eq!(look(&tree(3, count), b"A"), Ok((1, 1)), "leaf 2 is not met");
+        both_find(&counted(3, count), b"D", KeyCount);
+        assert_eq!(
+            look(&counted(3, count), b"A"),
+            Ok((1, 1)),
+            "leaf 2 is not met"
+        );
     }
-    assert_eq!(look(&tree(4, 2), b"D"), Err(Broken(ZeroPointer)));
+    assert_eq!(look(&counted(4, 2), b"D"), Err(Broken(ZeroPointer)));
 }
 
 #[test]

@@ -215,17 +215,9 @@ fn depth(index: &mut Index) {
             while tree.nodes.len() < nodes + 1 {
                 let pos = tree.nodes.len() as i32 + 1;
                 let key = b"ALPHA".to_vec();
-                let entries = vec![Pointer {
-                    key,
-                    punt: tree.posrx,
-                }];
-                let (ock, it) = (1, 1);
-                tree.nodes.push(Some(Node {
-                    pos,
-                    ock,
-                    it,
-                    entries,
-                }));
+                let punt = tree.posrx;
+                let pointer = vec![Pointer { key, punt }];
+                tree.nodes.push(Some(Node::of(pos, 1, pointer)));
                 tree.posrx = pos;
             }
         });
