@@ -49,7 +49,7 @@ fn built_indexes() {
 
 #[test]
 fn indexes_damaged_by_meaning() {
-    let tally = run("indexes damaged by meaning", cases::damaged, 12_000);
+    let tally = run("indexes damaged by meaning", cases::damaged, 8_000);
     let both = Broken::OF_BOTH
         .into_iter()
         .filter(|rule| *rule != Broken::CntLength);
@@ -61,7 +61,7 @@ fn indexes_damaged_by_meaning() {
 
 #[test]
 fn indexes_damaged_by_bytes() {
-    let tally = run("indexes damaged by bytes", cases::poked, 6_000);
+    let tally = run("indexes damaged by bytes", cases::poked, 5_000);
     let both = [
         Broken::CntLength,
         Broken::Idtype,
@@ -75,10 +75,10 @@ fn indexes_damaged_by_bytes() {
 
 #[test]
 fn records_by_chance() {
-    let tally = run("records by chance", cases::chance, 4_000);
+    let tally = run("records by chance", cases::chance, 3_000);
     let deep = Some(Why::Broken(Broken::TooDeep));
-    came(&tally, &ANSWERED, &[Some(Broken::TooDeep)], calls(500));
-    came(&tally, &[deep], &[Some(Broken::LeafTwice)], calls(500));
+    came(&tally, &ANSWERED, &[Some(Broken::TooDeep)], calls(300));
+    came(&tally, &[deep], &[Some(Broken::LeafTwice)], calls(300));
 }
 
 #[test]
@@ -212,7 +212,20 @@ fn answers_known_by_hand() {
         assert_eq!(answers(&files, b"KITES"), (21, (21, 0, 0)));
         assert_eq!(answers(&files, b"KITES "), (21, (20, 0, 0)));
     }
-    assert_eq!(answers(&Files::default(), b"KITES"), (21, (21, 0, 0)));
+}
+
+/// Five empty files and an empty term at the front guard page are all lent as NULL.
+#[test]
+fn nothing_is_lent_as_null() {
+    let mut archive = Archive::new();
+    for side in [Side::Front, Side::Back] {
+        archive.lend(&Files::default(), [side; 5]);
+        assert_eq!(archive.check(), 21);
+        for (term, number) in [(&b""[..], 20), (b"KITE", 21), (b"HIGHLAND KITES", 21)] {
+            let given = archive.lookup(term, side);
+            assert_eq!((given.number, given.block, given.word), (number, 0, 0));
+        }
+    }
 }
 
 /// The small index with another first tree.
@@ -223,27 +236,12 @@ fn with_first(first: Tree) -> Files {
 }
 
 fn node(pos: i32, entries: Vec<Pointer>) -> Option<Node> {
-    Some(Node {
-        pos,
-        ock: entries.len() as u16,
-        it: 1,
-        entries,
-    })
+    Some(Node::of(pos, 1, entries))
 }
 
 fn leaf(pos: i32, ps: i32, key: Vec<u8>) -> Option<Leaf> {
-    let entries = vec![Posting {
-        key,
-        block: pos,
-        word: 0,
-    }];
-    Some(Leaf {
-        pos,
-        ock: 1,
-        it: 1,
-        ps,
-        entries,
-    })
+    let (block, word) = (pos, 0);
+    Some(Leaf::of(pos, 1, ps, vec![Posting { key, block, word }]))
 }
 
 /// A key that ascends with the number.
@@ -275,7 +273,7 @@ fn a_chain_of_one_child() {
             })
             .collect(),
         leaves,
-        ..cases::empty(1, 16, 1)
+        ..Tree::empty(1, 16, 1)
     };
     let one = chain(vec![leaf(1, 0, key(0))]);
     answered("one child", with_first(one.clone()), Err(Broken::LeafTwice));
@@ -317,7 +315,7 @@ fn sharing(levels: i32) -> Tree {
         leaves: (0..keys)
             .map(|k| leaf(k + 1, if k + 1 == keys { 0 } else { k + 2 }, key(k)))
             .collect(),
-        ..cases::empty(1, 16, 1)
+        ..Tree::empty(1, 16, 1)
     }
 }
 

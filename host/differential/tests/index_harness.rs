@@ -1,7 +1,7 @@
 //! The comparison of indexes is itself tried: readers that are wrong in one sentence of the
 //! request, or that do not look at one number of a record, must be found by it.
 
-use differential::guarded::Side;
+use differential::guarded::{Area, Side, at_work, report_hits};
 use differential::index::compare::{Family, drive_reader, given_for};
 use differential::index::{Given, Reader, cases};
 use model::Refusal;
@@ -9,6 +9,7 @@ use model::index::Files;
 use model::index::read::{Met, Request, Rules, check_by, lookup_by};
 use model::index::record::Tree;
 use model::index::tree::{leaf_len, node_len};
+use std::process::Command;
 
 /// A wrong reader: the model's with other rules, on files that are put right before it
 /// looks at them, and with its answers spoiled.
@@ -421,5 +422,47 @@ fn a_right_reader_passes() {
     ] {
         let passed = drive_reader(&mut Fake::new(Request), family, 100, 1);
         assert!(passed.is_ok());
+    }
+}
+
+/// Run by the next test in a process of its own.
+#[test]
+#[ignore = "ends the process"]
+fn touches_what_it_may_not() {
+    report_hits();
+    at_work(4711, 12);
+    let mut area = Area::new(52);
+    let file = area.bytes(&[1; 52], Side::Back).as_mut_ptr();
+    area.read_only(true);
+    // SAFETY: none; these are the faults that must be caught.
+    unsafe {
+        match std::env::var("ISIS_TOUCH").as_deref() {
+            Ok("write") => file.write_volatile(0),
+            Ok("behind") => drop(file.add(52).read_volatile()),
+            _ => drop(file.add(51).read_volatile()),
+        }
+    }
+}
+
+#[test]
+fn a_write_to_a_shut_file_and_a_look_behind_it_end_the_program() {
+    for (touch, code) in [("read", 0), ("write", 139), ("behind", 139)] {
+        let output = Command::new(std::env::current_exe().unwrap())
+            .args([
+                "--exact",
+                "touches_what_it_may_not",
+                "--ignored",
+                "--nocapture",
+            ])
+            .env("ISIS_TOUCH", touch)
+            .output()
+            .unwrap();
+        assert_eq!(output.status.code(), Some(code), "{touch}: {output:?}");
+        let words = String::from_utf8_lossy(&output.stderr);
+        assert_eq!(
+            words.contains("outside its buffers"),
+            code == 139,
+            "{words}"
+        );
     }
 }

@@ -101,40 +101,24 @@ fn chance_tree(which: usize, letters: usize, random: &mut Random) -> Tree {
     let (ordn, ordf) = (random.between(1, 3) as u16, random.between(1, 3) as u16);
     let (nodes, leaves) = (random.between(1, 24) as i32, random.between(1, 6) as i32);
     let own = which as u16 + 1;
-    let node = |pos, random: &mut Random| Node {
-        pos,
-        ock: 0,
-        it: own,
-        entries: entries(2 * ordn, random, |random| Pointer {
+    let mut tree = Tree::empty(own, ordn, ordf);
+    tree.posrx = random.between(1, nodes as usize) as i32;
+    for pos in 1..=nodes {
+        let pointers = entries(2 * ordn, random, |random| Pointer {
             key: chance_key(which, letters, random),
             punt: chance_pointer(pos, nodes, leaves, random),
-        }),
-    };
-    let leaf = |pos, random: &mut Random| Leaf {
-        pos,
-        ock: 0,
-        it: own,
-        ps: random.below(leaves as usize + 1) as i32,
-        entries: entries(2 * ordf, random, |random| Posting {
+        });
+        tree.nodes.push(Some(Node::of(pos, own, pointers)));
+    }
+    for pos in 1..=leaves {
+        let ps = random.below(leaves as usize + 1) as i32;
+        let postings = entries(2 * ordf, random, |random| Posting {
             key: chance_key(which, letters, random),
             block: random.next() as i32,
             word: random.next() as i32,
-        }),
-    };
-    let mut tree = Tree {
-        posrx: random.between(1, nodes as usize) as i32,
-        nodes: (1..=nodes).map(|pos| Some(node(pos, random))).collect(),
-        leaves: (1..=leaves).map(|pos| Some(leaf(pos, random))).collect(),
-        ..empty(own, ordn, ordf)
-    };
-    tree.nodes
-        .iter_mut()
-        .flatten()
-        .for_each(|n| n.ock = n.entries.len() as u16);
-    tree.leaves
-        .iter_mut()
-        .flatten()
-        .for_each(|l| l.ock = l.entries.len() as u16);
+        });
+        tree.leaves.push(Some(Leaf::of(pos, own, ps, postings)));
+    }
     tree
 }
 
@@ -161,25 +145,6 @@ fn chance_pointer(pos: i32, nodes: i32, leaves: i32, random: &mut Random) -> i32
     }
 }
 
-/// A tree of these orders with nothing in it.
-pub fn empty(own: u16, ordn: u16, ordf: u16) -> Tree {
-    Tree {
-        idtype: own,
-        ordn,
-        ordf,
-        n: 15,
-        k: 5,
-        liv: 0,
-        posrx: 0,
-        nmaxpos: 0,
-        fmaxpos: 0,
-        abnormal: 0,
-        nodes: Vec::new(),
-        leaves: Vec::new(),
-        behind: [0; 2],
-    }
-}
-
 /// Random bytes, also none, behind a CNT that is right in most cases.
 pub fn rubbish(random: &mut Random) -> Case {
     let mut files = Files::default();
@@ -192,7 +157,7 @@ pub fn rubbish(random: &mut Random) -> Case {
         files.cnt = Files::of(
             &[0, 1].map(|which| Tree {
                 posrx: random.between(1, 3) as i32,
-                ..empty(which as u16 + 1, orders[which].0, orders[which].1)
+                ..Tree::empty(which as u16 + 1, orders[which].0, orders[which].1)
             }),
             &mut |_| (),
         )

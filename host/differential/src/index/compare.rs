@@ -38,16 +38,6 @@ impl Tally {
     pub fn calls(&self) -> usize {
         self.lookups.values().sum::<usize>() + self.checks.values().sum::<usize>()
     }
-
-    /// Adds another tally.
-    pub fn join(&mut self, other: &Tally) {
-        for (why, count) in &other.lookups {
-            *self.lookups.entry(*why).or_default() += count;
-        }
-        for (rule, count) in &other.checks {
-            *self.checks.entry(*rule).or_default() += count;
-        }
-    }
 }
 
 impl fmt::Display for Tally {

@@ -244,12 +244,9 @@ fn depth(tree: &mut Tree, random: &mut Random) {
         };
         let (key, punt) = (root.entries[0].key.clone(), tree.posrx);
         tree.posrx = tree.nodes.len() as i32 + 1;
-        tree.nodes.push(Some(Node {
-            pos: tree.posrx,
-            ock: 1,
-            it: tree.idtype,
-            entries: vec![Pointer { key, punt }],
-        }));
+        let pointer = vec![Pointer { key, punt }];
+        tree.nodes
+            .push(Some(Node::of(tree.posrx, tree.idtype, pointer)));
     }
 }
 
