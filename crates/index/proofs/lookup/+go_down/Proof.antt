@@ -24,7 +24,9 @@ go-down-at t = and 3 go-down-kinds.ps (is 3 go-down-kinds.ps μ-go-down t) go-do
 abbrev go-down-below : ℕ → In 3 go-down-kinds.ps
 go-down-below t = and 3 go-down-kinds.ps (falls 3 go-down-kinds.ps _<_ μ-go-down t) go-down.Pre
 
-go-down-returns : (t : ℕ) → go-down-lts.Need-returns (
+-- what the functions that it calls ask and tell
+abbrev claims : ℕ → go-down-lts.Claims
+claims t = (
   node-right-reads.Asked,
   node-right-reads.Learnt,
   last-punt-reads.Asked,
@@ -33,97 +35,36 @@ go-down-returns : (t : ℕ) → go-down-lts.Need-returns (
   go-down.Post,
   leaf-answer-reads.Asked,
   leaf-answer-reads.Learnt,
-) (go-down-at t) go-down.Post
+)
+
+go-down-returns : (t : ℕ) → go-down-lts.Need-returns (claims t) (go-down-at t) go-down.Post
 go-down-returns t c = down-none _ _ _ _ _ _ (c .if1 .taken)
 
-go-down-node-right-requires : (t : ℕ) → go-down-lts.Need-node-right-requires (
-  node-right-reads.Asked,
-  node-right-reads.Learnt,
-  last-punt-reads.Asked,
-  last-punt-reads.Learnt,
-  go-down-below t,
-  go-down.Post,
-  leaf-answer-reads.Asked,
-  leaf-answer-reads.Learnt,
-) (go-down-at t) go-down.Post
+go-down-node-right-requires : (t : ℕ) → go-down-lts.Need-node-right-requires (claims t) (go-down-at t) go-down.Post
 go-down-node-right-requires t c κs = c .before .before .before .before .before .pre .1 .0 .nodes-fit
 
-go-down-returns-2 : (t : ℕ) → go-down-lts.Need-returns-2 (
-  node-right-reads.Asked,
-  node-right-reads.Learnt,
-  last-punt-reads.Asked,
-  last-punt-reads.Learnt,
-  go-down-below t,
-  go-down.Post,
-  leaf-answer-reads.Asked,
-  leaf-answer-reads.Learnt,
-) (go-down-at t) go-down.Post
+go-down-returns-2 : (t : ℕ) → go-down-lts.Need-returns-2 (claims t) (go-down-at t) go-down.Post
 go-down-returns-2 t c = down-broken _ _ _ _ _ _ _ (c .before .before .before .if1 .left) (c .before .node-right .ensures) (c .if2 .taken)
 
-go-down-last-punt-requires : (t : ℕ) → go-down-lts.Need-last-punt-requires (
-  node-right-reads.Asked,
-  node-right-reads.Learnt,
-  last-punt-reads.Asked,
-  last-punt-reads.Learnt,
-  go-down-below t,
-  go-down.Post,
-  leaf-answer-reads.Asked,
-  leaf-answer-reads.Learnt,
-) (go-down-at t) go-down.Post
+go-down-last-punt-requires : (t : ℕ) → go-down-lts.Need-last-punt-requires (claims t) (go-down-at t) go-down.Post
 go-down-last-punt-requires t c κs =
     let c7 = c .before .before .before .before .before .before .before in
     (c7 .pre .1 .0 .nodes-fit, node-record _ _ _ _ (c .before .node-right .ensures) (c .if2 .left), c7 .pre .1 .1)
 
-go-down-returns-3 : (t : ℕ) → go-down-lts.Need-returns-3 (
-  node-right-reads.Asked,
-  node-right-reads.Learnt,
-  last-punt-reads.Asked,
-  last-punt-reads.Learnt,
-  go-down-below t,
-  go-down.Post,
-  leaf-answer-reads.Asked,
-  leaf-answer-reads.Learnt,
-) (go-down-at t) go-down.Post
+go-down-returns-3 : (t : ℕ) → go-down-lts.Need-returns-3 (claims t) (go-down-at t) go-down.Post
 go-down-returns-3 t c =
     let c3 = c .before .before .before in
     let c5 = c3 .before .before in
     down-absent _ _ _ _ _ _ _ (c5 .if1 .left) (c3 .node-right .ensures) _ (c .before .before .if2 .left) (c .before .last-punt .ensures)
     (c .if3 .taken)
 
-go-down-sub-go-down : (t : ℕ) → go-down-lts.Need-sub-go-down (
-  node-right-reads.Asked,
-  node-right-reads.Learnt,
-  last-punt-reads.Asked,
-  last-punt-reads.Learnt,
-  go-down-below t,
-  go-down.Post,
-  leaf-answer-reads.Asked,
-  leaf-answer-reads.Learnt,
-) (go-down-at t) go-down.Post
+go-down-sub-go-down : (t : ℕ) → go-down-lts.Need-sub-go-down (claims t) (go-down-at t) go-down.Post
 go-down-sub-go-down t c = omega arith
 
-go-down-go-down-requires : (t : ℕ) → go-down-lts.Need-go-down-requires (
-  node-right-reads.Asked,
-  node-right-reads.Learnt,
-  last-punt-reads.Asked,
-  last-punt-reads.Learnt,
-  go-down-below t,
-  go-down.Post,
-  leaf-answer-reads.Asked,
-  leaf-answer-reads.Learnt,
-) (go-down-at t) go-down.Post
+go-down-go-down-requires : (t : ℕ) → go-down-lts.Need-go-down-requires (claims t) (go-down-at t) go-down.Post
 go-down-go-down-requires t c κs = (omega arith, c .before .before .before .before .before .before .before .before .before .before .pre .1)
 
-go-down-returns-4 : (t : ℕ) → go-down-lts.Need-returns-4 (
-  node-right-reads.Asked,
-  node-right-reads.Learnt,
-  last-punt-reads.Asked,
-  last-punt-reads.Learnt,
-  go-down-below t,
-  go-down.Post,
-  leaf-answer-reads.Asked,
-  leaf-answer-reads.Learnt,
-) (go-down-at t) go-down.Post
+go-down-returns-4 : (t : ℕ) → go-down-lts.Need-returns-4 (claims t) (go-down-at t) go-down.Post
 go-down-returns-4 t c =
     let c3 = c .before .before .before in
     let c4 = c3 .before in
@@ -132,53 +73,17 @@ go-down-returns-4 t c =
     down-node _ _ _ _ _ _ _ (c7 .if1 .left) (c5 .node-right .ensures) _ (c4 .if2 .left) (c3 .last-punt .ensures) _ (c .before .before .if3 .left)
     (c .before .if4 .taken) (c .go-down .ensures)
 
-go-down-sub-leaf-answer : (t : ℕ) → go-down-lts.Need-sub-leaf-answer (
-  node-right-reads.Asked,
-  node-right-reads.Learnt,
-  last-punt-reads.Asked,
-  last-punt-reads.Learnt,
-  go-down-below t,
-  go-down.Post,
-  leaf-answer-reads.Asked,
-  leaf-answer-reads.Learnt,
-) (go-down-at t) go-down.Post
+go-down-sub-leaf-answer : (t : ℕ) → go-down-lts.Need-sub-leaf-answer (claims t) (go-down-at t) go-down.Post
 go-down-sub-leaf-answer t c = omega arith
 
-go-down-add-leaf-answer : (t : ℕ) → go-down-lts.Need-add-leaf-answer (
-  node-right-reads.Asked,
-  node-right-reads.Learnt,
-  last-punt-reads.Asked,
-  last-punt-reads.Learnt,
-  go-down-below t,
-  go-down.Post,
-  leaf-answer-reads.Asked,
-  leaf-answer-reads.Learnt,
-) (go-down-at t) go-down.Post
+go-down-add-leaf-answer : (t : ℕ) → go-down-lts.Need-add-leaf-answer (claims t) (go-down-at t) go-down.Post
 go-down-add-leaf-answer t c = omega arith
 
-go-down-leaf-answer-requires : (t : ℕ) → go-down-lts.Need-leaf-answer-requires (
-  node-right-reads.Asked,
-  node-right-reads.Learnt,
-  last-punt-reads.Asked,
-  last-punt-reads.Learnt,
-  go-down-below t,
-  go-down.Post,
-  leaf-answer-reads.Asked,
-  leaf-answer-reads.Learnt,
-) (go-down-at t) go-down.Post
+go-down-leaf-answer-requires : (t : ℕ) → go-down-lts.Need-leaf-answer-requires (claims t) (go-down-at t) go-down.Post
 go-down-leaf-answer-requires t c κs =
     (c .before .before .before .before .before .before .before .before .before .before .before .pre .1 .0 .leaves-fit, omega arith)
 
-go-down-returns-5 : (t : ℕ) → go-down-lts.Need-returns-5 (
-  node-right-reads.Asked,
-  node-right-reads.Learnt,
-  last-punt-reads.Asked,
-  last-punt-reads.Learnt,
-  go-down-below t,
-  go-down.Post,
-  leaf-answer-reads.Asked,
-  leaf-answer-reads.Learnt,
-) (go-down-at t) go-down.Post
+go-down-returns-5 : (t : ℕ) → go-down-lts.Need-returns-5 (claims t) (go-down-at t) go-down.Post
 go-down-returns-5 t c =
     let p = c .before .before .before .before .before .before .before .before .before .before .before .before .pre in
     let a = c .before .before .before .before .before .before .before .before .before .before .before .before .args in
@@ -189,16 +94,7 @@ go-down-returns-5 t c =
     (c .before .before .if4 .left) (omega arith) (c .leaf-answer .ensures)
 
 pub +go-down-spec : {M : Type 1} → statement M
-+go-down-spec = close μ-go-down λ t. go-down-lts.spec (
-  node-right-reads.Asked,
-  node-right-reads.Learnt,
-  last-punt-reads.Asked,
-  last-punt-reads.Learnt,
-  go-down-below t,
-  go-down.Post,
-  leaf-answer-reads.Asked,
-  leaf-answer-reads.Learnt,
-)
++go-down-spec = close μ-go-down λ t. go-down-lts.spec (claims t)
     (go-down-at t)
     go-down.Post
     (go-down-returns t)

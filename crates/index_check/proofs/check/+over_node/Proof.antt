@@ -32,6 +32,23 @@ abbrev over-node-below : ℕ → In 2 over-node-kinds.ps
 over-node-below t =
     and 2 over-node-kinds.ps (falls 2 over-node-kinds.ps _<_ μ-over-node t) over-node.Pre
 
+-- what the functions that it calls ask and tell
+abbrev claims : ℕ → over-node-lts.Claims
+claims t = (
+  node-sound-reads.Asked,
+  node-sound-reads.Learnt,
+  count-at-reads.Asked,
+  count-at-reads.Learnt,
+  stopped-reads.Asked,
+  stopped-reads.Learnt,
+  punt-at-reads.Asked,
+  punt-at-reads.Learnt,
+  over-node-below t,
+  over-node.Post,
+  over-leaf-reads.Asked,
+  over-leaf-reads.Learnt,
+)
+
 abbrev over-node-Inv-loop : over-node-lts.InvT-loop
 over-node-Inv-loop nodes leaves t left n s l count at₀ i₀ at i =
     (i ≤ count) × (Reached leaves (t .leaves) at) ×
@@ -40,120 +57,29 @@ over-node-Inv-loop nodes leaves t left n s l count at₀ i₀ at i =
 abbrev over-node-μ-loop : over-node-lts.MeasureT-loop
 over-node-μ-loop nodes leaves t left n s l count at₀ i₀ at i = count - i
 
-over-node-returns : (t : ℕ) → over-node-lts.Need-returns (
-  node-sound-reads.Asked,
-  node-sound-reads.Learnt,
-  count-at-reads.Asked,
-  count-at-reads.Learnt,
-  stopped-reads.Asked,
-  stopped-reads.Learnt,
-  punt-at-reads.Asked,
-  punt-at-reads.Learnt,
-  over-node-below t,
-  over-node.Post,
-  over-leaf-reads.Asked,
-  over-leaf-reads.Learnt,
-) (over-node-at t) over-node.Post over-node-Inv-loop over-node-μ-loop
+over-node-returns : (t : ℕ) → over-node-lts.Need-returns (claims t) (over-node-at t) over-node.Post over-node-Inv-loop over-node-μ-loop
 over-node-returns t c = over-none _ _ _ _ _ _ (c .if1 .taken)
 
-over-node-node-sound-requires : (t : ℕ) → over-node-lts.Need-node-sound-requires (
-  node-sound-reads.Asked,
-  node-sound-reads.Learnt,
-  count-at-reads.Asked,
-  count-at-reads.Learnt,
-  stopped-reads.Asked,
-  stopped-reads.Learnt,
-  punt-at-reads.Asked,
-  punt-at-reads.Learnt,
-  over-node-below t,
-  over-node.Post,
-  over-leaf-reads.Asked,
-  over-leaf-reads.Learnt,
-) (over-node-at t) over-node.Post over-node-Inv-loop over-node-μ-loop
+over-node-node-sound-requires : (t : ℕ) → over-node-lts.Need-node-sound-requires (claims t) (over-node-at t) over-node.Post over-node-Inv-loop over-node-μ-loop
 over-node-node-sound-requires t c κs = c .before .before .before .pre .1 .0
 
-over-node-returns-2 : (t : ℕ) → over-node-lts.Need-returns-2 (
-  node-sound-reads.Asked,
-  node-sound-reads.Learnt,
-  count-at-reads.Asked,
-  count-at-reads.Learnt,
-  stopped-reads.Asked,
-  stopped-reads.Learnt,
-  punt-at-reads.Asked,
-  punt-at-reads.Learnt,
-  over-node-below t,
-  over-node.Post,
-  over-leaf-reads.Asked,
-  over-leaf-reads.Learnt,
-) (over-node-at t) over-node.Post over-node-Inv-loop over-node-μ-loop
+over-node-returns-2 : (t : ℕ) → over-node-lts.Need-returns-2 (claims t) (over-node-at t) over-node.Post over-node-Inv-loop over-node-μ-loop
 over-node-returns-2 t c = over-unsound _ _ _ _ _ _ _ (c .before .before .if1 .left) (c .before .node-sound .ensures) (c .if2 .taken)
 
-over-node-count-at-requires : (t : ℕ) → over-node-lts.Need-count-at-requires (
-  node-sound-reads.Asked,
-  node-sound-reads.Learnt,
-  count-at-reads.Asked,
-  count-at-reads.Learnt,
-  stopped-reads.Asked,
-  stopped-reads.Learnt,
-  punt-at-reads.Asked,
-  punt-at-reads.Learnt,
-  over-node-below t,
-  over-node.Post,
-  over-leaf-reads.Asked,
-  over-leaf-reads.Learnt,
-) (over-node-at t) over-node.Post over-node-Inv-loop over-node-μ-loop
+over-node-count-at-requires : (t : ℕ) → over-node-lts.Need-count-at-requires (claims t) (over-node-at t) over-node.Post over-node-Inv-loop over-node-μ-loop
 over-node-count-at-requires t c κs =
     let c3 = c .before .before .before in
     let c7 = c3 .before .before .before .before in
     (c7 .pre .1 .0 .nodes-fit, right-facts _ _ _ (sound-record _ _ _ _ _ (c3 .node-sound .ensures) (c .before .before .if2 .left)) .there)
 
-over-node-loop-holds : (t : ℕ) → over-node-lts.Need-loop-holds (
-  node-sound-reads.Asked,
-  node-sound-reads.Learnt,
-  count-at-reads.Asked,
-  count-at-reads.Learnt,
-  stopped-reads.Asked,
-  stopped-reads.Learnt,
-  punt-at-reads.Asked,
-  punt-at-reads.Learnt,
-  over-node-below t,
-  over-node.Post,
-  over-leaf-reads.Asked,
-  over-leaf-reads.Learnt,
-) (over-node-at t) over-node.Post over-node-Inv-loop over-node-μ-loop
+over-node-loop-holds : (t : ℕ) → over-node-lts.Need-loop-holds (claims t) (over-node-at t) over-node.Post over-node-Inv-loop over-node-μ-loop
 unfolding pass behindFirst
 over-node-loop-holds t c = (omega arith, c .before .before .before .before .before .before .before .before .pre .1 .1, refl)
 
-over-node-stopped-requires : (t : ℕ) → over-node-lts.Need-stopped-requires (
-  node-sound-reads.Asked,
-  node-sound-reads.Learnt,
-  count-at-reads.Asked,
-  count-at-reads.Learnt,
-  stopped-reads.Asked,
-  stopped-reads.Learnt,
-  punt-at-reads.Asked,
-  punt-at-reads.Learnt,
-  over-node-below t,
-  over-node.Post,
-  over-leaf-reads.Asked,
-  over-leaf-reads.Learnt,
-) (over-node-at t) over-node.Post over-node-Inv-loop over-node-μ-loop
+over-node-stopped-requires : (t : ℕ) → over-node-lts.Need-stopped-requires (claims t) (over-node-at t) over-node.Post over-node-Inv-loop over-node-μ-loop
 over-node-stopped-requires t c κs = search needs
 
-over-node-returns-3 : (t : ℕ) → over-node-lts.Need-returns-3 (
-  node-sound-reads.Asked,
-  node-sound-reads.Learnt,
-  count-at-reads.Asked,
-  count-at-reads.Learnt,
-  stopped-reads.Asked,
-  stopped-reads.Learnt,
-  punt-at-reads.Asked,
-  punt-at-reads.Learnt,
-  over-node-below t,
-  over-node.Post,
-  over-leaf-reads.Asked,
-  over-leaf-reads.Learnt,
-) (over-node-at t) over-node.Post over-node-Inv-loop over-node-μ-loop
+over-node-returns-3 : (t : ℕ) → over-node-lts.Need-returns-3 (claims t) (over-node-at t) over-node.Post over-node-Inv-loop over-node-μ-loop
 over-node-returns-3 t c =
     let c3 = c .before .before .before in
     let c4 = c3 .before in
@@ -163,20 +89,7 @@ over-node-returns-3 t c =
     over-stopped _ _ _ _ _ _ _ (c9 .if1 .left) (c8 .node-sound .ensures) _ _ _ (c7 .if2 .left) (c4 .count-at .ensures .0)
     (c .before .before .loop-test .taken) (stopped-is _ (sym (c .before .stopped .ensures) ∙ c .if3 .taken)) (c3 .loop .inv .2)
 
-over-node-punt-at-requires : (t : ℕ) → over-node-lts.Need-punt-at-requires (
-  node-sound-reads.Asked,
-  node-sound-reads.Learnt,
-  count-at-reads.Asked,
-  count-at-reads.Learnt,
-  stopped-reads.Asked,
-  stopped-reads.Learnt,
-  punt-at-reads.Asked,
-  punt-at-reads.Learnt,
-  over-node-below t,
-  over-node.Post,
-  over-leaf-reads.Asked,
-  over-leaf-reads.Learnt,
-) (over-node-at t) over-node.Post over-node-Inv-loop over-node-μ-loop
+over-node-punt-at-requires : (t : ℕ) → over-node-lts.Need-punt-at-requires (claims t) (over-node-at t) over-node.Post over-node-Inv-loop over-node-μ-loop
 over-node-punt-at-requires t c κs =
     let p = c .before .before .before .before .before .before .before .before .before .before .before .before .pre in (
       p .1 .0 .nodes-fit,
@@ -184,36 +97,10 @@ over-node-punt-at-requires t c κs =
       omega arith,
     )
 
-over-node-sub-over-node : (t : ℕ) → over-node-lts.Need-sub-over-node (
-  node-sound-reads.Asked,
-  node-sound-reads.Learnt,
-  count-at-reads.Asked,
-  count-at-reads.Learnt,
-  stopped-reads.Asked,
-  stopped-reads.Learnt,
-  punt-at-reads.Asked,
-  punt-at-reads.Learnt,
-  over-node-below t,
-  over-node.Post,
-  over-leaf-reads.Asked,
-  over-leaf-reads.Learnt,
-) (over-node-at t) over-node.Post over-node-Inv-loop over-node-μ-loop
+over-node-sub-over-node : (t : ℕ) → over-node-lts.Need-sub-over-node (claims t) (over-node-at t) over-node.Post over-node-Inv-loop over-node-μ-loop
 over-node-sub-over-node t c = omega arith
 
-over-node-over-node-requires : (t : ℕ) → over-node-lts.Need-over-node-requires (
-  node-sound-reads.Asked,
-  node-sound-reads.Learnt,
-  count-at-reads.Asked,
-  count-at-reads.Learnt,
-  stopped-reads.Asked,
-  stopped-reads.Learnt,
-  punt-at-reads.Asked,
-  punt-at-reads.Learnt,
-  over-node-below t,
-  over-node.Post,
-  over-leaf-reads.Asked,
-  over-leaf-reads.Learnt,
-) (over-node-at t) over-node.Post over-node-Inv-loop over-node-μ-loop
+over-node-over-node-requires : (t : ℕ) → over-node-lts.Need-over-node-requires (claims t) (over-node-at t) over-node.Post over-node-Inv-loop over-node-μ-loop
 over-node-over-node-requires t c κs = (
   omega arith,
   (
@@ -222,103 +109,25 @@ over-node-over-node-requires t c κs = (
   ),
 )
 
-over-node-sub-over-leaf : (t : ℕ) → over-node-lts.Need-sub-over-leaf (
-  node-sound-reads.Asked,
-  node-sound-reads.Learnt,
-  count-at-reads.Asked,
-  count-at-reads.Learnt,
-  stopped-reads.Asked,
-  stopped-reads.Learnt,
-  punt-at-reads.Asked,
-  punt-at-reads.Learnt,
-  over-node-below t,
-  over-node.Post,
-  over-leaf-reads.Asked,
-  over-leaf-reads.Learnt,
-) (over-node-at t) over-node.Post over-node-Inv-loop over-node-μ-loop
+over-node-sub-over-leaf : (t : ℕ) → over-node-lts.Need-sub-over-leaf (claims t) (over-node-at t) over-node.Post over-node-Inv-loop over-node-μ-loop
 over-node-sub-over-leaf t c = omega arith
 
-over-node-add-over-leaf : (t : ℕ) → over-node-lts.Need-add-over-leaf (
-  node-sound-reads.Asked,
-  node-sound-reads.Learnt,
-  count-at-reads.Asked,
-  count-at-reads.Learnt,
-  stopped-reads.Asked,
-  stopped-reads.Learnt,
-  punt-at-reads.Asked,
-  punt-at-reads.Learnt,
-  over-node-below t,
-  over-node.Post,
-  over-leaf-reads.Asked,
-  over-leaf-reads.Learnt,
-) (over-node-at t) over-node.Post over-node-Inv-loop over-node-μ-loop
+over-node-add-over-leaf : (t : ℕ) → over-node-lts.Need-add-over-leaf (claims t) (over-node-at t) over-node.Post over-node-Inv-loop over-node-μ-loop
 over-node-add-over-leaf t c = omega arith
 
-over-node-over-leaf-requires : (t : ℕ) → over-node-lts.Need-over-leaf-requires (
-  node-sound-reads.Asked,
-  node-sound-reads.Learnt,
-  count-at-reads.Asked,
-  count-at-reads.Learnt,
-  stopped-reads.Asked,
-  stopped-reads.Learnt,
-  punt-at-reads.Asked,
-  punt-at-reads.Learnt,
-  over-node-below t,
-  over-node.Post,
-  over-leaf-reads.Asked,
-  over-leaf-reads.Learnt,
-) (over-node-at t) over-node.Post over-node-Inv-loop over-node-μ-loop
+over-node-over-leaf-requires : (t : ℕ) → over-node-lts.Need-over-leaf-requires (claims t) (over-node-at t) over-node.Post over-node-Inv-loop over-node-μ-loop
 over-node-over-leaf-requires t c κs =
     let c5 = c .before .before .before .before .before in
     let c14 = c5 .before .before .before .before .before .before .before .before .before in
     (c14 .pre .1 .0 .leaves-fit, c5 .loop .inv .1)
 
-over-node-add-i : (t : ℕ) → over-node-lts.Need-add-i (
-  node-sound-reads.Asked,
-  node-sound-reads.Learnt,
-  count-at-reads.Asked,
-  count-at-reads.Learnt,
-  stopped-reads.Asked,
-  stopped-reads.Learnt,
-  punt-at-reads.Asked,
-  punt-at-reads.Learnt,
-  over-node-below t,
-  over-node.Post,
-  over-leaf-reads.Asked,
-  over-leaf-reads.Learnt,
-) (over-node-at t) over-node.Post over-node-Inv-loop over-node-μ-loop
+over-node-add-i : (t : ℕ) → over-node-lts.Need-add-i (claims t) (over-node-at t) over-node.Post over-node-Inv-loop over-node-μ-loop
 over-node-add-i t c = omega arith
 
-over-node-loop-less : (t : ℕ) → over-node-lts.Need-loop-less (
-  node-sound-reads.Asked,
-  node-sound-reads.Learnt,
-  count-at-reads.Asked,
-  count-at-reads.Learnt,
-  stopped-reads.Asked,
-  stopped-reads.Learnt,
-  punt-at-reads.Asked,
-  punt-at-reads.Learnt,
-  over-node-below t,
-  over-node.Post,
-  over-leaf-reads.Asked,
-  over-leaf-reads.Learnt,
-) (over-node-at t) over-node.Post over-node-Inv-loop over-node-μ-loop
+over-node-loop-less : (t : ℕ) → over-node-lts.Need-loop-less (claims t) (over-node-at t) over-node.Post over-node-Inv-loop over-node-μ-loop
 over-node-loop-less t c = omega arith
 
-over-node-loop-again : (t : ℕ) → over-node-lts.Need-loop-again (
-  node-sound-reads.Asked,
-  node-sound-reads.Learnt,
-  count-at-reads.Asked,
-  count-at-reads.Learnt,
-  stopped-reads.Asked,
-  stopped-reads.Learnt,
-  punt-at-reads.Asked,
-  punt-at-reads.Learnt,
-  over-node-below t,
-  over-node.Post,
-  over-leaf-reads.Asked,
-  over-leaf-reads.Learnt,
-) (over-node-at t) over-node.Post over-node-Inv-loop over-node-μ-loop
+over-node-loop-again : (t : ℕ) → over-node-lts.Need-loop-again (claims t) (over-node-at t) over-node.Post over-node-Inv-loop over-node-μ-loop
 over-node-loop-again t c =
     let a = c .before .before .before .before .before .before .before .before .before .before .before .before .before .before .args in
     let l = c .before .before .before .before .before .loop in
@@ -337,40 +146,14 @@ over-node-loop-again t c =
     ))
     (c .if4 .came)
 
-over-node-returns-4 : (t : ℕ) → over-node-lts.Need-returns-4 (
-  node-sound-reads.Asked,
-  node-sound-reads.Learnt,
-  count-at-reads.Asked,
-  count-at-reads.Learnt,
-  stopped-reads.Asked,
-  stopped-reads.Learnt,
-  punt-at-reads.Asked,
-  punt-at-reads.Learnt,
-  over-node-below t,
-  over-node.Post,
-  over-leaf-reads.Asked,
-  over-leaf-reads.Learnt,
-) (over-node-at t) over-node.Post over-node-Inv-loop over-node-μ-loop
+over-node-returns-4 : (t : ℕ) → over-node-lts.Need-returns-4 (claims t) (over-node-at t) over-node.Post over-node-Inv-loop over-node-μ-loop
 over-node-returns-4 t c =
     over-done _ _ _ _ _ _ _ (c .before .before .before .before .before .before .before .if1 .left)
     (c .before .before .before .before .before .before .node-sound .ensures) _ _ _ (c .before .before .before .before .before .if2 .left)
     (c .before .before .count-at .ensures .0) (omega arith) (c .before .loop .inv .0) (c .before .loop .inv .2)
 
 pub +over-node-spec : {M : Type 1} → statement M
-+over-node-spec = close μ-over-node λ t. over-node-lts.spec (
-  node-sound-reads.Asked,
-  node-sound-reads.Learnt,
-  count-at-reads.Asked,
-  count-at-reads.Learnt,
-  stopped-reads.Asked,
-  stopped-reads.Learnt,
-  punt-at-reads.Asked,
-  punt-at-reads.Learnt,
-  over-node-below t,
-  over-node.Post,
-  over-leaf-reads.Asked,
-  over-leaf-reads.Learnt,
-)
++over-node-spec = close μ-over-node λ t. over-node-lts.spec (claims t)
     (over-node-at t)
     over-node.Post
     over-node-Inv-loop
