@@ -104,7 +104,7 @@ fn key_counts_are_1_to_twice_the_order() {
 
 #[test]
 fn a_number_is_the_records_position() {
-    for wrong in [0, 2, -1, 257, i32::MIN] {
+    for wrong in [0, 2, -1, 257, 65_537, i32::MIN] {
         let mut files = small();
         put32(&mut files.n01, POS, wrong);
         both_find(&files, b"KITE", Position);
