@@ -26,21 +26,13 @@ fn run() -> Result<(), Box<dyn Error>> {
     let lines = text.split(|&byte| byte == b'\n').enumerate();
     let entries = lines
         .filter(|(_, line)| !line.is_empty())
-        .map(|(n, line)| entry(line).ok_or(format!("line {} is not TERM BLOCK WORD", n + 1)))
+        .map(|(n, line)| {
+            Entry::of_line(line).ok_or(format!("line {} is not TERM BLOCK WORD", n + 1))
+        })
         .collect::<Result<Vec<Entry>, String>>()?;
     let files = plain(&entries, 5, 5);
     for (file, bytes) in ["CNT", "N01", "L01", "N02", "L02"].iter().zip(files.all()) {
         fs::write(format!("{name}.{file}"), bytes)?;
     }
     Ok(())
-}
-
-/// A term and two numbers, from the last space on backwards.
-fn entry(line: &[u8]) -> Option<Entry> {
-    let mut parts = line.rsplitn(3, |&byte| byte == b' ');
-    let mut number = || std::str::from_utf8(parts.next()?).ok()?.parse().ok();
-    let (word, block) = (number()?, number()?);
-    let term = parts.next()?.to_vec();
-    let entry = Entry { term, block, word };
-    entry.right().then_some(entry)
 }

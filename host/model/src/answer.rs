@@ -1,5 +1,5 @@
-//! The answer numbers of document 01. An accepted call is `Ok`; a refused one is
-//! the lowest of these that applies.
+//! The answer numbers of document 01 and of the requests. An accepted call is `Ok`; a
+//! refused one is the lowest of these that applies.
 
 /// Why a call is refused. The discriminant is the paper's number.
 #[derive(Clone, Copy, Debug, PartialEq, Eq, PartialOrd, Ord, Hash)]
@@ -36,6 +36,12 @@ pub enum Refusal {
     NotSound = 14,
     /// 17: a list that is lent for fields has too few elements.
     NoRoomInList = 17,
+    /// 20: the term is not 1 to 30 bytes without a trailing space.
+    Term = 20,
+    /// 21: a rule of the index is broken.
+    Index = 21,
+    /// 22: the index does not have the term.
+    NoTerm = 22,
 }
 
 impl Refusal {

@@ -11,7 +11,7 @@
 //!   buffer and is only fed the calls.
 //!
 //! Beside them stands the search index of request C-11 ([`index`]), which has files of its
-//! own: it is built from lists of terms.
+//! own: it is built from lists of terms, looked up and checked.
 //!
 //! [`call`] gives both the same list of calls to answer, and [`lists`] makes such
 //! lists at random from a seed.

@@ -4,13 +4,18 @@
 //!
 //! [`build`] makes indexes from lists of terms, plain ones and such that no indexing
 //! program would write; between the list and the bytes stands a [`tree`], which can be
-//! damaged by meaning.
+//! damaged by meaning. [`read`] reads any five files, from the request's words alone, and
+//! knows nothing of how they were built.
 
 pub mod build;
+pub mod fault;
+pub mod read;
+pub mod record;
 mod shape;
 pub mod tree;
 
 pub use build::{Entry, Files, plain, shuffled};
+pub use read::{check, lookup};
 
 /// Bytes of a key in each tree.
 pub const WIDTHS: [usize; 2] = [10, 30];

@@ -76,14 +76,14 @@ impl Shape {
     pub fn any(leaves: usize, most: usize, random: &mut Random) -> Shape {
         let needed = (1..=DEEPEST).find(|&levels| capacity(most, levels) >= leaves);
         let needed = needed.expect("too many leaves for this order");
-        let highest = (needed + random.pick(&[0, 1, 2, DEEPEST])).min(DEEPEST);
+        let levels = (needed + random.pick(&[0, 1, 2, DEEPEST])).min(DEEPEST);
         let mut growing = Growing {
             shape: Shape::default(),
             most,
             even: random.one_in(2),
         };
         if leaves > 0 {
-            growing.branch(0..leaves, random.between(needed, highest), random);
+            growing.branch(0..leaves, levels, random);
         }
         growing.shape
     }
