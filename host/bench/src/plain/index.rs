@@ -1,7 +1,8 @@
 //! The lookup of a term and the check of a whole index. Each tree's code is compiled for
 //! the width of its keys, so that a key is compared in a few wide steps, and the check
 //! goes over each record once: what a pointer says of its target is asked where the
-//! target is met.
+//! target is met. That the keys of a node ascend would then follow from the leaves; it is
+//! asked all the same, as the library does.
 
 use super::{i32_at, u16_at};
 use std::slice::ChunksExact;
@@ -183,12 +184,13 @@ impl<'a, const WIDTH: usize> Walk<'a, WIDTH> {
                 None => first.is_none_or(|first| first == key),
                 Some(last) => below(last, key),
             };
-            if !right || punt == 0 {
+            if !right {
                 return None;
             }
             last = Some(key);
             match punt {
                 1.. => self.over_node(left, punt, Some(key))?,
+                // 0 is no leaf that is there.
                 _ => self.over_leaf(punt.wrapping_neg(), key)?,
             }
         }
