@@ -1,5 +1,6 @@
 //! The lists that every core is given.
 
+use crate::indexes;
 use crate::recorder::{Recorder, of_family, of_replay_lists};
 use differential::damage::Damaged;
 use differential::families::{FromFormat, Hostile};
@@ -9,7 +10,7 @@ use differential::random_cards::RandomCards;
 pub type Named = (&'static str, fn() -> Recorder);
 
 /// All lists.
-pub const ALL: [Named; 5] = [
+pub const ALL: [Named; 8] = [
     ("replay-lists", of_replay_lists),
     ("lists-from-format", || {
         of_family(&mut FromFormat::new(), 20_000)
@@ -19,4 +20,7 @@ pub const ALL: [Named; 5] = [
     }),
     ("random-cards", || of_family(&mut RandomCards, 15_000)),
     ("hostile-arguments", || of_family(&mut Hostile, 2_000)),
+    ("built-indexes", || indexes::built(200)),
+    ("damaged-indexes", || indexes::damaged(600)),
+    ("hostile-indexes", || indexes::hostile(200)),
 ];

@@ -8,6 +8,7 @@ use board::list::List;
 use board::lists::ALL;
 use board::recorder::Recorder;
 use board::runner;
+use board::search::Search;
 use model::Call;
 use std::process::Command;
 
@@ -76,7 +77,8 @@ fn stack() {
             }
         }
     }
-    for (kind, name) in Call::NAMES.into_iter().enumerate() {
+    let names = Call::NAMES.into_iter().chain(Search::NAMES);
+    for (kind, name) in names.enumerate() {
         let numbers: Vec<String> = most.iter().map(|of| of[kind].to_string()).collect();
         line(name, &numbers);
     }

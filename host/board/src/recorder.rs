@@ -2,12 +2,19 @@
 //! stands in a list is so the model's alone; the library is asked only on the board.
 
 use crate::list::List;
+use crate::search::Search;
 use differential::archive::{Given, Subject};
 use differential::families::{Family, drive_subject, first_seed};
 use differential::guarded::Side;
 use differential::tally::Tally;
 use model::call::{Call, Outcome, on_bytes};
+use model::index::Files;
+use model::index::fault::Why;
 use model::replay;
+use std::collections::BTreeSet;
+
+/// A call on an index by its kind, and why it was refused if it was.
+pub type Searched = (usize, Result<(), Why>);
 
 /// The model, and the lists of what it was asked.
 #[derive(Debug, Default)]
@@ -16,6 +23,8 @@ pub struct Recorder {
     pub lists: Vec<List>,
     /// How often each answer of each call came.
     pub tally: Tally,
+    /// Which outcomes calls on an index had.
+    pub searched: BTreeSet<Searched>,
 }
 
 impl Recorder {
@@ -28,6 +37,13 @@ impl Recorder {
         self.list().push(&before, call, &wanted, &after);
         self.tally.add(call, outcome.number);
         (outcome, wanted)
+    }
+
+    /// A call on an index, written down with what the model's reader finds.
+    pub fn search(&mut self, index: &Files, search: &Search) {
+        let found = search.on(index);
+        self.list().push_search(index, search, found);
+        self.searched.insert((search.kind(), found.map(|_| ())));
     }
 
     /// A list that has room.
