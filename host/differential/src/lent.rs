@@ -78,6 +78,7 @@ fn bytes_of(numbers: &[u16]) -> Vec<u8> {
 pub trait Number: Copy {}
 impl Number for u16 {}
 impl Number for u32 {}
+impl Number for i32 {}
 impl Number for usize {}
 
 /// An area for outputs of one kind.

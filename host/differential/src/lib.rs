@@ -7,12 +7,15 @@
 //! ledger is held to the same answers. A list that shows a difference is shrunk
 //! ([`shrink`]) before it is shown. [`families`] makes trials at random; every seed
 //! is printed, and `ISIS_SEED=n` runs others.
+//!
+//! [`index`] does the same for the two calls on a search index, which is only read.
 
 pub mod archive;
 pub mod biblio;
 pub mod damage;
 pub mod families;
 pub mod guarded;
+pub mod index;
 mod lent;
 pub mod random_cards;
 pub mod shrink;

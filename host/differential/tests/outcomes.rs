@@ -8,14 +8,16 @@ mod script;
 mod subject {
     use differential::archive::{Archive, Given, Subject};
     use differential::guarded::Side;
+    use differential::index::{self, Reader};
     use model::ask::{Lists, State};
     use model::call::{Call, OwnedDraft};
+    use model::index::Files;
     use model::{Draft, Refusal};
     use std::ops::Range;
 
     pub type Answer<T> = Result<T, Refusal>;
 
-    const REFUSALS: [Refusal; 15] = [
+    const REFUSALS: [Refusal; 18] = [
         Refusal::Length,
         Refusal::Control,
         Refusal::Draft,
@@ -31,15 +33,21 @@ mod subject {
         Refusal::NoRoom,
         Refusal::NotSound,
         Refusal::NoRoomInList,
+        Refusal::Term,
+        Refusal::Index,
+        Refusal::NoTerm,
     ];
 
-    fn answered(given: Given) -> Answer<Given> {
-        if given.number == 0 {
+    fn numbered<T>(number: u32, given: T) -> Answer<T> {
+        if number == 0 {
             return Ok(given);
         }
-        let is_it = |why: &Refusal| why.number() == given.number;
-        let refusal = REFUSALS.into_iter().find(is_it);
+        let refusal = REFUSALS.into_iter().find(|why| why.number() == number);
         Err(refusal.expect("an answer that some call has"))
+    }
+
+    fn answered(given: Given) -> Answer<Given> {
+        numbered(given.number, given)
     }
 
     fn run(mst: &mut [u8], xrf: &mut [u8], call: Call) -> Answer<Given> {
@@ -154,6 +162,27 @@ mod subject {
 
     pub fn check(mst: &[u8], xrf: &[u8]) -> Answer<()> {
         read(mst, xrf, Call::Check).map(drop)
+    }
+
+    /// The archive with an index lent to it.
+    fn over(files: &Files) -> index::Archive {
+        let mut archive = index::Archive::new();
+        archive.lend(files, [Side::Back; 5]);
+        archive
+    }
+
+    pub fn lookup(files: &Files, term: &[u8]) -> Answer<(i32, i32)> {
+        let given = over(files).lookup(term, Side::Back);
+        let place = (given.block, given.word);
+        assert!(
+            given.number == 0 || place == (0, 0),
+            "a refusal with a place"
+        );
+        numbered(given.number, place)
+    }
+
+    pub fn check_index(files: &Files) -> Answer<()> {
+        numbered(over(files).check(), ())
     }
 }
 

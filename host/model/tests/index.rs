@@ -1,22 +1,31 @@
-//! Lookups, on indexes laid out by hand: each rule of 20, 21 and 22, and the edges of each.
+//! Lookups, on indexes laid out by hand: the layout, terms, the way down and the key that is
+//! found.
 
 #[path = "common/index.rs"]
 mod index;
 
 use index::*;
 use model::index::Files;
-use model::index::fault::Broken::*;
+use model::index::fault::Broken::{Idtype, NodeKeys};
 use model::index::fault::Why::{self, *};
+
+/// Bytes from their hexadecimal digits.
+fn hex(text: &str) -> Vec<u8> {
+    let digits: Vec<u32> = text.chars().filter_map(|c| c.to_digit(16)).collect();
+    let pairs = digits.chunks(2);
+    pairs.map(|two| (two[0] * 16 + two[1]) as u8).collect()
+}
+
+/// An active entry with its key and numbers, and one that is all 0.
+fn two_entries(key: &str, width: usize, numbers: &str) -> String {
+    let spaces = "20".repeat(width - key.len() / 2);
+    let inactive = "00".repeat(width + numbers.len() / 2);
+    format!("{key}{spaces}{numbers}{inactive}")
+}
 
 /// The layout, every byte of it: orders 1 and 1, one term in each tree.
 #[test]
 fn the_bytes_of_the_smallest_index() {
-    let hex = |text: &str| -> Vec<u8> {
-        let digits: Vec<u32> = text.chars().filter_map(|c| c.to_digit(16)).collect();
-        let pairs = digits.chunks(2);
-        pairs.map(|two| (two[0] * 16 + two[1]) as u8).collect()
-    };
-    let spaces = |n: usize| "20".repeat(n);
     let (kite, kites) = ("4B495445", "486967684C616E64204B69746573");
     let files = Files {
         // IDTYPE, ORDN, ORDF, N, K, LIV, POSRX, NMAXPOS, FMAXPOS, ABNORMAL.
@@ -24,27 +33,23 @@ fn the_bytes_of_the_smallest_index() {
             "0100 0100 0100 0F00 0500 0100 01000000 02000000 02000000 0000",
             "0200 0100 0100 0F00 0500 0100 01000000 02000000 02000000 0000"
         )),
-        // POS, OCK, IT; KEY, PUNT; an inactive entry.
+        // POS, OCK, IT; KEY, PUNT.
         n01: hex(&format!(
-            "01000000 0100 0100 {kite}{} FFFFFFFF {}",
-            spaces(6),
-            "00".repeat(14)
-        )),
-        // POS, OCK, IT, PS; KEY, INFO[1], INFO[2]; an inactive entry.
-        l01: hex(&format!(
-            "01000000 0100 0100 00000000 {kite}{} 02010000 FEFFFFFF {}",
-            spaces(6),
-            "00".repeat(18)
+            "01000000 0100 0100 {}",
+            two_entries(kite, 10, "FFFFFFFF")
         )),
         n02: hex(&format!(
-            "01000000 0100 0200 {kites}{} FFFFFFFF {}",
-            spaces(16),
-            "00".repeat(34)
+            "01000000 0100 0200 {}",
+            two_entries(kites, 30, "FFFFFFFF")
+        )),
+        // POS, OCK, IT, PS; KEY, INFO[1], INFO[2].
+        l01: hex(&format!(
+            "01000000 0100 0100 00000000 {}",
+            two_entries(kite, 10, "02010000FEFFFFFF")
         )),
         l02: hex(&format!(
-            "01000000 0100 0200 00000000 {kites}{} 07000000 08000000 {}",
-            spaces(16),
-            "00".repeat(38)
+            "01000000 0100 0200 00000000 {}",
+            two_entries(kites, 30, "0700000008000000")
         )),
     };
     let lengths = files.all().map(<[u8]>::len);
@@ -144,184 +149,6 @@ fn ten_bytes_are_looked_up_in_the_first_tree_and_eleven_in_the_second() {
     assert_eq!(look(&files, b"ABCDEFGHIJ"), Err(Below));
     assert_eq!(look(&files, b"KITE"), Ok((5, 6)));
     assert_eq!(look(&files, b"ABCDEFGHIJK"), Err(Broken(Idtype)));
-}
-
-#[test]
-fn cnt_has_52_bytes() {
-    for len in [0, 26, 51, 53, 104] {
-        let mut files = small();
-        files.cnt.resize(len, 0);
-        both_find(&files, b"KITE", CntLength);
-    }
-}
-
-#[test]
-fn the_tree_type_is_its_own() {
-    for wrong in [0, 2, 257, 65_535] {
-        let mut files = small();
-        put16(&mut files.cnt, IDTYPE, wrong);
-        both_find(&files, b"KITE", Idtype);
-        let mut files = small();
-        put16(&mut files.n01, IT, wrong);
-        both_find(&files, b"KITE", Type);
-        let mut files = small();
-        put16(&mut files.l01, 48 + IT, wrong);
-        both_find(&files, b"KITE", Type);
-    }
-    let mut files = small();
-    put16(&mut files.cnt, 26 + IDTYPE, 1);
-    both_find(&files, b"HIGHLAND KITES", Idtype);
-}
-
-/// The same tree at every order, its files laid out for it.
-#[test]
-fn orders_are_1_to_16() {
-    for order in 0..=18 {
-        let size = usize::from(order);
-        let nodes = [node(1, size, 1, &[(b"KITE", -1)])];
-        let leaves = [leaf(1, size, 1, 0, &[(b"KITE", 5, 6)])];
-        let files = with_first((order, order), 1, &nodes, &leaves);
-        if (1..=16).contains(&order) {
-            assert_eq!(look(&files, b"KITE"), Ok((5, 6)));
-            assert_eq!(checked(&files), Ok(()));
-        } else {
-            both_find(&files, b"KITE", Order);
-        }
-    }
-    for (place, wrong) in [(ORDN, 0), (ORDN, 17), (ORDF, 0), (ORDF, 17), (ORDF, 0xFFFF)] {
-        let mut files = small();
-        put16(&mut files.cnt, place, wrong);
-        both_find(&files, b"KITE", Order);
-    }
-}
-
-#[test]
-fn key_counts_are_1_to_twice_the_order() {
-    let keys: Vec<Vec<u8>> = (0..8).map(|n| vec![b'A' + n]).collect();
-    let tree = |nodes: u16, leaves: u16| {
-        let pointers: Vec<(&[u8], i32)> = (1..=3)
-            .map(|n| (&keys[2 * n - 2][..], -(n as i32)))
-            .collect();
-        let mut node = node(1, 2, 1, &pointers);
-        put16(&mut node, OCK, nodes);
-        let of = |n: i32, ps: i32| {
-            let at = 2 * n as usize - 2;
-            leaf(1, 1, n, ps, &[(&keys[at], n, 1), (&keys[at + 1], n, 2)])
-        };
-        let mut all = [of(1, 2), of(2, 3), of(3, 0)];
-        put16(&mut all[1], OCK, leaves);
-        with_first((2, 1), 1, &[node], &all)
-    };
-    assert_eq!(checked(&tree(3, 2)), Ok(()));
-    assert_eq!(look(&tree(3, 2), b"D"), Ok((2, 2)));
-    assert_eq!(
-        look(&tree(3, 1), b"D"),
-        Err(Absent),
-        "the second key is inactive"
-    );
-    assert_eq!(checked(&tree(3, 1)), Ok(()));
-    assert_eq!(
-        look(&tree(1, 2), b"D"),
-        Err(Absent),
-        "the second pointer is inactive"
-    );
-    for count in [0, 5, 0x0102, 0xFFFF] {
-        both_find(&tree(count, 2), b"D", KeyCount);
-        assert_eq!(look(&tree(count, 2), b"0"), Err(Broken(KeyCount)));
-    }
-    for count in [0, 3, 0x0101] {
-        both_find(&tree(3, count), b"D", KeyCount);
-        assert_eq!(look(&tree(3, count), b"A"), Ok((1, 1)), "leaf 2 is not met");
-    }
-    assert_eq!(look(&tree(4, 2), b"D"), Err(Broken(ZeroPointer)));
-}
-
-#[test]
-fn a_number_is_the_records_position() {
-    for wrong in [0, 2, -1, 257, i32::MIN] {
-        let mut files = small();
-        put32(&mut files.n01, POS, wrong);
-        both_find(&files, b"KITE", Position);
-        let mut files = small();
-        put32(&mut files.l01, POS, wrong);
-        both_find(&files, b"BETA", Position);
-        assert_eq!(look(&files, b"KITE"), Ok((5, 6)), "leaf 1 is not met");
-    }
-}
-
-/// A pointer of a node met counts even where it is not taken; an inactive one does not.
-#[test]
-fn pointer_0_among_the_active_entries() {
-    for at in [8 + 10, 8 + 24] {
-        let mut files = small();
-        put32(&mut files.n01, at, 0);
-        for term in [&b"ALPHA"[..], b"BETA", b"KITE", b"A"] {
-            both_find(&files, term, ZeroPointer);
-        }
-    }
-    let mut files = small();
-    assert_eq!(files.n02[8 + 34 + 30..], [0; 4]);
-    put32(&mut files.n02, 8 + 34 + 30, 77);
-    assert_eq!(checked(&files), Ok(()));
-}
-
-#[test]
-fn records_that_are_not_there() {
-    for root in [0, -1, 2, i32::MAX, i32::MIN] {
-        let mut files = small();
-        put32(&mut files.cnt, POSRX, root);
-        both_find(&files, b"KITE", NotThere);
-    }
-    for punt in [2, -3, i32::MAX, i32::MIN, i32::MIN + 1, 1 << 24, -(1 << 24)] {
-        let mut files = small();
-        put32(&mut files.n01, 8 + 24, punt);
-        both_find(&files, b"KITE", NotThere);
-        assert_eq!(look(&files, b"BETA"), Ok((3, 4)), "it is not met");
-    }
-}
-
-#[test]
-fn a_record_is_there_if_all_its_bytes_are() {
-    for behind in 0..36 {
-        let mut files = small();
-        files.n01.extend(vec![0xEE; behind]);
-        files.l01.extend(vec![0xEE; behind]);
-        assert_eq!(look(&files, b"KITE"), Ok((5, 6)));
-        assert_eq!(checked(&files), Ok(()));
-    }
-    for cut in [1, 2, 28, 36] {
-        let mut files = small();
-        files.n01.truncate(36 - cut);
-        both_find(&files, b"KITE", NotThere);
-    }
-    for cut in [1, 18, 47, 48] {
-        let mut files = small();
-        files.l01.truncate(96 - cut);
-        both_find(&files, b"KITE", NotThere);
-        assert_eq!(look(&files, b"ALPHA"), Ok((1, 2)));
-    }
-}
-
-#[test]
-fn sixteen_nodes_on_one_way_down_and_no_more() {
-    for nodes in [1, 2, 15, 16] {
-        assert_eq!(look(&chain(nodes), b"KITE"), Ok((5, 6)));
-        assert_eq!(checked(&chain(nodes)), Ok(()));
-    }
-    for nodes in [17, 18, 40] {
-        both_find(&chain(nodes), b"KITE", TooDeep);
-    }
-    let mut files = chain(17);
-    files.n01.truncate(16 * 36);
-    both_find(&files, b"KITE", TooDeep);
-    assert_eq!(
-        look(&files, b"KIT"),
-        Err(Below),
-        "the second node is not met"
-    );
-    let mut circle = chain(2);
-    put32(&mut circle.n01, 36 + 8 + 10, 1);
-    both_find(&circle, b"KITE", TooDeep);
 }
 
 /// "Last" and "first" go by position: an unchecked node may be unsorted, and a leaf may

@@ -142,7 +142,7 @@ fn no_leaf_is_met_twice() {
 
 #[test]
 fn leaves_are_met_in_successor_order() {
-    for wrong in [0, 1, 3, -2, 0x0102] {
+    for wrong in [0, 1, 3, -2, 0x0102, 65_538] {
         let files = changed(|_, leaves| put32(&mut leaves[0], PS, wrong));
         assert_eq!(checked(&files), Err(Successor));
     }

@@ -7,6 +7,7 @@ mod script;
 /// What the lines are made on: the model.
 mod subject {
     pub use model::ask::{fields, fields_settled, next, state};
+    pub use model::index::{check as check_index, lookup};
     pub use model::store::{
         Answer, Indexed, check, create, delete, field, field_settled, format, revert, settle,
         update, view, view_settled,
@@ -20,7 +21,7 @@ const EXPECTED: &str = include_str!("../examples/outcomes/expected.txt");
 
 /// The calls and the answers that the paper's table gives to each; a field by its
 /// index is answered as a view, and the calls that tell something as the header says.
-const ANSWERS: [(&str, &[u32]); 15] = [
+const ANSWERS: [(&str, &[u32]); 17] = [
     ("format", &[0, 1]),
     ("view", &[0, 1, 2, 4, 6, 7, 8, 9, 12]),
     ("settled view", &[0, 1, 2, 4, 6, 7, 8, 9, 11, 12]),
@@ -36,6 +37,8 @@ const ANSWERS: [(&str, &[u32]); 15] = [
     ("state", &[0, 1, 2, 4, 6, 7, 8]),
     ("fields", &[0, 1, 2, 4, 6, 7, 8, 9, 17]),
     ("settled fields", &[0, 1, 2, 4, 6, 7, 8, 9, 11, 17]),
+    ("lookup", &[0, 20, 21, 22]),
+    ("index check", &[0, 21]),
 ];
 
 /// The answer of a line that tells of a call.

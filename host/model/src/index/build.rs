@@ -3,7 +3,7 @@
 
 pub use super::tree::Files;
 
-use super::shape::{Branch, Child, Shape};
+use super::shape::{Child, Shape};
 use super::tree::{Leaf, Node, Pointer, Posting, Tree, leaf_len, node_len};
 use super::{DEEPEST, LAST_ORDER, LONGEST, WIDTHS};
 use crate::random::Random;
@@ -47,6 +47,7 @@ impl Entry {
 /// The index of these terms: records full, in key order in the files, leaves and then
 /// nodes, lowest level first, so that the root is the last node. Of equal terms the first
 /// counts. A tree without terms has empty files and no root, so it does not pass the check.
+/// Panics at a term that is not one, and at more than 16 levels.
 pub fn plain(entries: &[Entry], ordn: u16, ordf: u16) -> Files {
     Files::of(&plain_trees(entries, ordn, ordf), &mut |_| ())
 }
@@ -107,8 +108,6 @@ fn plain_tree(which: usize, terms: Vec<&Entry>, orders: Orders) -> Tree {
     }
     .tree();
     Tree {
-        n: 15,
-        k: 5,
         liv: levels as u16,
         nmaxpos: tree.nodes.len() as i32 + 1,
         fmaxpos: tree.leaves.len() as i32 + 1,
@@ -195,31 +194,22 @@ impl Placed<'_> {
         let nodes = (0..self.shape.branches.len()).map(|at| self.node(at));
         let leaves = (0..self.leaves.len()).map(|at| self.leaf(at));
         Tree {
-            idtype: self.which as u16 + 1,
-            ordn,
-            ordf,
-            n: 0,
-            k: 0,
-            liv: 0,
             posrx: root.map_or(0, |root| self.numbers[0][root]),
-            nmaxpos: 0,
-            fmaxpos: 0,
-            abnormal: 0,
             nodes: by_number(nodes.map(|node| (node.pos, node))),
             leaves: by_number(leaves.map(|leaf| (leaf.pos, leaf))),
-            behind: [0; 2],
+            ..Tree::empty(self.own(), ordn, ordf)
         }
     }
 
+    /// IDTYPE and IT.
+    fn own(&self) -> u16 {
+        self.which as u16 + 1
+    }
+
     fn node(&self, at: usize) -> Node {
-        let Branch { children, .. } = &self.shape.branches[at];
-        let entries: Vec<Pointer> = children.iter().map(|&child| self.pointer(child)).collect();
-        Node {
-            pos: self.numbers[0][at],
-            ock: entries.len() as u16,
-            it: self.which as u16 + 1,
-            entries,
-        }
+        let children = self.shape.branches[at].children.iter();
+        let entries = children.map(|&child| self.pointer(child)).collect();
+        Node::of(self.numbers[0][at], self.own(), entries)
     }
 
     fn pointer(&self, child: Child) -> Pointer {
@@ -237,14 +227,8 @@ impl Placed<'_> {
             block: entry.block,
             word: entry.word,
         });
-        let entries: Vec<Posting> = postings.collect();
-        Leaf {
-            pos: self.numbers[1][at],
-            ock: entries.len() as u16,
-            it: self.which as u16 + 1,
-            ps: self.numbers[1].get(at + 1).copied().unwrap_or(0),
-            entries,
-        }
+        let next = self.numbers[1].get(at + 1).copied().unwrap_or(0);
+        Leaf::of(self.numbers[1][at], self.own(), next, postings.collect())
     }
 }
 

@@ -9,7 +9,7 @@ use super::fault::{Broken, Why};
 use super::record::{Leaf, Node, Pointer, Tree};
 use super::{DEEPEST, Files, LONGEST, WIDTHS};
 use crate::answer::Refusal;
-use std::collections::BTreeSet;
+use std::collections::{BTreeMap, BTreeSet};
 
 /// Looks a term up: the block and word of the first equal key.
 pub fn lookup(files: &Files, term: &[u8]) -> Result<(i32, i32), Refusal> {
@@ -19,6 +19,20 @@ pub fn lookup(files: &Files, term: &[u8]) -> Result<(i32, i32), Refusal> {
 /// Checks both trees of an index.
 pub fn check(files: &Files) -> Result<(), Refusal> {
     check_by(&Request, files).map_err(|rule| Why::Broken(rule).into())
+}
+
+/// What a tree holds: keys, padded, and where their postings begin.
+pub type Held = BTreeMap<Vec<u8>, (i32, i32)>;
+
+/// All that the leaves hold which are met from the root of each tree.
+pub fn held(files: &Files) -> Result<[Held; 2], Broken> {
+    let of = |which| {
+        let met = walked(&Request, &Tree::of(files, which)?)?;
+        let leaves = met.leaves.into_iter();
+        let entries = leaves.flat_map(|leaf| leaf.keys.into_iter().zip(leaf.places));
+        Ok(entries.map(|(key, place)| (key.to_vec(), place)).collect())
+    };
+    Ok([of(0)?, of(1)?])
 }
 
 /// The rules as the request has them.

@@ -5,9 +5,9 @@
 //!
 //! | record | fields |
 //! |---|---|
-//! | CNT, one for each tree | IDTYPE 2, ORDN 2, ORDF 2, N 2, K 2, LIV 2, POSRX 4, NMAXPOS 4, FMAXPOS 4, ABNORMAL 2 |
+//! | CNT, for each tree | IDTYPE, ORDN, ORDF, N, K, LIV 2 each, POSRX, NMAXPOS, FMAXPOS 4 each, ABNORMAL 2 |
 //! | node | POS 4, OCK 2, IT 2, then 2 × ORDN times KEY 10 or 30, PUNT 4 |
-//! | leaf | POS 4, OCK 2, IT 2, PS 4, then 2 × ORDF times KEY 10 or 30, INFO\[1\] 4, INFO\[2\] 4 |
+//! | leaf | POS 4, OCK 2, IT 2, PS 4, then 2 × ORDF times KEY 10 or 30, INFO 4 and 4 |
 
 use super::WIDTHS;
 
@@ -130,6 +130,25 @@ impl Files {
 }
 
 impl Tree {
+    /// A tree of these orders with nothing in it: 1 is the first, 2 the second.
+    pub fn empty(idtype: u16, ordn: u16, ordf: u16) -> Tree {
+        Tree {
+            idtype,
+            ordn,
+            ordf,
+            n: 15,
+            k: 5,
+            liv: 0,
+            posrx: 0,
+            nmaxpos: 1,
+            fmaxpos: 1,
+            abnormal: 0,
+            nodes: Vec::new(),
+            leaves: Vec::new(),
+            behind: [0; 2],
+        }
+    }
+
     fn part(&self) -> Vec<u8> {
         let shorts = [self.idtype, self.ordn, self.ordf, self.n, self.k, self.liv];
         let longs = [self.posrx, self.nmaxpos, self.fmaxpos];
@@ -169,6 +188,17 @@ fn unsaid(len: usize, fill: Filler) -> Vec<u8> {
 }
 
 impl Node {
+    /// A node of these entries.
+    pub fn of(pos: i32, it: u16, entries: Vec<Pointer>) -> Node {
+        let ock = entries.len() as u16;
+        Node {
+            pos,
+            ock,
+            it,
+            entries,
+        }
+    }
+
     fn write(&self, record: &mut [u8], width: usize) {
         let entries = head(record, self.pos, self.ock, self.it);
         for (entry, pointer) in entries.chunks_exact_mut(width + 4).zip(&self.entries) {
@@ -180,6 +210,18 @@ impl Node {
 }
 
 impl Leaf {
+    /// A leaf of these entries.
+    pub fn of(pos: i32, it: u16, ps: i32, entries: Vec<Posting>) -> Leaf {
+        let ock = entries.len() as u16;
+        Leaf {
+            pos,
+            ock,
+            it,
+            ps,
+            entries,
+        }
+    }
+
     fn write(&self, record: &mut [u8], width: usize) {
         let (ps, entries) = head(record, self.pos, self.ock, self.it).split_at_mut(4);
         ps.copy_from_slice(&self.ps.to_le_bytes());

@@ -4,6 +4,7 @@
 //! `differential`, which must print the same lines.
 
 pub mod card;
+mod index;
 mod limits;
 mod marks;
 mod order;
@@ -28,5 +29,5 @@ pub fn lines() -> String {
     refusals::lengths(&mut card);
     let mut large = Card::new(3584);
     limits::capacity(&mut large);
-    card.lines + &large.lines
+    card.lines + &large.lines + &index::lines()
 }
