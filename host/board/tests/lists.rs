@@ -65,8 +65,18 @@ fn damaged_indexes() {
 }
 
 #[test]
-fn hostile_indexes() {
+fn poked_indexes() {
     holds(7);
+}
+
+#[test]
+fn records_by_chance() {
+    holds(8);
+}
+
+#[test]
+fn rubbish_indexes() {
+    holds(9);
 }
 
 /// A list that never meets an answer says nothing about it, nor one that never meets the
