@@ -1,15 +1,14 @@
 //! What is timed does the model's work.
 
 use super::called;
+use differential::index::cases;
+use differential::index::compare::{Case, Family};
 use model::Refusal;
 use model::ask::{Lists, Room};
 use model::call::{Call, Outcome, Shown, on_bytes};
-use model::index::build::shuffled_trees;
-use model::index::tree::Tree;
-use model::index::{Entry, Files, check, lookup};
+use model::index::{check, lookup};
 use model::lists::{self, Taste};
 use model::random::Random;
-use std::collections::BTreeSet;
 
 /// The outcome of a call in plain safe Rust.
 fn run(mst: &mut [u8], xrf: &mut [u8], call: &Call) -> (Outcome, Shown) {
@@ -121,106 +120,34 @@ fn the_plain_program_does_the_same_as_the_model() {
     }
 }
 
-/// A term of a few letters, so that many are alike; now and then it is bad.
-fn term(random: &mut Random) -> Vec<u8> {
-    let len = random.pick(&[1, 2, 4, 8, 9, 10, 11, 12, 20, 29, 30, 31]);
-    let same = random.below(len + 1);
-    let letter = |at| {
-        if at < same {
-            b'M'
-        } else {
-            random.pick(b"LMN\xFF ")
-        }
-    };
-    (0..len).map(letter).collect()
-}
-
-/// Changes a tree before its files are made: more nodes on each way, an order that is too
-/// high, or a key twice in a leaf.
-fn change(tree: &mut Tree, random: &mut Random) {
-    match random.below(3) {
-        0 => (0..random.between(1, 16)).for_each(|_| put_above(tree)),
-        1 => tree.ordn = random.pick(&[16, 17]),
-        _ => {
-            for leaf in tree.leaves.iter_mut().flatten() {
-                let key = leaf.entries[0].key.clone();
-                leaf.entries.last_mut().expect("a key").key = key;
-            }
-        }
-    }
-}
-
-/// Puts a node with one pointer above the root.
-fn put_above(tree: &mut Tree) {
-    let root = usize::try_from(tree.posrx - 1).ok();
-    let Some(Some(mut above)) = root.map(|root| tree.nodes[root].clone()) else {
-        return;
-    };
-    (above.pos, above.ock) = (tree.nodes.len() as i32 + 1, 1);
-    above.entries.truncate(1);
-    above.entries[0].punt = tree.posrx;
-    tree.posrx = above.pos;
-    tree.nodes.push(Some(above));
-}
-
-/// Changes a number to one that may be believed, or a bit, or a file's length.
-fn damage(files: &mut Files, random: &mut Random) {
-    let file = random.below(5);
-    let bytes = &mut *files.all_mut()[file];
-    let at = random.below(bytes.len().max(1)) & !1;
-    let number = random.pick(&[0, 1, -1, 2, -2, 3, 32, 33, i32::MIN, i32::MAX]);
-    match (random.below(8), bytes.get_mut(at..)) {
-        (0, _) => bytes.truncate(at),
-        (1, _) => bytes.push(0),
-        (2..5, Some([a, b, c, d, ..])) => [*a, *b, *c, *d] = number.to_le_bytes(),
-        (5..7, Some([a, b, ..])) => [*a, *b] = (number as i16).to_le_bytes(),
-        (_, Some([a, ..])) => *a ^= 1 << random.below(8),
-        _ => {}
-    }
-}
-
 /// The number of a lookup or a check by the model, with what it gives.
 fn numbered<T: Default>(answer: Result<T, Refusal>) -> (u32, T) {
     answer.map_or_else(|why| (why.number(), T::default()), |given| (0, given))
 }
 
-/// On indexes of any shape, most of them damaged; each answer comes.
+/// On indexes as they are built, damaged and made by chance.
 #[test]
 fn the_plain_lookup_and_index_check_do_the_same_as_the_model() {
-    let (mut lookups, mut checks) = (BTreeSet::new(), BTreeSet::new());
-    for seed in 0..20_000 {
-        let mut random = Random::new(seed);
-        let mut order = || random.between(1, 3) as u16;
-        let orders = [(order(), order()), (order(), order())];
-        let entries = (0..random.between(2, 30) as i32).map(|word| Entry {
-            term: term(&mut random),
-            block: 7,
-            word,
-        });
-        let entries: Vec<Entry> = entries.filter(Entry::right).collect();
-        let mut trees = shuffled_trees(&entries, orders, &mut random);
-        if seed % 4 == 1 {
-            trees.iter_mut().for_each(|tree| change(tree, &mut random));
-        }
-        let mut files = Files::of(&trees, &mut |bytes| random.fill(bytes));
-        if seed % 4 > 1 {
-            damage(&mut files, &mut random);
-        }
+    let families: [Family; 5] = [
+        cases::built,
+        cases::damaged,
+        cases::poked,
+        cases::chance,
+        cases::rubbish,
+    ];
+    for seed in 0..10_000 {
+        let family = families[seed as usize % families.len()];
+        let Case {
+            what, files, terms, ..
+        } = family(&mut Random::new(seed));
         let [cnt, n01, l01, n02, l02] = files.all();
-        for entry in &entries {
-            let near = term(&mut random);
-            for term in [&entry.term, &near] {
-                let (number, (block, word)) = numbered(lookup(&files, term));
-                let found = called::lookup(cnt, n01, l01, n02, l02, term);
-                assert_eq!(found, (number, block, word), "{seed}: {term:?}");
-                lookups.insert(number);
-            }
+        for term in &terms {
+            let (number, (block, word)) = numbered(lookup(&files, term));
+            let found = called::lookup(cnt, n01, l01, n02, l02, term);
+            assert_eq!(found, (number, block, word), "{seed}, {what}: {term:?}");
         }
         let (number, ()) = numbered(check(&files));
         let found = called::check_index(cnt, n01, l01, n02, l02);
-        assert_eq!(found, number, "{seed}");
-        checks.insert(number);
+        assert_eq!(found, number, "{seed}, {what}");
     }
-    assert_eq!(lookups, BTreeSet::from([0, 20, 21, 22]));
-    assert_eq!(checks, BTreeSet::from([0, 21]));
 }
