@@ -2,14 +2,25 @@
 //! cards of small records, most of them versions that were settled long ago.
 
 use crate::cards::{Buffers, draft};
-use crate::rows::Task;
+use crate::plain;
+use crate::rows::{Reading, Task};
+use isis::CardRef;
 use model::store;
+use std::cell::LazyCell;
+use std::hint::black_box;
+use std::time::Duration;
 
 /// From 1 MB to `most` MB. Gives a sentence on what a megabyte takes, where it was timed.
 pub fn run(task: &Task, most: usize) -> String {
-    let filled = doubling(task, most, "", filled);
-    let grown = doubling(task, most, " of small records", grown);
-    match (filled, grown) {
+    let kind = |kind: &str, make: fn(usize) -> Buffers| {
+        doubling(most, |megabytes| {
+            let name = format!("check, {megabytes} MB{kind}");
+            let rounds = if megabytes <= 64 { 11 } else { 5 };
+            let card = LazyCell::new(|| make(megabytes));
+            check(task, &name, rounds, &|| &card)
+        })
+    };
+    match (kind("", filled), kind(" of small records", grown)) {
         (Some(filled), Some(grown)) => format!(
             "A megabyte takes `check` {filled} on records of a kilobyte, and {grown} on small ones."
         ),
@@ -17,14 +28,39 @@ pub fn run(task: &Task, most: usize) -> String {
     }
 }
 
-/// One kind of card at each size; gives the least and the most that a megabyte took.
-fn doubling(task: &Task, most: usize, kind: &str, make: fn(usize) -> Buffers) -> Option<String> {
+/// The check of a card that is sound.
+fn check<'a>(
+    task: &Task,
+    name: &str,
+    rounds: usize,
+    card: &dyn Fn() -> &'a Buffers,
+) -> Option<Duration> {
+    let row = Reading {
+        name,
+        call: "check",
+        calls: 1,
+        rounds,
+    };
+    let library = || {
+        let Buffers { mst, xrf } = black_box(card());
+        assert_eq!(CardRef::over(mst, xrf).check(), Ok(()));
+    };
+    let called = || {
+        let Buffers { mst, xrf } = black_box(card());
+        assert_eq!(plain::called::check(mst, xrf), 0);
+    };
+    let inlined = || {
+        let Buffers { mst, xrf } = black_box(card());
+        assert_eq!(plain::inlined::check(mst, xrf), 0);
+    };
+    task.read(&row, [&library, &called, &inlined])
+}
+
+/// A check at each size; gives the least and the most that a megabyte took.
+pub fn doubling(most: usize, check: impl Fn(usize) -> Option<Duration>) -> Option<String> {
     let mut each = Vec::new();
     for megabytes in (0..).map(|power| 1 << power).take_while(|mb| *mb <= most) {
-        let rounds = if megabytes <= 64 { 11 } else { 5 };
-        let name = format!("check, {megabytes} MB{kind}");
-        let time = task.check(&name, rounds, &mut make(megabytes))?;
-        each.push(time.as_secs_f64() * 1e6 / megabytes as f64);
+        each.push(check(megabytes)?.as_secs_f64() * 1e6 / megabytes as f64);
     }
     let (least, most) = (
         each.iter().copied().reduce(f64::min)?,

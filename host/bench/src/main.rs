@@ -1,7 +1,8 @@
 //! One command that measures the library: every call, the record test and the field
 //! search against the same work in plain safe Rust, called and inlined, on the same inputs
-//! in the same run; the whole check at doubling sizes; copies against memcpy; reading all
-//! records against Biblio::Isis; the stack that each call uses and the archive's code size.
+//! in the same run; the whole check and the index check at doubling sizes; copies against
+//! memcpy; reading all records against Biblio::Isis; the stack that each call uses and the
+//! archive's code size.
 //! What it prints is the second part of docs/BENCHMARKS.md. Times are printed and never
 //! asserted.
 //!
@@ -15,6 +16,8 @@ mod cards;
 mod checks;
 mod clock;
 mod count;
+mod indexes;
+mod lookups;
 mod machine;
 mod plain;
 mod rows;
@@ -55,8 +58,9 @@ fn times(most: usize) {
     clock::head("a call", &columns);
     calls::run(&Task::Time);
     let checks = checks::run(&Task::Time, most);
+    let index_checks = lookups::run(&Task::Time, most.min(64));
     calls::copies();
-    println!("\n{checks}\n");
+    println!("\n{checks} {index_checks}\n");
     biblio::run();
     stack::run();
     println!();
@@ -69,6 +73,7 @@ fn instructions(task: &Task) {
     clock::head("a call", &["library", "safe Rust", "ratio"]);
     calls::run(task);
     checks::run(task, 1);
+    lookups::run(task, 1);
 }
 
 /// One row for one side, for callgrind to count.
@@ -76,4 +81,5 @@ fn only(row: &str, side: Side) {
     let task = Task::Only(row.to_string(), side);
     calls::run(&task);
     checks::run(&task, 1);
+    lookups::run(&task, 1);
 }

@@ -4,7 +4,7 @@
 
 use crate::cards::Buffers;
 use crate::clock::{against, cells, fastest, row, time};
-use crate::{count, plain};
+use crate::count;
 use isis::Card;
 use std::hint::black_box;
 use std::time::Duration;
@@ -43,6 +43,18 @@ pub struct Row<'a> {
     pub calls: usize,
     /// The answer.
     pub wanted: u32,
+}
+
+/// Calls that only read.
+pub struct Reading<'a> {
+    /// What the row is called.
+    pub name: &'a str,
+    /// The call that it makes.
+    pub call: &'a str,
+    /// How many calls each way makes.
+    pub calls: usize,
+    /// How many rounds at least.
+    pub rounds: usize,
 }
 
 /// The same closure twice: once its `plain` are the calls that are not inlined, once those
@@ -133,33 +145,28 @@ impl Task {
         }
     }
 
-    /// Does what the task is with the check of a whole card that is sound, and gives the
-    /// library's time if it was timed. All sides then read the same bytes, copied for none.
-    pub fn check(&self, name: &str, rounds: usize, card: &mut Buffers) -> Option<Duration> {
-        let Task::Time = self else {
-            let row = Row {
-                name,
-                call: "check",
-                base: card,
-                calls: 1,
-                wanted: 0,
-            };
-            let ways = both_ways!(|mst, xrf, _| plain::check(mst, xrf));
-            self.measure(&row, |card, _| number(card.check()), ways);
-            return None;
-        };
-        let card = Card::over(&mut card.mst, &mut card.xrf);
-        let (mst, xrf) = (card.mst(), card.xrf());
-        let times = fastest(
-            rounds,
-            [
-                &mut || time(|| assert_eq!(card.check(), Ok(()))),
-                &mut || time(|| assert_eq!(plain::called::check(black_box(mst), xrf), 0)),
-                &mut || time(|| assert_eq!(plain::inlined::check(black_box(mst), xrf), 0)),
-            ],
-        );
-        row(name, &cells(&times, 1));
-        Some(times[0])
+    /// Does what the task is with calls that only read, so that nothing is copied and all
+    /// sides read the same bytes. Each way makes all calls. Gives the library's time if it
+    /// was timed.
+    pub fn read(&self, row: &Reading, ways: [&dyn Fn(); 3]) -> Option<Duration> {
+        let [library, called, inlined] = ways;
+        match self {
+            Task::Time => {
+                let times = fastest(
+                    row.rounds,
+                    [&mut || time(library), &mut || time(called), &mut || {
+                        time(inlined)
+                    }],
+                );
+                crate::clock::row(row.name, &cells(&times, row.calls));
+                return Some(times[0]);
+            }
+            Task::Count => counted(row.name, row.call, row.calls),
+            Task::Only(name, Side::Library) if name == row.name => library(),
+            Task::Only(name, Side::Plain) if name == row.name => called(),
+            Task::Only(..) => {}
+        }
+        None
     }
 }
 

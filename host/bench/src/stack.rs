@@ -7,6 +7,7 @@ use std::hint::black_box;
 
 use crate::cards::{Kind, card, draft};
 use crate::clock::{head, row};
+use crate::indexes::deepest;
 
 /// So much of the stack is painted.
 const PAINTED: usize = 128 * 1024;
@@ -57,6 +58,7 @@ pub fn run() {
             telling();
             drafts();
             acts();
+            searching();
         })
         .expect("a thread")
         .join()
@@ -231,4 +233,42 @@ fn acts() {
         black_box(unsafe { raw::isis_format(new.0, new.1, new.2, new.3) });
     };
     report("format", &mut [&mut format]);
+}
+
+/// The calls on an index whose ways have as many nodes as they may have.
+fn searching() {
+    let (files, terms) = deepest();
+    let a = files.all().map(|file| (file.as_ptr(), file.len()));
+    let (mut block, mut word) = (0, 0);
+    // SAFETY: the files and the terms live to the end of this function.
+    let mut lookup = |term: &[u8]| unsafe {
+        let answer = raw::isis_lookup(
+            a[0].0,
+            a[0].1,
+            a[1].0,
+            a[1].1,
+            a[2].0,
+            a[2].1,
+            a[3].0,
+            a[3].1,
+            a[4].0,
+            a[4].1,
+            term.as_ptr(),
+            term.len(),
+            &mut block,
+            &mut word,
+        );
+        black_box(answer);
+    };
+    report(
+        "lookup, 16 nodes",
+        &mut [&mut || terms.iter().for_each(|term| lookup(term))],
+    );
+    // SAFETY: the same.
+    let mut check = || unsafe {
+        black_box(raw::isis_check_index(
+            a[0].0, a[0].1, a[1].0, a[1].1, a[2].0, a[2].1, a[3].0, a[3].1, a[4].0, a[4].1,
+        ));
+    };
+    report("index check, 16 nodes", &mut [&mut check]);
 }

@@ -5,13 +5,19 @@
  * own clock (SysTick) is read before and after each call. What a thousand
  * instructions take is measured first, so that no frequency need be known; and what
  * it takes to call a function that does nothing is taken away.
+ *
+ * The list in memory is an index: its five files and a term of each tree, each behind
+ * its length (src/main.rs writes them).
  */
 #include "isis.h"
 #include "semihosting.h"
 
 #include <string.h>
 
+extern const uint32_t list[];
+
 enum { FIELDS = 8, FIELD = 20, RECORDS = 50, CLOCK_BITS = 24 };
+enum { FILES = 5, SHORT_TERM = FILES, LONG_TERM, SLICES };
 
 static uint8_t mst[64 * ISIS_BLOCK], xrf[ISIS_BLOCK];
 static uint16_t tags[FIELDS], lens[FIELDS];
@@ -19,12 +25,19 @@ static uint8_t data[FIELDS * FIELD];
 static isis_size start, len, end, count, starts[FIELDS], field_lens[FIELDS];
 static uint32_t mfn, answer, mark, deleted;
 static uint16_t tag, field_tags[FIELDS];
+static int32_t block, word;
+static struct {
+    const uint8_t *at;
+    isis_size len;
+} slices[SLICES];
 
 static volatile uint32_t *const systick = (volatile uint32_t *)0xE000E010; /* control, reload, current */
 
 #define CARD mst, sizeof mst, xrf, sizeof xrf
 #define LISTS field_tags, FIELDS, starts, FIELDS, field_lens, FIELDS, &count
 #define DRAFT tags, FIELDS, lens, FIELDS, data, sizeof data
+#define SLICE(i) slices[i].at, slices[i].len
+#define INDEX SLICE(0), SLICE(1), SLICE(2), SLICE(3), SLICE(4)
 
 static void nothing(void) {}
 __attribute__((naked)) static void a_thousand_more(void)
@@ -47,6 +60,9 @@ static void delete(void) { answer = isis_delete(CARD, 7); }
 static void settle(void) { answer = isis_settle(CARD, 7); }
 static void revert(void) { answer = isis_revert(CARD, 7); }
 static void check(void) { answer = isis_check(CARD); }
+static void lookup_short(void) { answer = isis_lookup(INDEX, SLICE(SHORT_TERM), &block, &word); }
+static void lookup_long(void) { answer = isis_lookup(INDEX, SLICE(LONG_TERM), &block, &word); }
+static void check_index(void) { answer = isis_check_index(INDEX); }
 
 /* A card of RECORDS records of FIELDS fields, in one of three states. */
 enum kind { NEW, SETTLED, CHANGED };
@@ -87,6 +103,9 @@ static const struct {
     { "revert", CHANGED, revert },
     { "format, 32 KB", NEW, format },
     { "check, 50 records", SETTLED, check },
+    { "lookup, 9 bytes, in 1000 terms", NEW, lookup_short },
+    { "lookup, 17 bytes, in 1000 terms", NEW, lookup_long },
+    { "index check, 1000 terms", NEW, check_index },
 };
 
 /* The clock counts down. */
@@ -103,10 +122,28 @@ static uint32_t ticks_of(void (*call)(void))
     return since(then);
 }
 
+static void find_slices(void)
+{
+    const uint32_t *at = list;
+
+    for (uint32_t i = 0; i < SLICES; i++) {
+        slices[i].len = *at++;
+        slices[i].at = (const uint8_t *)at;
+        at += (slices[i].len + 3) / 4;
+    }
+}
+
+/* By 32-bit division, since divide.c does no other. */
+static uint32_t instructions(uint32_t ticks, uint32_t thousand)
+{
+    return ticks / thousand * 1000 + (ticks % thousand * 1000 + thousand / 2) / thousand;
+}
+
 int main(void)
 {
     uint32_t thousand, none;
 
+    find_slices();
     for (uint32_t i = 0; i < FIELDS; i++) {
         tags[i] = (uint16_t)(i + 1);
         lens[i] = FIELD;
@@ -123,7 +160,7 @@ int main(void)
 
         if (answer != ISIS_DONE)
             return 1;
-        say_number((uint32_t)(((uint64_t)ticks * 1000 + thousand / 2) / thousand));
+        say_number(instructions(ticks, thousand));
         say(" ");
         say(measured[i].name);
         say("\n");

@@ -16,23 +16,18 @@
  * painted, and the paint is looked at.
  *
  * The stack below each call is painted too, so that the most that a call ever used
- * is known at the end of the list.
+ * is known at the end of the list. A step on an index is index.c's.
  */
-#include "isis.h"
-#include "semihosting.h"
+#include "runner.h"
 
-#include <string.h>
-
-extern uint8_t cards_start[], cards_end[];
 extern const uint32_t list[];
 
-enum { MST_MAX = 128 * 1024, XRF_MAX = 8 * 1024, STRIP = 64, STACK = 512, KINDS = 16 };
-enum { PAINT = 0xB7, RUBBISH = 0xEE };
-enum { MST_LAST, XRF_LAST, MIDDLE };
+enum { MST_MAX = 128 * 1024, XRF_MAX = 8 * 1024, STACK = 512, KINDS = 17 };
+enum { MST_LAST, XRF_LAST, MIDDLE, ON_AN_INDEX };
 
 /* The list, and how much of it is done. */
 static const uint32_t *at = list;
-static uint32_t step;
+uint32_t step;
 static uint32_t made[KINDS], most_stack[KINDS];
 
 /* The card that the list wants, and the card that the calls are lent. */
@@ -67,8 +62,7 @@ void at_fault(void)
     say("\n");
 }
 
-/* Says what of the step is not as the list wants it, and ends the run. */
-static void differs(const char *what, uint32_t given, uint32_t wanted)
+void differs(const char *what, uint32_t given, uint32_t wanted)
 {
     say(what);
     say_with(" is ", given);
@@ -84,7 +78,7 @@ static void byte_differs(const char *what, uint32_t where, uint32_t given, uint3
     differs(what, given, wanted);
 }
 
-static uint32_t word(void)
+uint32_t word(void)
 {
     return *at++;
 }
@@ -96,7 +90,7 @@ static uint64_t long_word(void)
     return low | (uint64_t)word() << 32;
 }
 
-static const uint8_t *bytes(uint32_t count)
+const uint8_t *bytes(uint32_t count)
 {
     const uint8_t *here = (const uint8_t *)at;
 
@@ -155,13 +149,13 @@ static void each_strip(void (*look)(const char *what, uint8_t *strip))
         look(" behind the XRF", xrf + xrf_len);
 }
 
-static void paint(const char *what, uint8_t *strip)
+void paint(const char *what, uint8_t *strip)
 {
     (void)what;
     memset(strip, PAINT, STRIP);
 }
 
-static void is_painted(const char *what, uint8_t *strip)
+void is_painted(const char *what, uint8_t *strip)
 {
     for (uint32_t i = 0; i < STRIP; i++)
         if (strip[i] != PAINT)
@@ -181,17 +175,6 @@ static void lend(uint32_t stands)
     memcpy(mst, wanted_mst, mst_len);
     memcpy(xrf, wanted_xrf, xrf_len);
 }
-
-static uint32_t *stack_pointer(void)
-{
-    uint32_t *here;
-
-    __asm__ volatile("mov %0, sp" : "=r"(here));
-    return here;
-}
-
-/* Where the stack pointer was at the library's door. */
-static uint32_t *door;
 
 #define CARD mst, mst_len, xrf, xrf_len
 #define LISTS out.tags, call.tag, out.starts, call.occurrence, out.lens, call.index, &out.count
@@ -237,24 +220,28 @@ __attribute__((noinline)) static uint32_t answer(void)
     return 0;
 }
 
-/* Makes the call over a painted stack; keeps the most that it used. */
-__attribute__((noinline)) static uint32_t measured_answer(void)
+uint32_t *door;
+
+__attribute__((noinline)) uint32_t measured(uint32_t kind, uint32_t (*answer)(void), uint32_t words)
 {
-    volatile uint32_t *low = stack_pointer() - STACK;
+    volatile uint32_t *low = stack_pointer() - words;
     uint32_t given, used;
 
-    for (uint32_t i = 0; i < STACK; i++)
+    for (uint32_t i = 0; i < words; i++)
         low[i] = PAINT;
     given = answer();
+    if (*low != PAINT)
+        differs("a word under the stack", *low, PAINT);
     while (*low == PAINT)
         low++;
     used = (uint32_t)((uintptr_t)door - (uintptr_t)low);
-    if (most_stack[call.kind] < used)
-        most_stack[call.kind] = used;
+    if (most_stack[kind] < used)
+        most_stack[kind] = used;
+    made[kind]++;
     return given;
 }
 
-static void is_wanted(const char *what, uint64_t given)
+void is_wanted(const char *what, uint64_t given)
 {
     uint64_t wanted = long_word();
 
@@ -262,7 +249,7 @@ static void is_wanted(const char *what, uint64_t given)
         differs(what, (uint32_t)given, (uint32_t)wanted);
 }
 
-static void file_is_wanted(const char *what, const uint8_t *given, const uint8_t *wanted, uint32_t len)
+void file_is_wanted(const char *what, const uint8_t *given, const uint8_t *wanted, uint32_t len)
 {
     if (memcmp(given, wanted, len) == 0)
         return;
@@ -294,6 +281,11 @@ static void one_step(void)
     static uint32_t stood = ~0u;
     uint32_t stands = word(), mst_was = mst_len, xrf_was = xrf_len, changed, given;
 
+    if (stands == ON_AN_INDEX) {
+        stood = stands;
+        index_step();
+        return;
+    }
     mst_len = word();
     xrf_len = word();
     changed = *at;
@@ -303,14 +295,13 @@ static void one_step(void)
     stood = stands;
     read_call(stands);
     memset(&out, RUBBISH, sizeof out);
-    given = measured_answer();
+    given = measured(call.kind, answer, STACK);
     is_wanted("the answer", given);
     outputs_are_wanted();
     read_changes();
     file_is_wanted(" of the MST", mst, wanted_mst, mst_len);
     file_is_wanted(" of the XRF", xrf, wanted_xrf, xrf_len);
     each_strip(is_painted);
-    made[call.kind]++;
 }
 
 /* Shuts what stands beside the card's memory, by the memory protection unit where there is one; where there is none, nothing stands there. */

@@ -1,14 +1,17 @@
 /*
  * wrong.c: a library that is wrong in one way, so that a test sees the runner say so.
  *
- * The linker puts these in the place of isis_check and isis_create (--wrap). Each
- * makes the call and then does what WRONG names.
+ * The linker puts these in the place of isis_check, isis_create and isis_lookup
+ * (--wrap). Each makes the call and then does what WRONG names.
  */
 #include "isis.h"
 
 uint32_t __real_isis_check(const uint8_t *, isis_size, const uint8_t *, isis_size);
 uint32_t __real_isis_create(uint8_t *, isis_size, uint8_t *, isis_size, const uint16_t *, isis_size,
                             const uint16_t *, isis_size, const uint8_t *, isis_size, uint32_t *);
+uint32_t __real_isis_lookup(const uint8_t *, isis_size, const uint8_t *, isis_size, const uint8_t *, isis_size,
+                            const uint8_t *, isis_size, const uint8_t *, isis_size, const uint8_t *, isis_size,
+                            int32_t *, int32_t *);
 
 enum way {
     READ_BEHIND_MST,
@@ -23,6 +26,12 @@ enum way {
     ANSWER_ONE_MORE,
     LEAVE_THE_MFN,
     READ_AN_ODD_WORD,
+    READ_BEHIND_L01,
+    READ_BEFORE_CNT,
+    WRITE_BEHIND_N02,
+    CHANGE_THE_TERM,
+    TAKE_THE_NEXT_WORD,
+    LEAVE_THE_BLOCK,
 };
 
 static void read_at(const uint8_t *at)
@@ -72,5 +81,26 @@ uint32_t __wrap_isis_create(uint8_t *mst, isis_size mst_len, uint8_t *xrf, isis_
 
     if (WRONG == READ_BEHIND_DATA)
         read_at(data + data_len);
+    return answer;
+}
+
+uint32_t __wrap_isis_lookup(const uint8_t *cnt, isis_size cnt_len, const uint8_t *n01, isis_size n01_len,
+                            const uint8_t *l01, isis_size l01_len, const uint8_t *n02, isis_size n02_len,
+                            const uint8_t *l02, isis_size l02_len, const uint8_t *term, isis_size term_len,
+                            int32_t *block, int32_t *word)
+{
+    int32_t left = *block;
+    uint32_t answer = __real_isis_lookup(cnt, cnt_len, n01, n01_len, l01, l01_len, n02, n02_len, l02, l02_len, term,
+                                         term_len, block, word);
+
+    switch ((enum way)WRONG) {
+    case READ_BEHIND_L01: read_at(l01 + l01_len); break;
+    case READ_BEFORE_CNT: read_at(cnt - 1); break;
+    case WRITE_BEHIND_N02: write_at(n02 + n02_len); break;
+    case CHANGE_THE_TERM: write_at(term); break;
+    case TAKE_THE_NEXT_WORD: ++*word; break;
+    case LEAVE_THE_BLOCK: *block = answer == ISIS_DONE ? *block : left; break;
+    default: break;
+    }
     return answer;
 }

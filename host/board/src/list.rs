@@ -1,11 +1,16 @@
 //! A list of steps as the 32-bit words that `c/runner.c` reads: how many steps, and for
 //! each where the card stands, its two lengths, what somebody else changed, the call,
-//! what it must give, and what it must change.
+//! what it must give, and what it must change. A step on an index has the files' five
+//! lengths, what changed in them since the last such step, the call, its term, and what
+//! it must give.
 
 use crate::core::LIST_ROOM;
+use crate::search::{Found, Search};
 use differential::archive::Given;
+use model::Refusal;
 use model::ask::{Lists, RUBBISH};
 use model::call::{Call, OwnedDraft};
+use model::index::Files;
 use model::lists::Taste;
 use std::ops::Range;
 
@@ -16,10 +21,14 @@ pub type Card = (Vec<u8>, Vec<u8>);
 const STEPS_IN_A_PLACE: usize = 50;
 /// The card stands with the MST last, with the XRF last, or in the middle.
 const PLACES: usize = 3;
+/// What stands there for a step on an index; the runner finds places for its files.
+const ON_AN_INDEX: usize = PLACES;
 /// More bytes than a step takes: a draft, and a card before and after.
 const LONGEST_STEP: usize = 1 << 20;
 /// Equal bytes between two changes that are written down all the same.
 const GAP: usize = 16;
+/// The longest file of an index, as the runner has it.
+pub const SLICE_MAX: usize = 32 * 1024;
 /// The longest list that is lent for fields, as the runner has it.
 const LENT: usize = Taste::LONG.fields + 1;
 
@@ -158,6 +167,7 @@ pub struct List {
     words: Vec<u32>,
     steps: usize,
     card: Card,
+    index: Files,
 }
 
 impl List {
@@ -189,20 +199,48 @@ impl List {
         self.put_changes_to(after);
     }
 
+    /// Adds a step on an index: a call, and what it must give.
+    pub fn push_search(&mut self, index: &Files, search: &Search, found: Found) {
+        let longest = index.all().map(<[u8]>::len).into_iter().max();
+        assert!(
+            longest <= Some(SLICE_MAX),
+            "a file is longer than the runner's"
+        );
+        let number = found.map_or_else(|why| Refusal::from(why).number(), |_| 0);
+        let (block, word) = found.unwrap_or_default();
+        let rubbish = u32::from_ne_bytes([RUBBISH; 4]);
+        let outputs = match search {
+            Search::Lookup(_) => [block as u32, word as u32],
+            Search::Check => [rubbish; 2],
+        };
+        self.steps += 1;
+        self.put_all([ON_AN_INDEX]);
+        self.put_all(index.all().map(<[u8]>::len));
+        let old = std::mem::replace(&mut self.index, index.clone());
+        self.put_changes(old.all(), index.all());
+        self.put_all([search.kind(), search.term().len()]);
+        self.put_bytes(search.term());
+        for output in [number, outputs[0], outputs[1]] {
+            self.put_long(u64::from(output));
+        }
+    }
+
     /// What changes from the card as it was, which is this one then.
     fn put_changes_to(&mut self, card: &Card) {
-        let changes = [
-            changes(&self.card.0, &card.0),
-            changes(&self.card.1, &card.1),
-        ];
-        self.put_all([changes[0].len() + changes[1].len()]);
-        for (file, (changes, bytes)) in changes.iter().zip([&card.0, &card.1]).enumerate() {
+        let old = std::mem::replace(&mut self.card, card.clone());
+        self.put_changes([&old.0, &old.1], [&card.0, &card.1]);
+    }
+
+    /// What changes in some files.
+    fn put_changes<const N: usize>(&mut self, old: [&[u8]; N], new: [&[u8]; N]) {
+        let changes: [_; N] = std::array::from_fn(|file| changes(old[file], new[file]));
+        self.put_all([changes.iter().map(Vec::len).sum()]);
+        for (file, changes) in changes.iter().enumerate() {
             for change in changes {
                 self.put_all([file, change.start, change.len()]);
-                self.put_bytes(&bytes[change.clone()]);
+                self.put_bytes(&new[file][change.clone()]);
             }
         }
-        self.card = card.clone();
     }
 
     fn put_arguments(&mut self, of: &Arguments) {

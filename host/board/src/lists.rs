@@ -1,15 +1,16 @@
 //! The lists that every core is given.
 
-use crate::recorder::{Recorder, of_family, of_replay_lists};
+use crate::recorder::{Recorder, of_family, of_index_family, of_replay_lists};
 use differential::damage::Damaged;
 use differential::families::{FromFormat, Hostile};
+use differential::index::cases;
 use differential::random_cards::RandomCards;
 
 /// What a list is called, and how it is made.
 pub type Named = (&'static str, fn() -> Recorder);
 
 /// All lists.
-pub const ALL: [Named; 5] = [
+pub const ALL: [Named; 10] = [
     ("replay-lists", of_replay_lists),
     ("lists-from-format", || {
         of_family(&mut FromFormat::new(), 20_000)
@@ -19,4 +20,9 @@ pub const ALL: [Named; 5] = [
     }),
     ("random-cards", || of_family(&mut RandomCards, 15_000)),
     ("hostile-arguments", || of_family(&mut Hostile, 2_000)),
+    ("built-indexes", || of_index_family(cases::built, 150)),
+    ("damaged-indexes", || of_index_family(cases::damaged, 800)),
+    ("poked-indexes", || of_index_family(cases::poked, 300)),
+    ("records-by-chance", || of_index_family(cases::chance, 200)),
+    ("rubbish-indexes", || of_index_family(cases::rubbish, 50)),
 ];

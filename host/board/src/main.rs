@@ -8,7 +8,10 @@ use board::list::List;
 use board::lists::ALL;
 use board::recorder::Recorder;
 use board::runner;
+use board::search::Search;
 use model::Call;
+use model::index::{Entry, plain};
+use std::fs;
 use std::process::Command;
 
 fn main() {
@@ -35,12 +38,48 @@ fn heading(name: &str) {
 fn counted(core: &Core, name: &str, files: &[&str]) -> Vec<(String, String)> {
     let files = [&["host/board/c/count.c"], files].concat();
     let program = core.build(name, &files, &[]);
-    let ran = core.run(&program, None, &["-icount", "shift=10,sleep=off"]);
+    let list = program.with_extension("list");
+    fs::write(&list, index()).expect("the index could not be written");
+    let ran = core.run(&program, Some(&list), &["-icount", "shift=10,sleep=off"]);
     assert!(ran.well, "{}: {}", core.name, ran.said);
     let lines = ran.said.lines().filter_map(|line| line.split_once(' '));
     lines
         .map(|(count, of)| (count.to_owned(), of.to_owned()))
         .collect()
+}
+
+/// The terms of both trees that are looked up, at a distance from either end.
+const ASKED: usize = 137;
+
+/// An index of a thousand terms, half in each tree, at the manual's order: the five files
+/// and a term of each tree as c/count.c finds them, each behind its length.
+fn index() -> Vec<u8> {
+    let terms = |number| {
+        [
+            format!("TERM{number:05}"),
+            format!("TERM NUMBER {number:05}"),
+        ]
+    };
+    let entries: Vec<Entry> = (0..500)
+        .flat_map(terms)
+        .map(|term| Entry {
+            term: term.into_bytes(),
+            block: 1,
+            word: 0,
+        })
+        .collect();
+    let (files, asked) = (plain(&entries, 5, 5), terms(ASKED));
+    let slices = files
+        .all()
+        .into_iter()
+        .chain(asked.iter().map(String::as_bytes));
+    let padded = slices.map(|slice| {
+        let mut bytes = (slice.len() as u32).to_le_bytes().to_vec();
+        bytes.extend(slice);
+        bytes.resize(bytes.len().next_multiple_of(4), 0);
+        bytes
+    });
+    padded.flatten().collect()
 }
 
 fn instructions() {
@@ -76,7 +115,8 @@ fn stack() {
             }
         }
     }
-    for (kind, name) in Call::NAMES.into_iter().enumerate() {
+    let names = Call::NAMES.into_iter().chain(Search::NAMES);
+    for (kind, name) in names.enumerate() {
         let numbers: Vec<String> = most.iter().map(|of| of[kind].to_string()).collect();
         line(name, &numbers);
     }

@@ -1,13 +1,22 @@
 //! The model answers calls, and every call is written down with what it gave. What
 //! stands in a list is so the model's alone; the library is asked only on the board.
 
-use crate::list::List;
+use crate::list::{List, SLICE_MAX};
+use crate::search::Search;
 use differential::archive::{Given, Subject};
 use differential::families::{Family, drive_subject, first_seed};
 use differential::guarded::Side;
+use differential::index;
 use differential::tally::Tally;
 use model::call::{Call, Outcome, on_bytes};
+use model::index::Files;
+use model::index::fault::Why;
+use model::random::Random;
 use model::replay;
+use std::collections::BTreeSet;
+
+/// A call on an index by its kind, and why it was refused if it was.
+pub type Searched = (usize, Result<(), Why>);
 
 /// The model, and the lists of what it was asked.
 #[derive(Debug, Default)]
@@ -16,6 +25,8 @@ pub struct Recorder {
     pub lists: Vec<List>,
     /// How often each answer of each call came.
     pub tally: Tally,
+    /// Which outcomes calls on an index had.
+    pub searched: BTreeSet<Searched>,
 }
 
 impl Recorder {
@@ -28,6 +39,13 @@ impl Recorder {
         self.list().push(&before, call, &wanted, &after);
         self.tally.add(call, outcome.number);
         (outcome, wanted)
+    }
+
+    /// A call on an index, written down with what the model's reader finds.
+    pub fn search(&mut self, index: &Files, search: &Search) {
+        let found = search.on(index);
+        self.list().push_search(index, search, found);
+        self.searched.insert((search.kind(), found.map(|_| ())));
     }
 
     /// A list that has room.
@@ -50,6 +68,28 @@ pub fn of_family(family: &mut dyn Family, calls: usize) -> Recorder {
     let mut recorder = Recorder::default();
     drive_subject(&mut recorder, family, calls, first_seed())
         .unwrap_or_else(|words| panic!("the model and its ledger disagree: {words}"));
+    recorder
+}
+
+/// So many terms of a case are looked up.
+const TERMS: usize = 8;
+
+/// So many cases of a family of indexes, each with its check and some of its terms; one
+/// with a file that is longer than the runner's is left out.
+pub fn of_index_family(family: index::compare::Family, cases: u64) -> Recorder {
+    let mut recorder = Recorder::default();
+    for seed in first_seed()..first_seed() + cases {
+        let mut random = Random::new(seed);
+        let case = family(&mut random);
+        if case.files.all().iter().any(|file| file.len() > SLICE_MAX) {
+            continue;
+        }
+        recorder.search(&case.files, &Search::Check);
+        for _ in 0..TERMS {
+            let term = &case.terms[random.below(case.terms.len())];
+            recorder.search(&case.files, &Search::Lookup(term.clone()));
+        }
+    }
     recorder
 }
 

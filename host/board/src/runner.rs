@@ -2,11 +2,15 @@
 
 use crate::core::Core;
 use crate::recorder::Recorder;
+use crate::search::Search;
 use model::Call;
 use std::fs;
 
+/// How many calls there are, on a card and on an index.
+pub const KINDS: usize = Call::NAMES.len() + Search::NAMES.len();
+
 /// How much stack each call used at most, in bytes, by the call's kind.
-pub type Stack = [usize; Call::NAMES.len()];
+pub type Stack = [usize; KINDS];
 
 /// Runs all lists on a core; gives the stack used, or what the board said at the first difference.
 pub fn run(core: &Core, name: &str, recorder: &Recorder) -> Result<Stack, String> {
@@ -21,7 +25,8 @@ pub fn run_with(
     files: &[&str],
     flags: &[&str],
 ) -> Result<Stack, String> {
-    let files = [&["host/board/c/runner.c"], files].concat();
+    let own = ["host/board/c/runner.c", "host/board/c/index.c"];
+    let files = [&own, files].concat();
     let program = core.build(name, &files, flags);
     let mut stack = Stack::default();
     for list in &recorder.lists {

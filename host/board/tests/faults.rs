@@ -4,9 +4,11 @@
 use board::core::{CORES, Core, M0};
 use board::recorder::Recorder;
 use board::runner::run_with;
+use board::search::Search;
 use differential::archive::Subject;
 use differential::guarded::Side;
 use model::call::{Call, OwnedDraft};
+use model::index::{Entry, plain};
 
 /// Format, then creates and checks in turn: 50 steps with the MST at the last byte and the
 /// XRF at the first, 50 the other way round, and 50 with a list of the draft at the last.
@@ -22,54 +24,72 @@ fn list() -> Recorder {
     recorder
 }
 
+/// A term that an index holds and one that it does not, in turn; each slice stands once at
+/// the last byte, and CNT stands at the first from step 1 on.
+fn searches() -> Recorder {
+    let entries = [&b"KITE"[..], b"KITE RUNNER"].map(|term| Entry {
+        term: term.to_vec(),
+        block: 3,
+        word: 8,
+    });
+    let (index, mut recorder) = (plain(&entries, 1, 1), Recorder::default());
+    for _ in 0..3 {
+        for term in ["KITE", "KITES"] {
+            recorder.search(&index, &Search::Lookup(term.into()));
+        }
+    }
+    recorder
+}
+
 /// What the runner says of a library that is wrong in one way.
-fn caught(core: &Core, way: &str) -> String {
+fn caught(core: &Core, way: &str, list: &Recorder) -> String {
     let flags = [
         &format!("-DWRONG={way}"),
-        "-Wl,--wrap=isis_check,--wrap=isis_create",
+        "-Wl,--wrap=isis_check,--wrap=isis_create,--wrap=isis_lookup",
     ];
     let name = format!("wrong-{way}");
-    run_with(core, &name, &list(), &["host/board/c/wrong.c"], &flags)
-        .expect_err("nothing was noticed")
+    run_with(core, &name, list, &["host/board/c/wrong.c"], &flags).expect_err("nothing was noticed")
 }
 
 /// An access in a step is a fault, which the board reports.
-fn faults(way: &str, step: usize) {
+fn faults(list: &Recorder, way: &str, step: usize) {
     for core in CORES {
-        let said = caught(&core, way);
+        let said = caught(&core, way, list);
         assert!(said.starts_with("fault: the instruction at "), "{said}");
         assert!(said.ends_with(&format!("\nin step {step}\n")), "{said}");
     }
 }
 
 /// A difference is said as it stands.
-fn differs(way: &str, words: &str) {
+fn differs(list: &Recorder, way: &str, words: &str) {
     for core in CORES {
-        assert_eq!(caught(&core, way), words);
+        assert_eq!(caught(&core, way, list), words);
     }
 }
 
 #[test]
 fn a_byte_read_outside_of_a_buffer_is_a_fault() {
-    faults("READ_BEHIND_MST", 2);
-    faults("READ_BEFORE_XRF", 2);
-    faults("READ_BEHIND_XRF", 50);
-    faults("READ_BEFORE_MST", 50);
+    faults(&list(), "READ_BEHIND_MST", 2);
+    faults(&list(), "READ_BEFORE_XRF", 2);
+    faults(&list(), "READ_BEHIND_XRF", 50);
+    faults(&list(), "READ_BEFORE_MST", 50);
 }
 
 #[test]
 fn a_byte_read_behind_a_draft_is_a_fault() {
-    faults("READ_BEHIND_DATA", 101);
+    faults(&list(), "READ_BEHIND_DATA", 101);
 }
 
 #[test]
 fn a_byte_written_outside_of_a_buffer_is_a_fault_or_spoils_the_paint() {
-    faults("WRITE_BEHIND_MST", 2);
+    faults(&list(), "WRITE_BEHIND_MST", 2);
     differs(
+        &list(),
         "WRITE_BEFORE_MST",
         "byte 63 before the MST is 0, wanted 183, in step 2\n",
     );
     differs(
+        &list(),
         "WRITE_BEHIND_XRF",
         "byte 0 behind the XRF is 0, wanted 183, in step 2\n",
     );
@@ -78,19 +98,53 @@ fn a_byte_written_outside_of_a_buffer_is_a_fault_or_spoils_the_paint() {
 #[test]
 fn a_wrong_byte_answer_or_output_is_said() {
     differs(
+        &list(),
         "CHANGE_A_BYTE",
         "byte 4 of the MST is 0, wanted 2, in step 2\n",
     );
-    differs("ANSWER_ONE_MORE", "the answer is 1, wanted 0, in step 2\n");
     differs(
+        &list(),
+        "ANSWER_ONE_MORE",
+        "the answer is 1, wanted 0, in step 2\n",
+    );
+    differs(
+        &list(),
         "LEAVE_THE_MFN",
         "the MFN is 4008636142, wanted 1, in step 1\n",
     );
 }
 
+#[test]
+fn a_byte_read_outside_of_an_index_is_a_fault() {
+    faults(&searches(), "READ_BEFORE_CNT", 1);
+    faults(&searches(), "READ_BEHIND_L01", 2);
+}
+
+/// What is compared is compared by the same code on every core.
+#[test]
+fn a_wrong_lookup_is_said() {
+    for (way, words) in [
+        (
+            "WRITE_BEHIND_N02",
+            "byte 0 behind N02 is 0, wanted 183, in step 0\n",
+        ),
+        (
+            "CHANGE_THE_TERM",
+            "byte 0 of the term is 0, wanted 75, in step 0\n",
+        ),
+        ("TAKE_THE_NEXT_WORD", "the word is 9, wanted 8, in step 0\n"),
+        (
+            "LEAVE_THE_BLOCK",
+            "the block is 4008636142, wanted 0, in step 1\n",
+        ),
+    ] {
+        assert_eq!(caught(&M0, way, &searches()), words);
+    }
+}
+
 /// The code for a Cortex-M0 may read no word at an odd address; the other cores do.
 #[test]
 fn a_word_read_at_an_odd_address_is_a_fault_on_cortex_m0() {
-    let said = caught(&M0, "READ_AN_ODD_WORD");
+    let said = caught(&M0, "READ_AN_ODD_WORD", &list());
     assert!(said.ends_with("\nin step 2\n"), "{said}");
 }

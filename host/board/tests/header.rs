@@ -3,6 +3,7 @@
 
 use board::core::{CORES, root, run};
 use model::draft::need;
+use model::index;
 use model::layout::{self, slot_at};
 use std::collections::BTreeSet;
 use std::fs;
@@ -57,6 +58,10 @@ fn sentences() -> Vec<String> {
             "ISIS_FIELDS_MAX",
             (layout::LONGEST - layout::LEADER) / layout::ITEM,
         ),
+        ("ISIS_CNT", 2 * index::PART),
+        ("ISIS_SHORT_TERM_MAX", index::WIDTHS[0]),
+        ("ISIS_TERM_MAX", index::LONGEST),
+        ("ISIS_NODES_MAX", index::DEEPEST),
     ];
     let plain = numbers.map(|(name, number)| format!("{name} == {number}"));
     let needs = [

@@ -4,10 +4,14 @@
 use board::core::CORES;
 use board::list::List;
 use board::lists::ALL;
+use board::recorder::Searched;
 use board::runner;
+use board::search::Search;
 use differential::families::said;
 use differential::tally::{ANSWERS, Tally};
 use model::Call;
+use model::index::fault::{Broken, Why};
+use std::collections::BTreeSet;
 
 /// Makes a list and runs it on every core.
 fn holds(index: usize) {
@@ -50,12 +54,40 @@ fn hostile_arguments() {
     holds(4);
 }
 
-/// A list that never meets an answer says nothing about it.
 #[test]
-fn the_lists_meet_every_answer_of_every_call() {
-    let mut tally = Tally::default();
+fn built_indexes() {
+    holds(5);
+}
+
+#[test]
+fn damaged_indexes() {
+    holds(6);
+}
+
+#[test]
+fn poked_indexes() {
+    holds(7);
+}
+
+#[test]
+fn records_by_chance() {
+    holds(8);
+}
+
+#[test]
+fn rubbish_indexes() {
+    holds(9);
+}
+
+/// A list that never meets an answer says nothing about it, nor one that never meets the
+/// breach of a rule of an index.
+#[test]
+fn the_lists_meet_every_answer_and_every_broken_rule() {
+    let (mut tally, mut searched) = (Tally::default(), BTreeSet::new());
     for (_, make) in ALL {
-        tally.join(&make().tally);
+        let made = make();
+        tally.join(&made.tally);
+        searched.extend(made.searched);
     }
     println!("{tally}");
     for (call, answers) in ANSWERS.iter().enumerate() {
@@ -65,6 +97,21 @@ fn the_lists_meet_every_answer_of_every_call() {
                 tally.count(call, number) > 0,
                 "{name} never answered {number}"
             );
+        }
+    }
+    every_rule_is_broken(&searched);
+}
+
+/// Whether both calls on an index were done, and refused for everything that they ask.
+fn every_rule_is_broken(searched: &BTreeSet<Searched>) {
+    let (lookup, check) = (Search::Lookup(Vec::new()).kind(), Search::Check.kind());
+    let of_both = Broken::OF_BOTH.map(Why::Broken);
+    let of_lookup = [Why::BadTerm, Why::Below, Why::Absent];
+    let of_check = Broken::OF_CHECK.map(Why::Broken);
+    for (kind, own) in [(lookup, &of_lookup[..]), (check, &of_check)] {
+        assert!(searched.contains(&(kind, Ok(()))), "{kind} was never done");
+        for why in of_both.iter().chain(own) {
+            assert!(searched.contains(&(kind, Err(*why))), "{kind}: {why:?}");
         }
     }
 }

@@ -5,6 +5,7 @@
 //! into the loop that makes the calls, where the optimiser sees both.
 
 mod check;
+mod index;
 mod record;
 mod store;
 mod tell;
@@ -39,6 +40,8 @@ pub mod called {
         store::settle(mst: &mut [u8], xrf: &mut [u8], mfn: u32) -> u32;
         store::revert(mst: &[u8], xrf: &mut [u8], mfn: u32) -> u32;
         check::check(mst: &[u8], xrf: &[u8]) -> u32;
+        index::lookup(cnt: &[u8], n01: &[u8], l01: &[u8], n02: &[u8], l02: &[u8], term: &[u8]) -> (u32, i32, i32);
+        index::check_index(cnt: &[u8], n01: &[u8], l01: &[u8], n02: &[u8], l02: &[u8]) -> u32;
         tell::next(mst: &[u8], xrf: &[u8]) -> (u32, u32, usize);
         tell::state(mst: &[u8], xrf: &[u8], mfn: u32) -> (u32, u32, u32);
         tell::fields(mst: &[u8], xrf: &[u8], mfn: u32, lists: &mut Lists) -> (u32, usize);
@@ -49,6 +52,7 @@ pub mod called {
 /// Each call as it is, for the compiler to inline.
 pub mod inlined {
     pub use super::check::check;
+    pub use super::index::{check_index, lookup};
     pub use super::store::{delete, field, field_settled, revert, settle, view, view_settled};
     pub use super::tell::{fields, fields_settled, next, state};
     pub use super::write::{create, format, update};

@@ -1,8 +1,12 @@
 //! What is timed does the model's work.
 
 use super::called;
+use differential::index::cases;
+use differential::index::compare::{Case, Family};
+use model::Refusal;
 use model::ask::{Lists, Room};
 use model::call::{Call, Outcome, Shown, on_bytes};
+use model::index::{check, lookup};
 use model::lists::{self, Taste};
 use model::random::Random;
 
@@ -113,5 +117,37 @@ fn the_plain_program_does_the_same_as_the_model() {
             }
             call = lists::any_call(&mut random, Taste::SHORT, 12);
         }
+    }
+}
+
+/// The number of a lookup or a check by the model, with what it gives.
+fn numbered<T: Default>(answer: Result<T, Refusal>) -> (u32, T) {
+    answer.map_or_else(|why| (why.number(), T::default()), |given| (0, given))
+}
+
+/// On indexes as they are built, damaged and made by chance.
+#[test]
+fn the_plain_lookup_and_index_check_do_the_same_as_the_model() {
+    let families: [Family; 5] = [
+        cases::built,
+        cases::damaged,
+        cases::poked,
+        cases::chance,
+        cases::rubbish,
+    ];
+    for seed in 0..10_000 {
+        let family = families[seed as usize % families.len()];
+        let Case {
+            what, files, terms, ..
+        } = family(&mut Random::new(seed));
+        let [cnt, n01, l01, n02, l02] = files.all();
+        for term in &terms {
+            let (number, (block, word)) = numbered(lookup(&files, term));
+            let found = called::lookup(cnt, n01, l01, n02, l02, term);
+            assert_eq!(found, (number, block, word), "{seed}, {what}: {term:?}");
+        }
+        let (number, ()) = numbered(check(&files));
+        let found = called::check_index(cnt, n01, l01, n02, l02);
+        assert_eq!(found, number, "{seed}, {what}");
     }
 }
