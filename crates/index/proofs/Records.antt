@@ -12,7 +12,7 @@ use borrow.Author.Tests.{eq-eqb, ne-eqb, le-leb, lt-leb, lt-ltb, le-ltb, not-tru
 use Rattle.word.specs.Integer.{u16At, u32At}
 use Rattle.terms.specs.Key.{below, ascending, ascendingAfter}
 use Rattle.terms.specs.Term.{widthOf}
-use Rattle.terms.proofs.Padding.{width-high}
+use Rattle.terms.proofs.Padding.{width-low, width-high}
 use Rattle.index.specs.Inner.{TreeFits}
 use Rattle.index.specs.Layout.{sizeOf, placeOf, ockAt, puntAt, keyAt, keysOf, keysFrom, partPlace, treeOf, nodeShape, leafShape}
 use Rattle.index.specs.Rules.{orderRight, partRight, partOf, recordThere, recordRight, puntsRight, nodeRight}
@@ -183,9 +183,9 @@ module _ (cnt : List ℕ) (kind : ℕ) where
       let q = simp tests at e in
       let w = width-high kind in
       record {
-        nodes-fit = record { head-low = omega arith; head-high = omega arith; width-high = w; step-low = omega arith; step-high = omega arith; most-low = omega (arith, q .0 .1 .0); most-high = omega (arith, q .0 .1 .1) };
+        nodes-fit = record { head-low = omega arith; head-high = omega arith; width-low = omega (arith, width-low kind); width-high = w; step-low = omega arith; step-high = omega arith; most-low = omega (arith, q .0 .1 .0); most-high = omega (arith, q .0 .1 .1) };
         leaves-fit = record {
-          shape = record { head-low = omega arith; head-high = omega arith; width-high = w; step-low = omega arith; step-high = omega arith; most-low = omega (arith, q .1 .0); most-high = omega (arith, q .1 .1) };
+          shape = record { head-low = omega arith; head-high = omega arith; width-low = omega (arith, width-low kind); width-high = w; step-low = omega arith; step-high = omega arith; most-low = omega (arith, q .1 .0); most-high = omega (arith, q .1 .1) };
           head-leaf = omega arith;
           step-leaf = omega arith;
         };

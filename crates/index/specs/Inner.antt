@@ -8,6 +8,7 @@ use Rattle.index.specs.declared.layout.Tree.{Tree}
 pub record ShapeFits (s : Shape) : Type 0 where
   pub head-low : 8 ≤ s .head
   pub head-high : s .head ≤ 12
+  pub width-low : 8 ≤ s .width
   pub width-high : s .width ≤ 30
   pub step-low : s .width + 4 ≤ s .step
   pub step-high : s .step ≤ 38

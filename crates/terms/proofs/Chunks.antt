@@ -1,20 +1,22 @@
 -- Keys compared 8 bytes at a time: bytes as the digits of one number, whose order is the order of the bytes.
-use Prim.Native.Nat.{ℕ, zero, suc, _+_, _*_, _-_, _^_, _<_, _≤_}
+use Prim.Native.Nat.{ℕ, zero, suc, _+_, _*_, _-_, _/_, _%_, _^_, _<_, _≤_}
 use native.Mathlib.Nat.{add-zero, add-assoc, suc-mul, mul-le-mul-right, pow-zero, pow-succ'}
 use native.Mathlib.Omega.{arith}
 use mathlib.Core.Path.{_≡_, refl, sym, ap, _∙_}
 use mathlib.Core.Logic.{_⊎_, inl, inr, ⊎-elim}
 use mathlib.Core.Bool.{Bool, true, false}
 use mathlib.Core.List.{List, [], _∷_, _++_}
-use lib.Dec.{ltb}
-use lib.ListN.{length, getD}
-use borrow.Author.Tests.{eq-eqb, lt-ltb, le-ltb}
+use lib.Dec.{eqb, ltb}
+use lib.ListN.{length, getD, take, drop}
+use lib.Seq.{take-take}
+use borrow.Author.Tests.{eq-eqb, eqb-true, eqb-false, lt-ltb, le-ltb}
+use Rattle.word.specs.Integer.{le}
 use Rattle.word.specs.Overwrite.{part}
 use Rattle.word.proofs.Overwrite.{lt-or-ge, part-length, part-add, part-cons}
 use Rattle.word.proofs.Integers.{Bytes, bytes-part}
 use Rattle.terms.specs.Key.{same, below}
 use Rattle.terms.specs.Inner.{big}
-use Rattle.terms.proofs.Order.{by-cases, never, below-irrefl, below-trans, below-first, below-rest, same-is}
+use Rattle.terms.proofs.Order.{by-cases, never, below-irrefl, below-trans, below-first, below-rest, same-is, same-refl}
 
 -- ---- two numbers by their highest digits
 
@@ -93,78 +95,94 @@ asym xs ys e = by-cases (below xs ys) (λ t. never (below-trans xs ys xs t e) (b
 apart : (xs ys : List ℕ) → (below xs ys ≡ true) ⊎ (below ys xs ≡ true) → same xs ys ≡ false
 apart xs ys e = by-cases (same xs ys) (λ t. ⊎-elim (λ l. never (rw (same-is xs ys t) at l) (below-irrefl ys)) (λ l. never (rw (same-is xs ys t) at l) (below-irrefl ys)) e) (λ f. f)
 
--- ---- the loops, 8 bytes a turn
+-- ---- two keys that agree in front
 
--- what is left of a part behind k bytes: 8 bytes, and what is left behind them
-halves : (s : List ℕ) (at n k : ℕ) → 8 ≤ n - k → part s (at + k) (n - k) ≡ part s (at + k) 8 ++ part s (at + (k + 8)) (n - (k + 8))
+-- a part in two
+halves : (s : List ℕ) (at n k : ℕ) → k ≤ n → part s at n ≡ part s at k ++ part s (at + k) (n - k)
 halves s at n k h =
-    let z : n - k ≡ 8 + (n - (k + 8)) = omega arith in
-    let w : at + k + 8 ≡ at + (k + 8) = omega arith in
-    ap (part s (at + k)) z ∙ part-add s (at + k) 8 (n - (k + 8)) ∙ ap (λ (p : ℕ). part s (at + k) 8 ++ part s p (n - (k + 8))) w
+    let z : n ≡ k + (n - k) = omega arith in
+    ap (part s at) z ∙ part-add s at k (n - k)
 
--- the 8 bytes at at + k
-pub record Eight (s : List ℕ) (at n k x : ℕ) : Type 0 where
+-- they agree in their first k bytes
+abbrev pub Agree : List ℕ → List ℕ → ℕ → ℕ → ℕ → Type 0
+Agree a b i j k = part a i k ≡ part b j k
+
+pub agree-less : (a b : List ℕ) (i j k m : ℕ) → m ≤ k → Agree a b i j k → Agree a b i j m
+agree-less a b i j k m h e = sym (take-take m k (drop i a) h) ∙ ap (take m) e ∙ take-take m k (drop j b) h
+
+-- the 8 bytes behind the first k, and the number that they are the digits of
+pub record Eight (s : List ℕ) (at k x : ℕ) : Type 0 where
   pub small : Bytes (part s (at + k) 8)
   pub eight : length (part s (at + k) 8) ≡ 8
   pub number : x ≡ big (part s (at + k) 8)
 
-pub eight-at : (s : List ℕ) (at n k x : ℕ) → Bytes s → at + n ≤ length s → 8 ≤ n - k → x ≡ big (part s (at + k) 8) → Eight s at n k x
-eight-at s at n k x b l h e = record { small = bytes-part s (at + k) 8 b; eight = part-length s (at + k) 8 (omega arith); number = e }
+pub eight-at : (s : List ℕ) (at k x : ℕ) → Bytes s → at + (k + 8) ≤ length s → x ≡ big (part s (at + k) 8) → Eight s at k x
+eight-at s at k x b l e = record { small = bytes-part s (at + k) 8 b; eight = part-length s (at + k) 8 (omega arith); number = e }
 
-module _ (a b : List ℕ) (i j n k : ℕ) (h : 8 ≤ n - k) (x y : ℕ) (p : Eight a i n k x) (q : Eight b j n k y) (r : Bool) where
-  front : x ≡ y → part a (i + k) 8 ≡ part b (j + k) 8
-  front e = same-big _ _ (p .small) (q .small) (p .eight ∙ sym (q .eight)) (sym (p .number) ∙ e ∙ q .number)
+pub eight-first : (s : List ℕ) (at x : ℕ) {n : ℕ} → Bytes s → at + n ≤ length s → 8 ≤ n → x ≡ big (part s at 8) → Eight s at 0 x
+eight-first s at x b l h e = eight-at s at 0 x b (omega arith) (rw add-zero e)
 
-  pub eight-same : r ≡ same (part a (i + k) (n - k)) (part b (j + k) (n - k)) → x ≡ y
-      → r ≡ same (part a (i + (k + 8)) (n - (k + 8))) (part b (j + (k + 8)) (n - (k + 8)))
-  eight-same inv e =
-      inv ∙ rw (halves a i n k h, halves b j n k h, front e)
-      (same-skip (part b (j + k) 8) (part a (i + (k + 8)) (n - (k + 8))) (part b (j + (k + 8)) (n - (k + 8))))
+module _ (a b : List ℕ) (i j k x y : ℕ) (p : Eight a i k x) (q : Eight b j k y) (known : Agree a b i j k) where
+  these : x ≡ y → part a (i + k) 8 ≡ part b (j + k) 8
+  these e = same-big _ _ (p .small) (q .small) (p .eight ∙ sym (q .eight)) (sym (p .number) ∙ e ∙ q .number)
 
-  pub eight-below : r ≡ below (part a (i + k) (n - k)) (part b (j + k) (n - k)) → x ≡ y
-      → r ≡ below (part a (i + (k + 8)) (n - (k + 8))) (part b (j + (k + 8)) (n - (k + 8)))
-  eight-below inv e =
-      inv ∙ rw (halves a i n k h, halves b j n k h, front e)
-      (below-skip (part b (j + k) 8) (part a (i + (k + 8)) (n - (k + 8))) (part b (j + (k + 8)) (n - (k + 8))))
+  pub agree-more : x ≡ y → Agree a b i j (k + 8)
+  agree-more e = part-add a i k 8 ∙ rw (known, these e) (sym (part-add b j k 8))
 
-  up : x < y → below (part a (i + k) (n - k)) (part b (j + k) (n - k)) ≡ true
-  up l =
-      rw (halves a i n k h, halves b j n k h)
-      (below-big (part a (i + k) 8) (part b (j + k) 8) _ _ (p .small) (q .small) (p .eight ∙ sym (q .eight)) (omega (arith, p .number, q .number)))
+  module _ (n : ℕ) (h : k + 8 ≤ n) where
+    -- the keys as the bytes that agree, the 8 behind them, and the others
+    thirds : (s : List ℕ) (at : ℕ) → part s at n ≡ part s at k ++ (part s (at + k) 8 ++ part s (at + k + 8) (n - k - 8))
+    thirds s at = halves s at n k (omega arith) ∙ ap (λ (l : List ℕ). part s at k ++ l) (halves s (at + k) (n - k) 8 (omega arith))
 
-  down : y < x → below (part b (j + k) (n - k)) (part a (i + k) (n - k)) ≡ true
-  down l =
-      rw (halves a i n k h, halves b j n k h)
-      (below-big (part b (j + k) 8) (part a (i + k) 8) _ _ (q .small) (p .small) (q .eight ∙ sym (p .eight)) (omega (arith, p .number, q .number)))
+    same-from : same (part a i n) (part b j n) ≡ same (part a (i + k) 8 ++ part a (i + k + 8) (n - k - 8)) (part b (j + k) 8 ++ part b (j + k + 8) (n - k - 8))
+    same-from = rw (thirds a i, thirds b j, known) (same-skip (part b j k) _ _)
 
-  module _ (ne : x ≡ y → ⊥) where
-    pub eight-other : r ≡ same (part a (i + k) (n - k)) (part b (j + k) (n - k)) → false ≡ r
-    eight-other inv = sym (inv ∙ apart _ _ (⊎-elim (λ l. inl (up l)) (⊎-elim (λ e. absurd (ne e)) (λ l. inr (down l))) (three x y)))
+    below-from : below (part a i n) (part b j n) ≡ below (part a (i + k) 8 ++ part a (i + k + 8) (n - k - 8)) (part b (j + k) 8 ++ part b (j + k + 8) (n - k - 8))
+    below-from = rw (thirds a i, thirds b j, known) (below-skip (part b j k) _ _)
 
-    pub eight-decides : r ≡ below (part a (i + k) (n - k)) (part b (j + k) (n - k)) → ltb x y ≡ r
-    eight-decides inv =
-        ⊎-elim (λ l. lt-ltb x y l ∙ sym (inv ∙ up l)) (⊎-elim (λ e. absurd (ne e)) (λ l. le-ltb x y (omega arith) ∙ sym (inv ∙ asym _ _ (down l)))) (three x y)
+    up : x < y → below (part a (i + k) 8 ++ part a (i + k + 8) (n - k - 8)) (part b (j + k) 8 ++ part b (j + k + 8) (n - k - 8)) ≡ true
+    up l = below-big (part a (i + k) 8) (part b (j + k) 8) _ _ (p .small) (q .small) (p .eight ∙ sym (q .eight)) (omega (arith, p .number, q .number))
 
--- 8 bytes read one by one
-pub eight-is : (s : List ℕ) (at b0 b1 b2 b3 b4 b5 b6 b7 : ℕ) → b0 ≡ getD s at 0 → b1 ≡ getD s (at + 1) 0 → b2 ≡ getD s (at + 2) 0
-    → b3 ≡ getD s (at + 3) 0 → b4 ≡ getD s (at + 4) 0 → b5 ≡ getD s (at + 5) 0 → b6 ≡ getD s (at + 6) 0 → b7 ≡ getD s (at + 7) 0 → at + 8 ≤ length s
-    → (b0 * 16777216 + b1 * 65536 + b2 * 256 + b3) * 4294967296 + (b4 * 16777216 + b5 * 65536 + b6 * 256 + b7) ≡ big (part s at 8)
+    down : y < x → below (part b (j + k) 8 ++ part b (j + k + 8) (n - k - 8)) (part a (i + k) 8 ++ part a (i + k + 8) (n - k - 8)) ≡ true
+    down l = below-big (part b (j + k) 8) (part a (i + k) 8) _ _ (q .small) (p .small) (q .eight ∙ sym (p .eight)) (omega (arith, p .number, q .number))
+
+    -- the 8 bytes differ
+    module _ (ne : x ≡ y → ⊥) where
+      pub differ-same : false ≡ same (part a i n) (part b j n)
+      differ-same = sym (same-from ∙ apart _ _ (⊎-elim (λ l. inl (up l)) (⊎-elim (λ e. absurd (ne e)) (λ l. inr (down l))) (three x y)))
+
+      pub differ-below : ltb x y ≡ below (part a i n) (part b j n)
+      differ-below =
+          ⊎-elim (λ l. lt-ltb x y l ∙ sym (below-from ∙ up l))
+          (⊎-elim (λ e. absurd (ne e)) (λ l. le-ltb x y (omega arith) ∙ sym (below-from ∙ asym _ _ (down l)))) (three x y)
+
+  -- the 8 bytes are the last
+  module _ (n : ℕ) (h : n ≡ k + 8) where
+    whole : x ≡ y → part a i n ≡ part b j n
+    whole e = rw h (agree-more e)
+
+    pub last-same : eqb x y ≡ same (part a i n) (part b j n)
+    last-same =
+        by-cases (eqb x y) (λ e. e ∙ sym (rw (whole (eqb-true x y e)) (same-refl (part b j n))))
+        (λ e. e ∙ differ-same n (omega arith) (eqb-false x y e))
+
+    pub last-below : ltb x y ≡ below (part a i n) (part b j n)
+    last-below =
+        by-cases (eqb x y) (λ e. let z = eqb-true x y e in le-ltb x y (omega arith) ∙ sym (rw (whole z) (below-irrefl (part b j n))))
+        (λ e. differ-below n (omega arith) (eqb-false x y e))
+
+-- ---- 8 bytes as one number
+
+-- the digits in two halves
+pub swapped-is : (v : ℕ) (high low : ℕ)
+    → high ≡ v % 256 * 16777216 + v / 256 % 256 * 65536 + v / 256 / 256 % 256 * 256 + v / 256 / 256 / 256 % 256
+    → low
+    ≡ v / 256 / 256 / 256 / 256 % 256 * 16777216 + v / 256 / 256 / 256 / 256 / 256 % 256 * 65536 + v / 256 / 256 / 256 / 256 / 256 / 256 % 256 * 256
+    + v / 256 / 256 / 256 / 256 / 256 / 256 / 256 % 256
+    → high * 4294967296 + low ≡ big (le 8 v)
 unfolding big
-eight-is s at b0 b1 b2 b3 b4 b5 b6 b7 e0 e1 e2 e3 e4 e5 e6 e7 l =
-    rw (
-      part-cons s at 7 (omega arith),
-      part-cons s (at + 1) 6 (omega arith),
-      add-assoc at 1 1,
-      part-cons s (at + 2) 5 (omega arith),
-      add-assoc at 2 1,
-      part-cons s (at + 3) 4 (omega arith),
-      add-assoc at 3 1,
-      part-cons s (at + 4) 3 (omega arith),
-      add-assoc at 4 1,
-      part-cons s (at + 5) 2 (omega arith),
-      add-assoc at 5 1,
-      part-cons s (at + 6) 1 (omega arith),
-      add-assoc at 6 1,
-      part-cons s (at + 7) 0 (omega arith),
-    )
-    (omega arith)
+swapped-is v high low p q = digits _ _ _ _ _ _ _ _ high low p q
+  where
+    digits : (b0 b1 b2 b3 b4 b5 b6 b7 high low : ℕ) → high ≡ b0 * 16777216 + b1 * 65536 + b2 * 256 + b3 → low ≡ b4 * 16777216 + b5 * 65536 + b6 * 256 + b7
+        → high * 4294967296 + low ≡ big (b0 ∷ b1 ∷ b2 ∷ b3 ∷ b4 ∷ b5 ∷ b6 ∷ b7 ∷ [])
+    digits b0 b1 b2 b3 b4 b5 b6 b7 high low p q = omega (arith, p, q)

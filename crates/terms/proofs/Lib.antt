@@ -1,4 +1,4 @@
 pub mod Order
-pub mod Keys
+pub mod Testing
 pub mod Chunks
 pub mod Padding

@@ -60,6 +60,11 @@ below-trans (x ∷ xs) (y ∷ ys) (z ∷ zs) p q = chain x y z xs ys zs (below-c
     chain x y z xs ys zs (inr a) (inl b) k = below-first x z xs zs (omega arith)
     chain x y z xs ys zs (inr a) (inr b) k = below-rest x z xs zs (a .0 ∙ b .0) (k (a .1) (b .1))
 
+pub same-refl : (xs : List ℕ) → same xs xs ≡ true
+unfolding same
+same-refl [] = refl
+same-refl (x ∷ xs) = rw (eq-eqb x x refl) (same-refl xs)
+
 pub same-is : (xs ys : List ℕ) → same xs ys ≡ true → xs ≡ ys
 unfolding same
 same-is [] [] e = refl

@@ -6,6 +6,7 @@ use mathlib.Core.Bool.{Bool, true, false, cond}
 use mathlib.Core.List.{List, [], _∷_, _++_}
 use lib.Dec.{eqb, leb}
 use lib.ListN.{length, take, drop, replicate, length-append, length-replicate}
+use lib.Seq.{take-append-add}
 use borrow.Author.Tests.{leb-true}
 use Rattle.word.specs.Overwrite.{overwrite, part}
 use Rattle.word.proofs.Tests.{tests}
@@ -17,12 +18,15 @@ pub term-fits : (term : List ℕ) → termRight term ≡ true → length term �
 unfolding termRight
 term-fits term e = let q = simp tests at e in q .0 .1
 
+width-cases : (b : Bool) → (10 ≤ cond b 10 30) × (cond b 10 30 ≤ 30)
+width-cases true = (omega arith, omega arith)
+width-cases false = (omega arith, omega arith)
+
+pub width-low : (kind : ℕ) → 10 ≤ widthOf kind
+width-low kind = width-cases (eqb kind 1) .0
+
 pub width-high : (kind : ℕ) → widthOf kind ≤ 30
-width-high kind = at (eqb kind 1)
-  where
-    at : (b : Bool) → cond b 10 30 ≤ 30
-    at true = omega arith
-    at false = omega arith
+width-high kind = width-cases (eqb kind 1) .1
 
 module _ (term : List ℕ) where
   pub short-fits : kindFor term ≡ 1 → length term ≤ 10
@@ -54,11 +58,9 @@ take-replicate (suc n) zero v h = absurd (omega arith)
 take-replicate (suc n) (suc m) v h = ap (λ (l : List ℕ). v ∷ l) (take-replicate n m v (omega arith))
 
 take-over : (w : ℕ) (xs ys : List ℕ) → length xs ≤ w → take w (xs ++ ys) ≡ xs ++ take (w - length xs) ys
-take-over w [] ys h = let z : w - 0 ≡ w = omega arith in rw z
-take-over zero (x ∷ xs) ys h = absurd (omega arith)
-take-over (suc w) (x ∷ xs) ys h =
-    let z : suc w - length (x ∷ xs) ≡ w - length xs = omega arith in
-    rw z (ap (λ (l : List ℕ). x ∷ l) (take-over w xs ys (omega arith)))
+take-over w xs ys h =
+    let z : w ≡ length xs + (w - length xs) = omega arith in
+    ap (λ (k : ℕ). take k (xs ++ ys)) z ∙ take-append-add xs ys (w - length xs)
 
 module _ (term key : List ℕ) (h : length term ≤ 30) (k : key ≡ overwrite (replicate 30 32) 0 term) where
   key-is : key ≡ term ++ replicate (30 - length term) 32

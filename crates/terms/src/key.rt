@@ -1,15 +1,27 @@
 // Keys in lent slices, compared as unsigned bytes. Eight bytes at a time are compared as one number, whose order is theirs.
+use word::integer::u64_at;
 ghost use mathlib.Core.Path.{_≡_};
-ghost use Prim.Native.Nat.{_+_, _≤_, _<_};
+ghost use Prim.Native.Nat.{_+_, _≤_};
 ghost use lib.ListN.{length};
+ghost use Rattle.word.specs.Integer.{le};
 ghost use Rattle.word.specs.Overwrite.{part};
 ghost use Rattle.terms.specs.Key.{same, below};
 ghost use Rattle.terms.specs.Inner.{big};
 
-fn wide(x: u8) -> u64
-    ensures { λ r. ⌜ (r ≡ x) × (r < 256) ⌝ }
+// The number whose 8 bytes are those of `v` in the other order.
+fn swapped(v: u64) -> u64
+    ensures { λ r. ⌜ r ≡ big (le 8 v) ⌝ }
 {
-    x as u64
+    let b = v / 256;
+    let c = b / 256;
+    let d = c / 256;
+    let e = d / 256;
+    let f = e / 256;
+    let g = f / 256;
+    let h = g / 256;
+    let high = (v % 256) * 16777216 + (b % 256) * 65536 + (c % 256) * 256 + d % 256;
+    let low = (e % 256) * 16777216 + (f % 256) * 65536 + (g % 256) * 256 + h % 256;
+    high * 4294967296 + low
 }
 
 // The number whose digits are the 8 bytes at `at`, the first the highest.
@@ -17,69 +29,31 @@ fn eight(s: &[u8], at: usize) -> u64
     requires { ⌜ at + 8 ≤ length (now s) ⌝ }
     ensures { λ r. ⌜ r ≡ big (part (now (s .entry)) at 8) ⌝ }
 {
-    let a = wide(s[at]) * 16777216
-        + wide(s[at + 1]) * 65536
-        + wide(s[at + 2]) * 256
-        + wide(s[at + 3]);
-    let b = wide(s[at + 4]) * 16777216
-        + wide(s[at + 5]) * 65536
-        + wide(s[at + 6]) * 256
-        + wide(s[at + 7]);
-    a * 4294967296 + b
+    swapped(u64_at(s, at))
 }
 
-// Byte by byte.
-fn same_bytes(a: &[u8], i: usize, b: &[u8], j: usize, n: usize) -> bool
-    requires { ⌜ (i + n ≤ length (now a)) × (j + n ≤ length (now b)) ⌝ }
+// Whether keys that agree in their first 8 bytes agree: 8 bytes at a time, the last 8 of which may begin among those known to agree.
+fn same_rest(a: &[u8], i: usize, b: &[u8], j: usize, n: usize) -> bool
+    requires { ⌜ (8 ≤ n) × (i + n ≤ length (now a)) × (j + n ≤ length (now b)) × (part (now a) i 8 ≡ part (now b) j 8) ⌝ }
     ensures { λ r. ⌜ r ≡ same (part (now (a .entry)) i n) (part (now (b .entry)) j n) ⌝ }
 {
-    let mut k: usize = 0;
-    while k < n {
-        if a[i + k] != b[j + k] {
-            return false;
-        }
-        k += 1;
-    }
-    true
-}
-
-fn below_bytes(a: &[u8], i: usize, b: &[u8], j: usize, n: usize) -> bool
-    requires { ⌜ (i + n ≤ length (now a)) × (j + n ≤ length (now b)) ⌝ }
-    ensures { λ r. ⌜ r ≡ below (part (now (a .entry)) i n) (part (now (b .entry)) j n) ⌝ }
-{
-    let mut k: usize = 0;
-    while k < n {
-        let x = a[i + k];
-        let y = b[j + k];
-        if x != y {
-            return x < y;
-        }
-        k += 1;
-    }
-    false
-}
-
-// Whether the `n` bytes at `i` of `a` are those at `j` of `b`.
-pub fn same_key(a: &[u8], i: usize, b: &[u8], j: usize, n: usize) -> bool
-    requires { ⌜ (i + n ≤ length (now a)) × (j + n ≤ length (now b)) ⌝ }
-    ensures { λ r. ⌜ r ≡ same (part (now (a .entry)) i n) (part (now (b .entry)) j n) ⌝ }
-{
-    let mut k: usize = 0;
+    let mut k: usize = 8;
     while 8 <= n - k {
         if eight(a, i + k) != eight(b, j + k) {
             return false;
         }
         k += 8;
     }
-    same_bytes(a, i + k, b, j + k, n - k)
+    let m = n - 8;
+    eight(a, i + m) == eight(b, j + m)
 }
 
-// Whether the `n` bytes at `i` of `a` come before those at `j` of `b`.
-pub fn below_key(a: &[u8], i: usize, b: &[u8], j: usize, n: usize) -> bool
-    requires { ⌜ (i + n ≤ length (now a)) × (j + n ≤ length (now b)) ⌝ }
+// The same for their order.
+fn below_rest(a: &[u8], i: usize, b: &[u8], j: usize, n: usize) -> bool
+    requires { ⌜ (8 ≤ n) × (i + n ≤ length (now a)) × (j + n ≤ length (now b)) × (part (now a) i 8 ≡ part (now b) j 8) ⌝ }
     ensures { λ r. ⌜ r ≡ below (part (now (a .entry)) i n) (part (now (b .entry)) j n) ⌝ }
 {
-    let mut k: usize = 0;
+    let mut k: usize = 8;
     while 8 <= n - k {
         let x = eight(a, i + k);
         let y = eight(b, j + k);
@@ -88,5 +62,30 @@ pub fn below_key(a: &[u8], i: usize, b: &[u8], j: usize, n: usize) -> bool
         }
         k += 8;
     }
-    below_bytes(a, i + k, b, j + k, n - k)
+    let m = n - 8;
+    eight(a, i + m) < eight(b, j + m)
+}
+
+// Whether the `n` bytes at `i` of `a` are those at `j` of `b`. Most keys differ in their first 8 bytes.
+pub fn same_key(a: &[u8], i: usize, b: &[u8], j: usize, n: usize) -> bool
+    requires { ⌜ (8 ≤ n) × (i + n ≤ length (now a)) × (j + n ≤ length (now b)) ⌝ }
+    ensures { λ r. ⌜ r ≡ same (part (now (a .entry)) i n) (part (now (b .entry)) j n) ⌝ }
+{
+    if eight(a, i) != eight(b, j) {
+        return false;
+    }
+    same_rest(a, i, b, j, n)
+}
+
+// Whether the `n` bytes at `i` of `a` come before those at `j` of `b`.
+pub fn below_key(a: &[u8], i: usize, b: &[u8], j: usize, n: usize) -> bool
+    requires { ⌜ (8 ≤ n) × (i + n ≤ length (now a)) × (j + n ≤ length (now b)) ⌝ }
+    ensures { λ r. ⌜ r ≡ below (part (now (a .entry)) i n) (part (now (b .entry)) j n) ⌝ }
+{
+    let x = eight(a, i);
+    let y = eight(b, j);
+    if x != y {
+        return x < y;
+    }
+    below_rest(a, i, b, j, n)
 }

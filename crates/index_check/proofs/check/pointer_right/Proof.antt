@@ -33,8 +33,8 @@ key-place-requires-2 c κs = (
 same-key-requires : tie.Need-same-key-requires
 same-key-requires c κs =
     let p = c .before .before .before .before .before .before .before .before .before .pre in (
-      omega
-          (arith, active-in _ _ _ _ (p .1) (p .2)),
+      p .0 .nodes-fit .width-low,
+      omega (arith, active-in _ _ _ _ (p .1) (p .2)),
       omega
           (arith, first-in _ _ _ (p .0 .nodes-fit) (is-there _ _ _ _ (c .before .before .record-there .ensures) (c .before .if2 .left))),
     )
@@ -72,8 +72,8 @@ key-place-requires-3 c κs = (
 same-key-requires-2 : tie.Need-same-key-requires-2
 same-key-requires-2 c κs =
     let p = c .before .before .before .before .before .before .before .before .before .before .pre in (
-      omega
-          (arith, active-in _ _ _ _ (p .1) (p .2)),
+      p .0 .nodes-fit .width-low,
+      omega (arith, active-in _ _ _ _ (p .1) (p .2)),
       omega
           (arith, first-in _ _ _ (p .0 .leaves-fit .shape) (is-there _ _ _ _ (c .before .before .record-there2 .ensures) (c .before .if3 .left))),
     )

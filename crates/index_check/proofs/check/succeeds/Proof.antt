@@ -42,6 +42,7 @@ below-key-requires c κs =
     let p = c .before .before .before .before .before .before .before .pre in
     let f = right-facts _ _ _ (p .1) in
     let g = right-facts _ _ _ (p .2) in (
+      p .0 .shape .width-low,
       omega
           (arith, active-in _ _ _ (c .before .before .count-at .result - 1) (p .1) (omega arith)),
       omega (arith, active-in _ _ _ 0 (p .2) (omega arith)),
