@@ -1,6 +1,6 @@
 -- The tests of CNT's part and of records, by what each test found: one law per `return`, whose premises are what is known there.
 use Prim.Native.Nat.{ℕ, zero, suc, _+_, _*_, _-_, _<_, _≤_}
-use native.Mathlib.Nat.{add-zero, add-suc}
+use native.Mathlib.Nat.{add-zero, add-suc, suc-mul}
 use native.Mathlib.Numerals.{add-one}
 use native.Mathlib.Omega.{arith}
 use mathlib.Core.Path.{_≡_, refl, sym, ap, _∙_}
@@ -10,11 +10,11 @@ use lib.Dec.{eqb, leb}
 use lib.ListN.{length}
 use borrow.Author.Tests.{eq-eqb, ne-eqb, le-leb, lt-leb, lt-ltb, le-ltb, not-true, not-false}
 use Rattle.word.specs.Integer.{u16At, u32At}
-use Rattle.terms.specs.Key.{below, ascending, ascendingAfter}
+use Rattle.terms.specs.Inner.{keysRun}
 use Rattle.terms.specs.Term.{widthOf}
 use Rattle.terms.proofs.Padding.{width-low, width-high}
 use Rattle.index.specs.Inner.{TreeFits}
-use Rattle.index.specs.Layout.{sizeOf, placeOf, ockAt, puntAt, keyAt, keysOf, keysFrom, partPlace, treeOf, nodeShape, leafShape}
+use Rattle.index.specs.Layout.{sizeOf, placeOf, ockAt, puntAt, keyPlace, keysFrom, partPlace, treeOf, nodeShape, leafShape}
 use Rattle.index.specs.Rules.{orderRight, partRight, partOf, recordThere, recordRight, puntsRight, nodeRight}
 use Rattle.index.specs.declared.layout.Shape.{Shape}
 use Rattle.index.specs.declared.layout.Tree.{Tree}
@@ -140,34 +140,18 @@ unfolding partOf partRight treeOf
 part-right cnt kind id n m w root a b x y l i j p q r s t u v d e z =
     rw (d, e, z, v, ← p, ← s, ← i, eq-eqb _ _ l, eq-eqb _ _ j, ← q, ← t, not-false a r, not-false b u)
 
--- ---- the keys of a record ascend
+-- ---- the keys of a record, one after the other
 
-module _ (f : List ℕ) (s : Shape) (n count : ℕ) where
-  start : (m : ℕ) → ascending (keysFrom f s n (suc m) 0) ≡ ascendingAfter (keyAt f s n 0) (keysFrom f s n m 1)
-  unfolding ascending keysFrom
-  start m = refl
+place-next : (s : Shape) (n i : ℕ) → keyPlace s n (i + 1) ≡ keyPlace s n i + s .step
+unfolding keyPlace
+place-next s n i =
+    let z : i + 1 ≡ suc i = omega arith in
+    rw z (omega (arith, suc-mul i (s .step)))
 
-  pub keys-start : count ≡ ockAt f s n → 1 ≤ count → ascending (keysOf f s n) ≡ ascendingAfter (keyAt f s n (1 - 1)) (keysFrom f s n (count - 1) 1)
-  keys-start k h =
-      let e : count ≡ suc (count - 1) = omega arith in
-      ap (λ (m : ℕ). ascending (keysFrom f s n m 0)) (sym k ∙ e) ∙ start (count - 1)
-
-  module _ (r : Bool) (i : ℕ) (inv : r ≡ ascendingAfter (keyAt f s n (i - 1)) (keysFrom f s n (count - i) i)) where
-    pub keys-done : count ≤ i → true ≡ r
-    unfolding ascendingAfter keysFrom
-    keys-done h = let z : count - i ≡ 0 = omega arith in rw (inv, z)
-
-    keys-step : i < count
-        → r ≡ (below (keyAt f s n (i - 1)) (keyAt f s n i) && ascendingAfter (keyAt f s n i) (keysFrom f s n (count - (i + 1)) (i + 1)))
-    unfolding ascendingAfter keysFrom
-    keys-step h = let e : count - i ≡ suc (count - (i + 1)) = omega arith in rw (inv, e)
-
-    module _ (b : Bool) (h : i < count) (e : b ≡ below (keyAt f s n (i - 1)) (keyAt f s n i)) where
-      pub keys-stop : not b ≡ true → false ≡ r
-      keys-stop q = rw (keys-step h, ← e, not-true b q)
-
-      pub keys-more : not b ≡ false → r ≡ ascendingAfter (keyAt f s n (i + 1 - 1)) (keysFrom f s n (count - (i + 1)) (i + 1))
-      keys-more q = let z : i + 1 - 1 ≡ i = omega arith in rw (keys-step h, ← e, not-false b q, z)
+pub keys-run : (f : List ℕ) (s : Shape) (n k i : ℕ) → keysRun f (keyPlace s n i) (s .step) (s .width) k ≡ keysFrom f s n k i
+unfolding keysRun keysFrom
+keys-run f s n zero i = refl
+keys-run f s n (suc k) i = rw (← place-next s n i, keys-run f s n k (i + 1))
 
 -- a right node is a right record
 pub node-record : (f : List ℕ) (s : Shape) (n : ℕ) (b : Bool) → b ≡ nodeRight f s n → not b ≡ false → recordRight f s n ≡ true

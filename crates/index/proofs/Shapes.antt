@@ -88,3 +88,11 @@ pub active-in : (f : List ℕ) (s : Shape) (n i : ℕ) → recordRight f s n ≡
 active-in f s n i e h =
     let r = right-facts f s n e in
     omega (arith, entry-in s n i (omega arith))
+
+-- and all of them, one after the other
+pub keys-in : (f : List ℕ) (s : Shape) (n : ℕ) → recordRight f s n ≡ true → keyPlace s n 0 + ockAt f s n * s .step ≤ length f
+unfolding keyPlace sizeOf
+keys-in f s n e =
+    let r = right-facts f s n e in
+    let m : ockAt f s n * s .step ≤ s .most * s .step = mul-le-mul-right (s .step) (r .count-high) in
+    omega (arith, r .whole, m)

@@ -3,7 +3,6 @@ use crate::layout::Shape;
 use crate::layout::key_place;
 use crate::layout::place;
 use crate::layout::size;
-use terms::key::below_key;
 use word::integer::u16_at;
 use word::integer::u32_at;
 ghost use mathlib.Core.Path.{_≡_};
@@ -99,15 +98,6 @@ pub fn keys_ascend(file: &[u8], s: Shape, n: u32) -> bool
     ensures { λ r. ⌜ r ≡ ascending (keysOf (now (file .entry)) s n) ⌝ }
 {
     let count = count_at(file, s, n);
-    let mut at = key_place(s, n, 0);
-    let mut i: usize = 1;
-    while i < count {
-        let next = key_place(s, n, i);
-        if !below_key(file, at, file, next, s.width) {
-            return false;
-        }
-        at = next;
-        i += 1;
-    }
-    true
+    let at = key_place(s, n, 0);
+    terms::key::keys_ascend(file, at, s.step, s.width, count)
 }

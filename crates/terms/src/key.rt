@@ -1,12 +1,12 @@
 // Keys in lent slices, compared as unsigned bytes. Eight bytes at a time are compared as one number, whose order is theirs.
 use word::integer::u64_at;
 ghost use mathlib.Core.Path.{_≡_};
-ghost use Prim.Native.Nat.{_+_, _≤_};
+ghost use Prim.Native.Nat.{_+_, _*_, _≤_};
 ghost use lib.ListN.{length};
 ghost use Rattle.word.specs.Integer.{le};
 ghost use Rattle.word.specs.Overwrite.{part};
-ghost use Rattle.terms.specs.Key.{same, below};
-ghost use Rattle.terms.specs.Inner.{big};
+ghost use Rattle.terms.specs.Key.{same, below, ascending};
+ghost use Rattle.terms.specs.Inner.{big, keysRun};
 
 // The number whose 8 bytes are those of `v` in the other order.
 fn swapped(v: u64) -> u64
@@ -88,4 +88,22 @@ pub fn below_key(a: &[u8], i: usize, b: &[u8], j: usize, n: usize) -> bool
         return x < y;
     }
     below_rest(a, i, b, j, n)
+}
+
+// Whether `count` keys ascend strictly, of which the first is at `at` and each next one `step` bytes further.
+pub fn keys_ascend(file: &[u8], at: usize, step: usize, width: usize, count: usize) -> bool
+    requires { ⌜ (8 ≤ width) × (width ≤ step) × (1 ≤ count) × (at + count * step ≤ length (now file)) ⌝ }
+    ensures { λ r. ⌜ r ≡ ascending (keysRun (now (file .entry)) at step width count) ⌝ }
+{
+    let mut key = at;
+    let mut left = count - 1;
+    while 0 < left {
+        let next = key + step;
+        if !below_key(file, key, file, next, width) {
+            return false;
+        }
+        key = next;
+        left -= 1;
+    }
+    true
 }
