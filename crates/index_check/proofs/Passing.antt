@@ -15,11 +15,12 @@ use Rattle.index.specs.Lookup.{leafNumber}
 use Rattle.index.specs.Reading.{Met, Node, Leaf, TooDeep}
 use Rattle.index.specs.declared.layout.Shape.{Shape}
 use Rattle.index.specs.declared.layout.Tree.{Tree}
+use Rattle.terms.proofs.Order.{by-cases}
 use Rattle.word.proofs.Tests.{and-left, false-true}
 use Rattle.word.specs.Overwrite.{part}
 use Rattle.index_check.specs.Walk.{behind, behindFirst, walk}
 use Rattle.index_check.specs.Sound.{pointerRight, pointersRight}
-use Rattle.index_check.specs.Passes.{nodeSound, lastKey, follows, leafSound, leafStep, ended, Reached, isStopped, passOne, pass}
+use Rattle.index_check.specs.Passes.{nodeAscending, nodeSound, lastKey, follows, leafSound, leafStep, ended, Reached, isStopped, passOne, pass}
 use Rattle.index_check.specs.declared.check.Progress.{Progress}
 use Rattle.index_check.specs.declared.check.Progress.the-variants.{Stopped, Before, After}
 
@@ -64,10 +65,6 @@ module _ (nodes leaves : List ℕ) (t : Tree) (n : ℕ) where
   pointers-fail (suc d) i e = rw (add-suc, pointers-fail d i e)
 
   module _ (count : ℕ) (k : count ≡ ockAt nodes (t .nodes) n) where
-    pub pointers-done : (i : ℕ) → count ≤ i → i ≤ count → pointersRight nodes leaves t n i ≡ true
-        → true ≡ pointersRight nodes leaves t n (ockAt nodes (t .nodes) n)
-    pointers-done i h l inv = let z : count ≡ i = omega arith in rw (← k, z, inv)
-
     pub pointers-stop : (i : ℕ) (b : Bool) → i < count → b ≡ pointerRight nodes leaves t n i → not b ≡ true
         → false ≡ pointersRight nodes leaves t n (ockAt nodes (t .nodes) n)
     pointers-stop i b h e q =
@@ -75,21 +72,25 @@ module _ (nodes leaves : List ℕ) (t : Tree) (n : ℕ) where
         let z : suc i + d ≡ count = omega arith in
         rw (← k, ← z) (sym (pointers-fail d i (sym e ∙ not-true b q)))
 
-  -- ---- a node
+-- ---- a node
 
-  module _ (a : Bool) (e : a ≡ nodeRight nodes (t .nodes) n) where
-    pub sound-not-right : not a ≡ true → false ≡ nodeSound nodes leaves t n
-    unfolding nodeSound
-    sound-not-right q = rw (← e, not-true a q)
+module _ (nodes : List ℕ) (s : Shape) (n : ℕ) (a : Bool) (e : a ≡ nodeRight nodes s n) where
+  pub node-not-right : not a ≡ true → false ≡ nodeAscending nodes s n
+  unfolding nodeAscending
+  node-not-right q = rw (← e, not-true a q)
 
-    module _ (b : Bool) (q : not a ≡ false) (d : b ≡ ascending (keysOf nodes (t .nodes) n)) where
-      pub sound-not-ascending : not b ≡ true → false ≡ nodeSound nodes leaves t n
-      unfolding nodeSound
-      sound-not-ascending p = rw (← e, not-false a q, ← d, not-true b p)
+  pub node-rest : (b : Bool) → not a ≡ false → b ≡ ascending (keysOf nodes s n) → b ≡ nodeAscending nodes s n
+  unfolding nodeAscending
+  node-rest b q d = rw (← e, not-false a q, d)
 
-      pub sound-rest : (r : Bool) → not b ≡ false → r ≡ pointersRight nodes leaves t n (ockAt nodes (t .nodes) n) → r ≡ nodeSound nodes leaves t n
-      unfolding nodeSound
-      sound-rest r p z = rw (← e, not-false a q, ← d, not-false b p, z)
+module _ (nodes : List ℕ) (s : Shape) (n : ℕ) (a : Bool) (e : a ≡ nodeAscending nodes s n) (q : not a ≡ false) where
+  ascending-node : nodeRight nodes s n ≡ true
+  unfolding nodeAscending
+  ascending-node = and-left _ _ (sym e ∙ not-false a q)
+
+  pub ascending-record : recordRight nodes s n ≡ true
+  unfolding nodeRight
+  ascending-record = and-left _ _ ascending-node
 
 -- ---- a leaf
 
@@ -209,14 +210,19 @@ module _ (nodes leaves : List ℕ) (t : Tree) where
 
   -- ---- over a node
 
-  module _ (n : ℕ) (b : Bool) (e : b ≡ nodeSound nodes leaves t n) (q : not b ≡ false) where
-    sound-node : nodeRight nodes (t .nodes) n ≡ true
-    unfolding nodeSound
-    sound-node = and-left _ _ (and-left _ _ (sym e ∙ not-false b q))
+  module _ (n : ℕ) (a : Bool) (e : a ≡ nodeAscending nodes (t .nodes) n) where
+    module _ (q : not a ≡ false) where
+      node-sound : (i : ℕ) → ockAt nodes (t .nodes) n ≡ i → pointersRight nodes leaves t n i ≡ true → nodeSound nodes leaves t n ≡ true
+      unfolding nodeSound
+      node-sound i z p = rw (← e, not-false a q, z, p)
 
-    pub sound-record : recordRight nodes (t .nodes) n ≡ true
-    unfolding nodeRight
-    sound-record = and-left _ _ sound-node
+    not-ascending : not a ≡ true → nodeSound nodes leaves t n ≡ false
+    unfolding nodeSound
+    not-ascending q = rw (← e, not-true a q)
+
+  not-pointing : (n : ℕ) → false ≡ pointersRight nodes leaves t n (ockAt nodes (t .nodes) n) → nodeSound nodes leaves t n ≡ false
+  unfolding nodeSound
+  not-pointing n p = rw (← p, and-false)
 
   module _ (left n : ℕ) (w : Progress) where
     pub over-none : left ≡ 0 → Stopped ≡ pass nodes leaves t (walk nodes (t .nodes) left n) w
@@ -233,17 +239,9 @@ module _ (nodes leaves : List ℕ) (t : Tree) where
         let e : left ≡ suc (left - 1) = omega arith in
         ap (λ (k : ℕ). pass nodes leaves t (walk nodes (t .nodes) k n) w) e
 
-    module _ (b : Bool) (h : left ≡ 0 → ⊥) (e : b ≡ nodeSound nodes leaves t n) where
-      pub over-unsound : not b ≡ true → Stopped ≡ pass nodes leaves t (walk nodes (t .nodes) left n) w
-      over-unsound q = sym (over-step h ∙ rw (← e, not-true b q) (pass-stopped _))
-
-      -- all entries done
-      pub over-done : (count i : ℕ) (at : Progress) → not b ≡ false → count ≡ ockAt nodes (t .nodes) n → count ≤ i → i ≤ count
-          → at ≡ pass nodes leaves t (behindFirst (λ m. walk nodes (t .nodes) (left - 1) m) nodes (t .nodes) n i) w
-          → at ≡ pass nodes leaves t (walk nodes (t .nodes) left n) w
-      over-done count i at q k l m inv =
-          let z : ockAt nodes (t .nodes) n ≡ i = omega arith in
-          inv ∙ sym (over-step h ∙ rw (← e, not-false b q, sound-node n b e q, z))
+    module _ (h : left ≡ 0 → ⊥) where
+      unsound : nodeSound nodes leaves t n ≡ false → Stopped ≡ pass nodes leaves t (walk nodes (t .nodes) left n) w
+      unsound e = sym (over-step h ∙ rw e (pass-stopped _))
 
       over-rest : (from : ℕ → List Met) (d i : ℕ) → pass nodes leaves t (behindFirst from nodes (t .nodes) n i) w ≡ Stopped
           → pass nodes leaves t (behindFirst from nodes (t .nodes) n (i + d)) w ≡ Stopped
@@ -255,13 +253,32 @@ module _ (nodes leaves : List ℕ) (t : Tree) where
           ∙ ap (pass nodes leaves t (behind from (puntAt nodes (t .nodes) n (i + d)))) (over-rest from d i z)
           ∙ pass-stopped (behind from (puntAt nodes (t .nodes) n (i + d))))
 
-      -- stopped among the entries
-      pub over-stopped : (count i : ℕ) (at : Progress) → not b ≡ false → count ≡ ockAt nodes (t .nodes) n → i < count → at ≡ Stopped
-          → at ≡ pass nodes leaves t (behindFirst (λ m. walk nodes (t .nodes) (left - 1) m) nodes (t .nodes) n i) w
-          → Stopped ≡ pass nodes leaves t (walk nodes (t .nodes) left n) w
-      over-stopped count i at q k l s inv =
-          let z : i + (count - i) ≡ ockAt nodes (t .nodes) n = omega arith in
-          sym (over-step h ∙ rw (← e, not-false b q, sound-node n b e q, ← z) (over-rest (λ m. walk nodes (t .nodes) (left - 1) m) (count - i) i (sym inv ∙ s)))
+      module _ (a : Bool) (e : a ≡ nodeAscending nodes (t .nodes) n) where
+        pub over-unsound : not a ≡ true → Stopped ≡ pass nodes leaves t (walk nodes (t .nodes) left n) w
+        over-unsound q = unsound (not-ascending n a e q)
+
+        module _ (count i : ℕ) (q : not a ≡ false) (k : count ≡ ockAt nodes (t .nodes) n) where
+          -- all entries done
+          pub over-done : (at : Progress) → count ≤ i → i ≤ count → pointersRight nodes leaves t n i ≡ true
+              → at ≡ pass nodes leaves t (behindFirst (λ m. walk nodes (t .nodes) (left - 1) m) nodes (t .nodes) n i) w
+              → at ≡ pass nodes leaves t (walk nodes (t .nodes) left n) w
+          over-done at l m p inv =
+              let z : ockAt nodes (t .nodes) n ≡ i = omega arith in
+              inv ∙ sym (over-step h ∙ rw (node-sound n a e q i z p, ascending-node nodes (t .nodes) n a e q, z))
+
+          -- a pointer that is not right
+          pub over-pointer : (b : Bool) → i < count → b ≡ pointerRight nodes leaves t n i → not b ≡ true → Stopped ≡ pass nodes leaves t (walk nodes (t .nodes) left n) w
+          over-pointer b l p r = unsound (not-pointing n (pointers-stop nodes leaves t n count k i b l p r))
+
+          -- stopped among the entries
+          pub over-stopped : (at : Progress) → i < count → at ≡ Stopped
+              → at ≡ pass nodes leaves t (behindFirst (λ m. walk nodes (t .nodes) (left - 1) m) nodes (t .nodes) n i) w
+              → Stopped ≡ pass nodes leaves t (walk nodes (t .nodes) left n) w
+          over-stopped at l s inv =
+              let z : i + (count - i) ≡ ockAt nodes (t .nodes) n = omega arith in
+              by-cases (nodeSound nodes leaves t n)
+              (λ y. sym (over-step h ∙ rw (y, ascending-node nodes (t .nodes) n a e q, ← z) (over-rest (λ m. walk nodes (t .nodes) (left - 1) m) (count - i) i (sym inv ∙ s))))
+              unsound
 
   -- ---- one entry more
 

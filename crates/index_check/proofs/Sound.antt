@@ -19,7 +19,7 @@ use Rattle.terms.proofs.Order.{by-cases, never, below-irrefl, above, above-righ
 use Rattle.word.proofs.Tests.{and-iff, false-true}
 use Rattle.index_check.specs.Walk.{keysAlong}
 use Rattle.index_check.specs.Sound.{all, keepsRules, nodeAscends, pointsToFirst, pointersRight, notIn, noneTwice, successorsAfter, successorsRight, metSound}
-use Rattle.index_check.specs.Passes.{nodeSound, lastKey, follows, leafSound, leafStep, ended, passOne, pass}
+use Rattle.index_check.specs.Passes.{nodeAscending, nodeSound, lastKey, follows, leafSound, leafStep, ended, passOne, pass}
 use Rattle.index_check.specs.declared.check.Progress.{Progress}
 use Rattle.index_check.specs.declared.check.Progress.the-variants.{Stopped, Before, After}
 use Rattle.index_check.proofs.Passing.{pass-stopped}
@@ -91,7 +91,7 @@ module _ (nodes leaves : List ℕ) (t : Tree) where
 
   pub keeps-all : (ms : List Met)
       → ((all (keepsRules nodes leaves t) ms && all (nodeAscends nodes leaves t) ms) && all (pointsToFirst nodes leaves t) ms) ≡ all keeps ms
-  unfolding all nodeSound
+  unfolding all nodeSound nodeAscending
   keeps-all [] = refl
   keeps-all (Node n ∷ ms) =
       shuffle (nodeRight nodes (t .nodes) n) (ascending (keysOf nodes (t .nodes) n)) (pointersRight nodes leaves t n (ockAt nodes (t .nodes) n))

@@ -15,13 +15,14 @@ use Rattle.index_check.specs.Sound.{pointersRight}
 use Rattle.index_check.specs.declared.check.Progress.{Progress}
 use Rattle.index_check.specs.declared.check.Progress.the-variants.{Stopped, Before, After}
 
+-- the first two sentences of a node
+unfoldable pub nodeAscending : List ℕ → Shape → ℕ → Bool
+nodeAscending nodes s n = nodeRight nodes s n && ascending (keysOf nodes s n)
+
 module _ (nodes leaves : List ℕ) (t : Tree) where
-  -- the three sentences of a node
+  -- all three
   unfoldable pub nodeSound : ℕ → Bool
-  nodeSound n =
-      nodeRight nodes (t .nodes) n
-      && ascending (keysOf nodes (t .nodes) n)
-      && pointersRight nodes leaves t n (ockAt nodes (t .nodes) n)
+  nodeSound n = nodeAscending nodes (t .nodes) n && pointersRight nodes leaves t n (ockAt nodes (t .nodes) n)
 
 abbrev pub isStopped : Progress → Bool
 isStopped Stopped = true

@@ -19,12 +19,12 @@ ghost use mathlib.Core.Path.{_≡_};
 ghost use mathlib.Core.Bool.{true};
 ghost use Prim.Native.Nat.{_≤_, _<_};
 ghost use Rattle.index.specs.Files.{index};
-ghost use Rattle.index.specs.Inner.{LeafFits, TreeFits};
+ghost use Rattle.index.specs.Inner.{ShapeFits, LeafFits, TreeFits};
 ghost use Rattle.index.specs.Layout.{ockAt};
 ghost use Rattle.index.specs.Rules.{recordRight, partOf};
 ghost use Rattle.index_check.specs.Walk.{walk};
-ghost use Rattle.index_check.specs.Sound.{pointerRight, pointersRight, treeSound, indexAnswer};
-ghost use Rattle.index_check.specs.Passes.{nodeSound, follows, leafStep, pass, ended, Reached, isStopped};
+ghost use Rattle.index_check.specs.Sound.{pointerRight, treeSound, indexAnswer};
+ghost use Rattle.index_check.specs.Passes.{nodeAscending, follows, leafStep, pass, ended, Reached, isStopped};
 ghost use Rattle.index_check.specs.declared.check.Progress.the-variants.{After};
 
 // How far a walk is: stopped at a broken rule, before the first leaf, or after a leaf.
@@ -56,35 +56,15 @@ fn pointer_right(nodes: &[u8], leaves: &[u8], t: Tree, n: u32, i: usize) -> bool
     same_key(nodes, at, leaves, key_place(l, m, 0), s.width)
 }
 
-fn pointers_right(nodes: &[u8], leaves: &[u8], t: Tree, n: u32) -> bool
-    requires { ⌜ (TreeFits t) × (recordRight (now nodes) (t .nodes) n ≡ true) ⌝ }
-    ensures { λ r. ⌜ r ≡ pointersRight (now (nodes .entry)) (now (leaves .entry)) t n (ockAt (now (nodes .entry)) (t .nodes) n) ⌝ }
+// Whether node `n` keeps its rules and its keys ascend.
+fn node_ascends(nodes: &[u8], s: Shape, n: u32) -> bool
+    requires { ⌜ ShapeFits s ⌝ }
+    ensures { λ r. ⌜ r ≡ nodeAscending (now (nodes .entry)) s n ⌝ }
 {
-    let s = t.nodes;
-    let count = count_at(nodes, s, n);
-    let mut i: usize = 0;
-    while i < count {
-        if !pointer_right(nodes, leaves, t, n, i) {
-            return false;
-        }
-        i += 1;
-    }
-    true
-}
-
-// Whether node `n` keeps the three sentences of a node.
-fn node_sound(nodes: &[u8], leaves: &[u8], t: Tree, n: u32) -> bool
-    requires { ⌜ TreeFits t ⌝ }
-    ensures { λ r. ⌜ r ≡ nodeSound (now (nodes .entry)) (now (leaves .entry)) t n ⌝ }
-{
-    let s = t.nodes;
     if !node_right(nodes, s, n) {
         return false;
     }
-    if !keys_ascend(nodes, s, n) {
-        return false;
-    }
-    pointers_right(nodes, leaves, t, n)
+    keys_ascend(nodes, s, n)
 }
 
 // Whether leaf `n` is the successor of leaf `m`, and begins above its last key.
@@ -148,16 +128,19 @@ fn over_node(nodes: &[u8], leaves: &[u8], t: Tree, left: u32, n: u32, w: Progres
     if left == 0 {
         return Progress::Stopped;
     }
-    if !node_sound(nodes, leaves, t, n) {
+    let s = t.nodes;
+    if !node_ascends(nodes, s, n) {
         return Progress::Stopped;
     }
-    let s = t.nodes;
     let l = t.leaves;
     let count = count_at(nodes, s, n);
     let mut at = w;
     let mut i: usize = 0;
     while i < count {
         if stopped(at) {
+            return Progress::Stopped;
+        }
+        if !pointer_right(nodes, leaves, t, n, i) {
             return Progress::Stopped;
         }
         let punt = punt_at(nodes, s, n, i);

@@ -15,8 +15,7 @@ key-place-requires c κs = (c .before .before .pre .0, right-facts _ _ _ (c .bef
 keys-ascend-requires : tie.Need-keys-ascend-requires
 keys-ascend-requires c κs =
     let p = c .before .before .before .pre in
-    let k = c .before .count-at .ensures .0 in
-    (
+    let k = c .before .count-at .ensures .0 in (
       p .0 .width-low,
       omega (arith, p .0 .step-low),
       rw k (right-facts _ _ _ (p .1) .count-low),

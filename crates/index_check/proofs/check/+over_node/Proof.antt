@@ -1,23 +1,26 @@
 use mathlib.Core.Logic.{⊎-elim}
+use mathlib.Core.Bool.{true}
 use mathlib.Core.List.{List}
 use native.Mathlib.Omega.{arith}
 use Prim.Native.Nat.{_-_, _≤_, ℕ, _<_}
 use mathlib.Core.Path.{_≡_, refl, sym, _∙_}
 use borrow.Author.Needs.{needs}
-use Rattle.index_check.proofs.Passing.{over-none, over-unsound, sound-record, over-done, over-stopped, more-node, more-leaf, pass-reached, leaf-reached, stopped-is}
+use Rattle.index_check.proofs.Passing.{over-none, over-unsound, over-pointer, ascending-record, over-done, over-stopped, pointers-more, more-node, more-leaf, pass-reached, leaf-reached, stopped-is}
 use borrow.Fn.Kinds.{In}
 use borrow.Fn.PlainCycle.{Measures, is, falls, and}
 use Rattle.index.specs.Reading.{Met}
 use Rattle.index.proofs.Shapes.{right-facts}
 use Rattle.index_check.specs.Walk.{walk, behindFirst}
+use Rattle.index_check.specs.Sound.{pointersRight}
 use Rattle.index_check.specs.Passes.{pass, Reached}
 use Rattle.index_check.proofs.check.+over_node.{statement}
 use Rattle.index_check.proofs.check.+over_node.Tie.{close}
 use Rattle.index_check.proofs.check.over_node.Reads as over-node
 use Rattle.index_check.proofs.check.over_node.Kinds as over-node-kinds
 use Rattle.index_check.proofs.check.+over_node.Lts-over_node as over-node-lts
-use Rattle.index_check.proofs.check.node_sound.Reads as node-sound-reads
+use Rattle.index_check.proofs.check.node_ascends.Reads as node-ascends-reads
 use Rattle.index_check.proofs.check.over_leaf.Reads as over-leaf-reads
+use Rattle.index_check.proofs.check.pointer_right.Reads as pointer-right-reads
 use Rattle.index_check.proofs.check.stopped.Reads as stopped-reads
 use Rattle.index.proofs.rules.count_at.Reads as count-at-reads
 use Rattle.index.proofs.rules.punt_at.Reads as punt-at-reads
@@ -35,12 +38,14 @@ over-node-below t =
 -- what the functions that it calls ask and tell
 abbrev claims : ℕ → over-node-lts.Claims
 claims t = (
-  node-sound-reads.Asked,
-  node-sound-reads.Learnt,
+  node-ascends-reads.Asked,
+  node-ascends-reads.Learnt,
   count-at-reads.Asked,
   count-at-reads.Learnt,
   stopped-reads.Asked,
   stopped-reads.Learnt,
+  pointer-right-reads.Asked,
+  pointer-right-reads.Learnt,
   punt-at-reads.Asked,
   punt-at-reads.Learnt,
   over-node-below t,
@@ -52,105 +57,117 @@ claims t = (
 abbrev over-node-Inv-loop : over-node-lts.InvT-loop
 over-node-Inv-loop nodes leaves t left n s l count at₀ i₀ at i =
     (i ≤ count) × (Reached leaves (t .leaves) at) ×
-    (at ≡ pass nodes leaves t (behindFirst (λ m. walk nodes (t .nodes) (left - 1) m) nodes (t .nodes) n i) at₀)
+    (at ≡ pass nodes leaves t (behindFirst (λ m. walk nodes (t .nodes) (left - 1) m) nodes (t .nodes) n i) at₀) ×
+    (pointersRight nodes leaves t n i ≡ true)
 
 abbrev over-node-μ-loop : over-node-lts.MeasureT-loop
 over-node-μ-loop nodes leaves t left n s l count at₀ i₀ at i = count - i
 
 over-node-returns : (t : ℕ) → over-node-lts.Need-returns (claims t) (over-node-at t) over-node.Post over-node-Inv-loop over-node-μ-loop
-over-node-returns t c = over-none _ _ _ _ _ _ (c .if1 .taken)
+over-node-returns t c =
+    over-none _ _ _ _ _ _ (c .if1 .taken)
 
-over-node-node-sound-requires : (t : ℕ) → over-node-lts.Need-node-sound-requires (claims t) (over-node-at t) over-node.Post over-node-Inv-loop over-node-μ-loop
-over-node-node-sound-requires t c κs = c .before .before .before .pre .1 .0
+over-node-node-ascends-requires : (t : ℕ) → over-node-lts.Need-node-ascends-requires (claims t) (over-node-at t) over-node.Post over-node-Inv-loop over-node-μ-loop
+over-node-node-ascends-requires t c κs =
+    c .before .before .before .before .pre .1 .0 .nodes-fit
 
 over-node-returns-2 : (t : ℕ) → over-node-lts.Need-returns-2 (claims t) (over-node-at t) over-node.Post over-node-Inv-loop over-node-μ-loop
-over-node-returns-2 t c = over-unsound _ _ _ _ _ _ _ (c .before .before .if1 .left) (c .before .node-sound .ensures) (c .if2 .taken)
+over-node-returns-2 t c =
+    over-unsound _ _ _ _ _ _ (c .before .before .before .if1 .left) _ (c .before .node-ascends .ensures) (c .if2 .taken)
 
 over-node-count-at-requires : (t : ℕ) → over-node-lts.Need-count-at-requires (claims t) (over-node-at t) over-node.Post over-node-Inv-loop over-node-μ-loop
 over-node-count-at-requires t c κs =
-    let c3 = c .before .before .before in
-    let c7 = c3 .before .before .before .before in
-    (c7 .pre .1 .0 .nodes-fit, right-facts _ _ _ (sound-record _ _ _ _ _ (c3 .node-sound .ensures) (c .before .before .if2 .left)) .there)
+    (c .before .before .before .before .before .before .before .pre .1 .0 .nodes-fit, right-facts _ _ _ (ascending-record _ _ _ _ (c .before .before .node-ascends .ensures) (c .before .if2 .left)) .there)
 
 over-node-loop-holds : (t : ℕ) → over-node-lts.Need-loop-holds (claims t) (over-node-at t) over-node.Post over-node-Inv-loop over-node-μ-loop
-unfolding pass behindFirst
-over-node-loop-holds t c = (omega arith, c .before .before .before .before .before .before .before .before .pre .1 .1, refl)
+unfolding pass behindFirst pointersRight
+over-node-loop-holds t c =
+    (omega arith, c .before .before .before .before .before .before .before .before .pre .1 .1, refl, refl)
 
 over-node-stopped-requires : (t : ℕ) → over-node-lts.Need-stopped-requires (claims t) (over-node-at t) over-node.Post over-node-Inv-loop over-node-μ-loop
-over-node-stopped-requires t c κs = search needs
+over-node-stopped-requires t c κs =
+    search needs
 
 over-node-returns-3 : (t : ℕ) → over-node-lts.Need-returns-3 (claims t) (over-node-at t) over-node.Post over-node-Inv-loop over-node-μ-loop
 over-node-returns-3 t c =
-    let c3 = c .before .before .before in
-    let c4 = c3 .before in
-    let c7 = c4 .before .before .before in
-    let c8 = c7 .before in
-    let c9 = c8 .before in
-    over-stopped _ _ _ _ _ _ _ (c9 .if1 .left) (c8 .node-sound .ensures) _ _ _ (c7 .if2 .left) (c4 .count-at .ensures .0)
-    (c .before .before .loop-test .taken) (stopped-is _ (sym (c .before .stopped .ensures) ∙ c .if3 .taken)) (c3 .loop .inv .2)
+    let o = c .before .before .before in
+    over-stopped _ _ _ _ _ _ (o .before .before .before .before .before .before .if1 .left) _ (o .before .before .before .before .node-ascends .ensures) _ _ (o .before .before .before .if2 .left)
+    (o .before .count-at .ensures .0) _ (c .before .before .loop-test .taken) (stopped-is _ (sym (c .before .stopped .ensures) ∙ c .if3 .taken)) (o .loop .inv .2)
+
+over-node-pointer-right-requires : (t : ℕ) → over-node-lts.Need-pointer-right-requires (claims t) (over-node-at t) over-node.Post over-node-Inv-loop over-node-μ-loop
+over-node-pointer-right-requires t c κs =
+    let o = c .before .before .before in
+    (o .before .before .before .before .before .before .before .before .before .pre .1 .0, ascending-record _ _ _ _ (o .before .before .before .before .node-ascends .ensures) (o .before .before .before .if2 .left), omega (arith, o .before .count-at .ensures .0, c .before .before .loop-test .taken))
+
+over-node-returns-4 : (t : ℕ) → over-node-lts.Need-returns-4 (claims t) (over-node-at t) over-node.Post over-node-Inv-loop over-node-μ-loop
+over-node-returns-4 t c =
+    let o = c .before .before .before .before .before in
+    over-pointer _ _ _ _ _ _ (o .before .before .before .before .before .before .if1 .left) _ (o .before .before .before .before .node-ascends .ensures) _ _ (o .before .before .before .if2 .left)
+    (o .before .count-at .ensures .0) _ (c .before .before .before .before .loop-test .taken) (c .before .pointer-right .ensures) (c .if4 .taken)
 
 over-node-punt-at-requires : (t : ℕ) → over-node-lts.Need-punt-at-requires (claims t) (over-node-at t) over-node.Post over-node-Inv-loop over-node-μ-loop
 over-node-punt-at-requires t c κs =
-    let p = c .before .before .before .before .before .before .before .before .before .before .before .before .pre in (
-      p .1 .0 .nodes-fit,
-      (sound-record _ _ _ _ _ (c .before .before .before .before .before .before .before .before .node-sound .ensures) (c .before .before .before .before .before .before .before .if2 .left)),
-      omega arith,
-    )
+    let o = c .before .before .before .before .before in
+    (o .before .before .before .before .before .before .before .before .before .pre .1 .0 .nodes-fit, ascending-record _ _ _ _ (o .before .before .before .before .node-ascends .ensures) (o .before .before .before .if2 .left), omega (arith, o .before .count-at .ensures .0, c .before .before .before .before .loop-test .taken))
 
 over-node-sub-over-node : (t : ℕ) → over-node-lts.Need-sub-over-node (claims t) (over-node-at t) over-node.Post over-node-Inv-loop over-node-μ-loop
-over-node-sub-over-node t c = omega arith
+over-node-sub-over-node t c =
+    omega arith
 
 over-node-over-node-requires : (t : ℕ) → over-node-lts.Need-over-node-requires (claims t) (over-node-at t) over-node.Post over-node-Inv-loop over-node-μ-loop
-over-node-over-node-requires t c κs = (
-  omega arith,
-  (
-    c .before .before .before .before .before .before .before .before .before .before .before .before .before .before .pre .1 .0,
-    c .before .before .before .before .before .loop .inv .1,
-  ),
-)
+over-node-over-node-requires t c κs =
+    let o = c .before .before .before .before .before .before .before in
+    (omega arith, (o .before .before .before .before .before .before .before .before .before .pre .1 .0, o .loop .inv .1))
 
 over-node-sub-over-leaf : (t : ℕ) → over-node-lts.Need-sub-over-leaf (claims t) (over-node-at t) over-node.Post over-node-Inv-loop over-node-μ-loop
-over-node-sub-over-leaf t c = omega arith
+over-node-sub-over-leaf t c =
+    omega arith
 
 over-node-add-over-leaf : (t : ℕ) → over-node-lts.Need-add-over-leaf (claims t) (over-node-at t) over-node.Post over-node-Inv-loop over-node-μ-loop
-over-node-add-over-leaf t c = omega arith
+over-node-add-over-leaf t c =
+    omega arith
 
 over-node-over-leaf-requires : (t : ℕ) → over-node-lts.Need-over-leaf-requires (claims t) (over-node-at t) over-node.Post over-node-Inv-loop over-node-μ-loop
 over-node-over-leaf-requires t c κs =
-    let c5 = c .before .before .before .before .before in
-    let c14 = c5 .before .before .before .before .before .before .before .before .before in
-    (c14 .pre .1 .0 .leaves-fit, c5 .loop .inv .1)
+    let o = c .before .before .before .before .before .before .before in
+    (o .before .before .before .before .before .before .before .before .before .pre .1 .0 .leaves-fit, o .loop .inv .1)
 
 over-node-add-i : (t : ℕ) → over-node-lts.Need-add-i (claims t) (over-node-at t) over-node.Post over-node-Inv-loop over-node-μ-loop
-over-node-add-i t c = omega arith
+over-node-add-i t c =
+    omega arith
 
 over-node-loop-less : (t : ℕ) → over-node-lts.Need-loop-less (claims t) (over-node-at t) over-node.Post over-node-Inv-loop over-node-μ-loop
-over-node-loop-less t c = omega arith
+over-node-loop-less t c =
+    omega arith
 
 over-node-loop-again : (t : ℕ) → over-node-lts.Need-loop-again (claims t) (over-node-at t) over-node.Post over-node-Inv-loop over-node-μ-loop
 over-node-loop-again t c =
-    let a = c .before .before .before .before .before .before .before .before .before .before .before .before .before .before .args in
-    let l = c .before .before .before .before .before .loop in
+    let o = c .before .before .before .before .before .before .before in
+    let a = o .before .before .before .before .before .before .before .before .before .args in
+    let l = o .loop in
     let p = c .before .punt-at .ensures in
+    let r = pointers-more _ _ _ _ _ _ (l .inv .3) (c .before .before .before .pointer-right .ensures) (c .before .before .if4 .left) in
     let from : ℕ → List Met = λ m. walk (a .nodes .now) (a .t .nodes) (a .left - 1) m in
     ⊎-elim
     (λ w. (
       omega arith,
       rw (w .2, w .1 .ensures) (pass-reached _ _ _ _ _ (l .inv .1)),
       rw (w .2) (more-node _ _ _ from _ _ _ _ _ p (l .inv .2) _ (w .0 .taken) (w .1 .ensures)),
+      r,
     ))
     (λ w. (
       omega arith,
       rw (w .2, w .1 .ensures) (leaf-reached (a .nodes .now) _ (a .t) _ _),
       rw (w .2) (more-leaf _ _ _ from _ _ _ _ _ p (l .inv .2) _ (w .0 .left) (omega arith) (w .1 .ensures)),
+      r,
     ))
-    (c .if4 .came)
+    (c .if5 .came)
 
-over-node-returns-4 : (t : ℕ) → over-node-lts.Need-returns-4 (claims t) (over-node-at t) over-node.Post over-node-Inv-loop over-node-μ-loop
-over-node-returns-4 t c =
-    over-done _ _ _ _ _ _ _ (c .before .before .before .before .before .before .before .if1 .left)
-    (c .before .before .before .before .before .before .node-sound .ensures) _ _ _ (c .before .before .before .before .before .if2 .left)
-    (c .before .before .count-at .ensures .0) (omega arith) (c .before .loop .inv .0) (c .before .loop .inv .2)
+over-node-returns-5 : (t : ℕ) → over-node-lts.Need-returns-5 (claims t) (over-node-at t) over-node.Post over-node-Inv-loop over-node-μ-loop
+over-node-returns-5 t c =
+    let o = c .before in
+    over-done _ _ _ _ _ _ (o .before .before .before .before .before .before .if1 .left) _ (o .before .before .before .before .node-ascends .ensures) _ _ (o .before .before .before .if2 .left)
+    (o .before .count-at .ensures .0) _ (omega arith) (o .loop .inv .0) (o .loop .inv .3) (o .loop .inv .2)
 
 pub +over-node-spec : {M : Type 1} → statement M
 +over-node-spec = close μ-over-node λ t. over-node-lts.spec (claims t)
@@ -159,12 +176,14 @@ pub +over-node-spec : {M : Type 1} → statement M
     over-node-Inv-loop
     over-node-μ-loop
     (over-node-returns t)
-    (over-node-node-sound-requires t)
+    (over-node-node-ascends-requires t)
     (over-node-returns-2 t)
     (over-node-count-at-requires t)
     (over-node-loop-holds t)
     (over-node-stopped-requires t)
     (over-node-returns-3 t)
+    (over-node-pointer-right-requires t)
+    (over-node-returns-4 t)
     (over-node-punt-at-requires t)
     (over-node-sub-over-node t)
     (over-node-over-node-requires t)
@@ -174,4 +193,4 @@ pub +over-node-spec : {M : Type 1} → statement M
     (over-node-add-i t)
     (over-node-loop-less t)
     (over-node-loop-again t)
-    (over-node-returns-4 t)
+    (over-node-returns-5 t)

@@ -61,8 +61,7 @@ loop-again c =
     let start = c .before .before .before .before .before in
     let l = c .before .before .before .loop in
     let m = run-more (l .left) (start .args .step) (c .before .before .loop-test .taken) in
-    let o = run-one (l .left - 1) (start .args .step) in
-    (
+    let o = run-one (l .left - 1) (start .args .step) in (
       omega (arith, m, l .inv .0),
       run-next (start .args .file .now) (start .args .step) (start .args .width) _ (l .key) (l .left) (l .inv .1) _ (c .before .before .loop-test .taken)
           (c .before .below-key .ensures) (c .if1 .left),
