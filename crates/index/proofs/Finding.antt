@@ -1,15 +1,16 @@
 -- The lookup, by what each step found: one law per `return` and per turn of a loop.
-use Prim.Native.Nat.{ℕ, suc, _+_, _-_, _<_, _≤_}
+use Prim.Native.Nat.{ℕ, zero, suc, _+_, _-_, _<_, _≤_}
 use native.Mathlib.Nat.{sub-zero}
 use native.Mathlib.Omega.{arith}
-use mathlib.Core.Path.{_≡_, ap, _∙_}
+use mathlib.Core.Path.{_≡_, refl, sym, ap, _∙_}
 use mathlib.Core.Bool.{Bool, true, false, not, cond}
 use mathlib.Core.List.{List}
 use borrow.Author.Tests.{eq-eqb, ne-eqb, lt-ltb, le-ltb, not-true, not-false}
 use Rattle.terms.specs.Key.{same, below}
+use Rattle.index.specs.Inner.{TreeFits, treeWith}
 use Rattle.index.specs.Layout.{ockAt, keyAt, puntAt, blockAt, wordAt}
 use Rattle.index.specs.Rules.{recordRight, nodeRight}
-use Rattle.index.specs.Lookup.{entriesFrom, entriesOf, firstEqual, leafAnswer, lastPunt, onward, descend}
+use Rattle.index.specs.Lookup.{entriesFrom, entriesOf, firstEqual, leafAnswer, lastPunt, puntFor, onward, descend}
 use Rattle.index.specs.declared.layout.Shape.{Shape}
 use Rattle.index.specs.declared.layout.Tree.{Tree}
 use Rattle.index.specs.declared.lookup.Found.{Found}
@@ -95,9 +96,28 @@ module _ (nodes leaves : List ℕ) (t : Tree) (key : List ℕ) (left n : ℕ) wh
         unfolding onward
         down-node l d = rw (down-step h, ← e, not-false b q, ← p, ne-eqb _ _ z, lt-ltb _ _ l, d)
 
-        pub down-leaf : (other : List ℕ) → key ≡ other → 2147483648 ≤ punt → punt < 4294967296 → r ≡ leafAnswer leaves (t .leaves) other (4294967295 - punt + 1)
-            → r ≡ descend nodes leaves t key left n
+        pub down-leaf : 2147483648 ≤ punt → punt < 4294967296 → r ≡ leafAnswer leaves (t .leaves) key (4294967295 - punt + 1) → r ≡ descend nodes leaves t key left n
         unfolding onward
-        down-leaf other o l m d =
+        down-leaf l m d =
             let k : 4294967295 - punt + 1 ≡ 4294967296 - punt = omega arith in
-            rw (down-step h, ← e, not-false b q, ← p, ne-eqb _ _ z, le-ltb _ _ l, d, k, o)
+            rw (down-step h, ← e, not-false b q, ← p, ne-eqb _ _ z, le-ltb _ _ l, d, k)
+
+-- the root is of no account to the way from a node
+module _ (nodes leaves : List ℕ) (t : Tree) (key : List ℕ) where
+  abbrev rootless : Tree
+  rootless = record { nodes = t .nodes; leaves = t .leaves; root = 0 }
+
+  pub down-rootless : (left n : ℕ) → descend nodes leaves t key left n ≡ descend nodes leaves rootless key left n
+  unfolding descend onward
+  down-rootless zero n = refl
+  down-rootless (suc left) n = rw (down-rootless left (puntFor nodes (t .nodes) key n))
+
+  -- so it goes by the tree's numbers
+  pub down-numbers : TreeFits t → (left n : ℕ)
+      → descend nodes leaves (treeWith (t .nodes .kind) (t .nodes .width) (t .nodes .most) (t .leaves .most)) key left n ≡ descend nodes leaves t key left n
+  down-numbers f left n =
+      let z : treeWith (t .nodes .kind) (t .nodes .width) (t .nodes .most) (t .leaves .most) ≡ rootless = same (f .nodes-are) (f .leaves-are) in
+      ap (λ (u : Tree). descend nodes leaves u key left n) z ∙ sym (down-rootless left n)
+    where
+      same : {x y z w : Shape} → y ≡ x → w ≡ z → _≡_ {A = Tree} (record { nodes = x; leaves = z; root = 0 }) (record { nodes = y; leaves = w; root = 0 })
+      same p q = rw (p, q)

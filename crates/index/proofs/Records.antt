@@ -3,7 +3,7 @@ use Prim.Native.Nat.{ℕ, zero, suc, _+_, _*_, _-_, _<_, _≤_}
 use native.Mathlib.Nat.{add-zero, add-suc, suc-mul}
 use native.Mathlib.Numerals.{add-one}
 use native.Mathlib.Omega.{arith}
-use mathlib.Core.Path.{_≡_, refl, sym, ap, _∙_}
+use mathlib.Core.Path.{_≡_, refl, sym, subst, _∙_}
 use mathlib.Core.Bool.{Bool, true, false, not, _&&_, cond, and-false}
 use mathlib.Core.List.{List}
 use lib.Dec.{eqb, leb}
@@ -13,7 +13,7 @@ use Rattle.word.specs.Integer.{u16At, u32At}
 use Rattle.terms.specs.Inner.{keysRun}
 use Rattle.terms.specs.Term.{widthOf}
 use Rattle.terms.proofs.Padding.{width-low, width-high}
-use Rattle.index.specs.Inner.{TreeFits}
+use Rattle.index.specs.Inner.{ShapeFits, LeafFits, TreeFits, treeWith}
 use Rattle.index.specs.Layout.{sizeOf, placeOf, ockAt, puntAt, keyPlace, keysFrom, partPlace, treeOf, nodeShape, leafShape}
 use Rattle.index.specs.Rules.{orderRight, partRight, partOf, recordThere, recordRight, puntsRight, nodeRight}
 use Rattle.index.specs.declared.layout.Shape.{Shape}
@@ -134,7 +134,7 @@ pub ruleset record-answers = (there-none, there-negative, there-rest, right-not-
 
 pub part-right : (cnt : List ℕ) (kind id n m w root : ℕ) (a b : Bool) (x y : Shape) → length cnt ≡ 52 → id ≡ u16At cnt (partPlace kind) → id ≡ kind
     → n ≡ u16At cnt (partPlace kind + 2) → a ≡ orderRight n → not a ≡ false → m ≡ u16At cnt (partPlace kind + 4) → b ≡ orderRight m → not b ≡ false
-    → w ≡ widthOf kind → x ≡ nodeShape kind w n → y ≡ leafShape kind w m → root ≡ u32At cnt (partPlace kind + 12)
+    → w ≡ widthOf kind → x ≡ nodeShape kind w (2 * n) → y ≡ leafShape kind w (2 * m) → root ≡ u32At cnt (partPlace kind + 12)
     → Right (record { nodes = x; leaves = y; root = root }) ≡ partOf cnt kind
 unfolding partOf partRight treeOf
 part-right cnt kind id n m w root a b x y l i j p q r s t u v d e z =
@@ -173,7 +173,8 @@ module _ (cnt : List ℕ) (kind : ℕ) where
           head-leaf = omega arith;
           step-leaf = omega arith;
         };
-        widths = refl;
+        nodes-are = refl;
+        leaves-are = refl;
       }
 
   part-cases : (b : Bool) (u t : Tree) → (b ≡ true → TreeFits u) → cond b (Right u) Wrong ≡ Right t → TreeFits t
@@ -183,3 +184,13 @@ module _ (cnt : List ℕ) (kind : ℕ) where
   pub part-fits : (p : Part) (t : Tree) → p ≡ partOf cnt kind → p ≡ Right t → TreeFits t
   unfolding partOf
   part-fits p t e q = part-cases (partRight cnt kind) (treeOf cnt kind) t tree-fits (sym e ∙ q)
+
+-- and the one that its numbers give
+pub numbers-fit : (t : Tree) → TreeFits t → TreeFits (treeWith (t .nodes .kind) (t .nodes .width) (t .nodes .most) (t .leaves .most))
+numbers-fit t f =
+    record {
+      nodes-fit = subst ShapeFits (f .nodes-are) (f .nodes-fit);
+      leaves-fit = subst LeafFits (f .leaves-are) (f .leaves-fit);
+      nodes-are = refl;
+      leaves-are = refl;
+    }

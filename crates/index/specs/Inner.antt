@@ -1,6 +1,7 @@
 -- Inner: serves functions of this crate and of the check, no part of what is promised.
 use Prim.Native.Nat.{ℕ, _+_, _≤_}
 use mathlib.Core.Path.{_≡_}
+use Rattle.index.specs.Layout.{nodeShape, leafShape}
 use Rattle.index.specs.declared.layout.Shape.{Shape}
 use Rattle.index.specs.declared.layout.Tree.{Tree}
 
@@ -25,4 +26,9 @@ pub record LeafFits (s : Shape) : Type 0 where
 pub record TreeFits (t : Tree) : Type 0 where
   pub nodes-fit : ShapeFits (t .nodes)
   pub leaves-fit : LeafFits (t .leaves)
-  pub widths : t .nodes .width ≡ t .leaves .width
+  pub nodes-are : t .nodes ≡ nodeShape (t .nodes .kind) (t .nodes .width) (t .nodes .most)
+  pub leaves-are : t .leaves ≡ leafShape (t .nodes .kind) (t .nodes .width) (t .leaves .most)
+
+-- the tree of which recursive functions are given the numbers; its root is of no account to them
+abbrev pub treeWith : ℕ → ℕ → ℕ → ℕ → Tree
+treeWith kind width nodes leaves = record { nodes = nodeShape kind width nodes; leaves = leafShape kind width leaves; root = 0 }

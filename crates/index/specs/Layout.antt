@@ -51,17 +51,17 @@ posrxAt cnt kind = u32At cnt (partPlace kind + 12)
 -- the records of a node file and of a leaf file: the tree's type, the bytes before the entries, the key's width, the bytes of an entry, and
 -- how many entries there are
 abbrev pub nodeShape : ℕ → ℕ → ℕ → Shape
-nodeShape kind width ordn = record { kind = kind; head = 8; width = width; step = width + 4; most = 2 * ordn }
+nodeShape kind width most = record { kind = kind; head = 8; width = width; step = width + 4; most = most }
 
 abbrev pub leafShape : ℕ → ℕ → ℕ → Shape
-leafShape kind width ordf = record { kind = kind; head = 12; width = width; step = width + 8; most = 2 * ordf }
+leafShape kind width most = record { kind = kind; head = 12; width = width; step = width + 8; most = most }
 
 -- the tree that CNT's part describes
 unfoldable pub treeOf : List ℕ → ℕ → Tree
 treeOf cnt kind =
     record {
-      nodes = nodeShape kind (widthOf kind) (ordnAt cnt kind);
-      leaves = leafShape kind (widthOf kind) (ordfAt cnt kind);
+      nodes = nodeShape kind (widthOf kind) (2 * ordnAt cnt kind);
+      leaves = leafShape kind (widthOf kind) (2 * ordfAt cnt kind);
       root = posrxAt cnt kind;
     }
 

@@ -65,7 +65,7 @@ pub fn key_place(s: Shape, n: u32, i: usize) -> usize
 
 fn node_shape(kind: u16, width: usize, ordn: u16) -> Shape
     requires { ⌜ (width ≤ 30) × (ordn ≤ orderMost) ⌝ }
-    ensures { λ r. ⌜ r ≡ nodeShape kind width ordn ⌝ }
+    ensures { λ r. ⌜ r ≡ nodeShape kind width (2 * ordn) ⌝ }
 {
     Shape {
         kind,
@@ -78,7 +78,7 @@ fn node_shape(kind: u16, width: usize, ordn: u16) -> Shape
 
 fn leaf_shape(kind: u16, width: usize, ordf: u16) -> Shape
     requires { ⌜ (width ≤ 30) × (ordf ≤ orderMost) ⌝ }
-    ensures { λ r. ⌜ r ≡ leafShape kind width ordf ⌝ }
+    ensures { λ r. ⌜ r ≡ leafShape kind width (2 * ordf) ⌝ }
 {
     Shape {
         kind,

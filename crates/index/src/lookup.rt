@@ -1,7 +1,6 @@
 // The lookup of a term: the way down through the nodes by recursion, and the search in the leaf.
 use crate::layout::Part;
 use crate::layout::Shape;
-use crate::layout::Tree;
 use crate::layout::key_place;
 use crate::layout::read_part;
 use crate::rules::count_at;
@@ -23,7 +22,7 @@ ghost use lib.ListN.{length};
 ghost use Rattle.word.specs.Overwrite.{part};
 ghost use Rattle.terms.specs.Term.{padded, widthOf};
 ghost use Rattle.index.specs.Files.{index};
-ghost use Rattle.index.specs.Inner.{ShapeFits, LeafFits, TreeFits};
+ghost use Rattle.index.specs.Inner.{ShapeFits, LeafFits, TreeFits, treeWith};
 ghost use Rattle.index.specs.Rules.{recordRight, partOf};
 ghost use Rattle.index.specs.Lookup.{answerOf, blockOf, wordOf, entriesOf, firstEqual, leafAnswer, puntFor, descend, searchTree, lookupOf};
 
@@ -122,15 +121,32 @@ fn last_punt(file: &[u8], s: Shape, key: &[u8], n: u32) -> u32
     0
 }
 
-// From node `n` down to the leaf, over at most `left` nodes.
-fn go_down(nodes: &[u8], leaves: &[u8], t: Tree, key: &[u8], left: u32, n: u32) -> Found
-    requires { ⌜ (TreeFits t) × (t .nodes .width ≤ length (now key)) ⌝ }
-    ensures { λ r. ⌜ r ≡ descend (now (nodes .entry)) (now (leaves .entry)) t (part (now (key .entry)) 0 (t .nodes .width)) left n ⌝ }
+// From node `n` down to the leaf, over at most `left` nodes. The tree comes as its numbers, which stay in registers: its type, the keys' width, and how many
+// entries nodes and leaves have.
+fn go_down(
+    nodes: &[u8],
+    leaves: &[u8],
+    key: &[u8],
+    kind: u16,
+    width: usize,
+    entries: usize,
+    items: usize,
+    left: u32,
+    n: u32,
+) -> Found
+    requires { ⌜ (TreeFits (treeWith kind width entries items)) × (width ≤ length (now key)) ⌝ }
+    ensures { λ r. ⌜ r ≡ descend (now (nodes .entry)) (now (leaves .entry)) (treeWith kind width entries items) (part (now (key .entry)) 0 width) left n ⌝ }
 {
     if left == 0 {
         return Found::BadIndex;
     }
-    let s = t.nodes;
+    let s = Shape {
+        kind,
+        head: 8,
+        width,
+        step: width + 4,
+        most: entries,
+    };
     if !node_right(nodes, s, n) {
         return Found::BadIndex;
     }
@@ -139,9 +155,25 @@ fn go_down(nodes: &[u8], leaves: &[u8], t: Tree, key: &[u8], left: u32, n: u32) 
         return Found::NoTerm;
     }
     if punt < 2147483648 {
-        return go_down(nodes, leaves, t, key, left - 1, punt);
+        return go_down(
+            nodes,
+            leaves,
+            key,
+            kind,
+            width,
+            entries,
+            items,
+            left - 1,
+            punt,
+        );
     }
-    let l = t.leaves;
+    let l = Shape {
+        kind,
+        head: 12,
+        width,
+        step: width + 8,
+        most: items,
+    };
     leaf_answer(leaves, l, key, 4294967295 - punt + 1)
 }
 
@@ -156,7 +188,19 @@ fn lookup_in(cnt: &[u8], nodes: &[u8], leaves: &[u8], kind: u16, term: &[u8]) ->
     };
     let mut key = [SPACE; 30];
     copy_to(&mut key, 0, term);
-    go_down(nodes, leaves, t, &key, NODES_MOST, t.root)
+    let s = t.nodes;
+    let l = t.leaves;
+    go_down(
+        nodes,
+        leaves,
+        &key,
+        s.kind,
+        s.width,
+        s.most,
+        l.most,
+        NODES_MOST,
+        t.root,
+    )
 }
 
 // Looks a term up: block and word of the first equal key, or 20, 21 or 22.

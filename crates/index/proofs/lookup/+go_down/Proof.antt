@@ -1,11 +1,10 @@
-use Rattle.word.specs.Overwrite.{part}
-use native.Mathlib.Omega.{arith}
-use mathlib.Core.Path.{ap}
-use Rattle.index.proofs.Finding.{down-none, down-broken, down-absent, down-node, down-leaf}
-use Rattle.index.proofs.Records.{node-record}
 use Prim.Native.Nat.{ℕ, _<_}
+use native.Mathlib.Omega.{arith}
 use borrow.Fn.Kinds.{In}
 use borrow.Fn.PlainCycle.{Measures, is, falls, and}
+use Rattle.index.specs.Inner.{treeWith}
+use Rattle.index.proofs.Finding.{down-none, down-broken, down-absent, down-node, down-leaf}
+use Rattle.index.proofs.Records.{node-record}
 use Rattle.index.proofs.lookup.+go_down.{statement}
 use Rattle.index.proofs.lookup.+go_down.Tie.{close}
 use Rattle.index.proofs.lookup.go_down.Reads as go-down
@@ -16,7 +15,7 @@ use Rattle.index.proofs.lookup.leaf_answer.Reads as leaf-answer-reads
 use Rattle.index.proofs.rules.node_right.Reads as node-right-reads
 
 abbrev μ-go-down : Measures 3 go-down-kinds.ps ℕ
-μ-go-down κs a = a .1 .1 .1 .1 .0
+μ-go-down κs a = a .1 .1 .1 .1 .1 .1 .1 .0
 
 abbrev go-down-at : ℕ → In 3 go-down-kinds.ps
 go-down-at t = and 3 go-down-kinds.ps (is 3 go-down-kinds.ps μ-go-down t) go-down.Pre
@@ -38,66 +37,78 @@ claims t = (
 )
 
 go-down-returns : (t : ℕ) → go-down-lts.Need-returns (claims t) (go-down-at t) go-down.Post
-go-down-returns t c = down-none _ _ _ _ _ _ (c .if1 .taken)
+go-down-returns t c =
+    let start = c .before .before .before .before in
+    down-none _ _ (treeWith (start .args .kind) (start .args .width) (start .args .entries) (start .args .items)) _ _ _ (c .if1 .taken)
+
+go-down-add-t14 : (t : ℕ) → go-down-lts.Need-add-t14 (claims t) (go-down-at t) go-down.Post
+go-down-add-t14 t c =
+    let start = c .before .before .before .before in
+    omega (arith, start .pre .1 .0 .nodes-fit .width-high)
 
 go-down-node-right-requires : (t : ℕ) → go-down-lts.Need-node-right-requires (claims t) (go-down-at t) go-down.Post
-go-down-node-right-requires t c κs = c .before .before .before .before .before .pre .1 .0 .nodes-fit
+go-down-node-right-requires t c κs =
+    c .before .before .before .before .pre .1 .0 .nodes-fit
 
 go-down-returns-2 : (t : ℕ) → go-down-lts.Need-returns-2 (claims t) (go-down-at t) go-down.Post
-go-down-returns-2 t c = down-broken _ _ _ _ _ _ _ (c .before .before .before .if1 .left) (c .before .node-right .ensures) (c .if2 .taken)
+go-down-returns-2 t c =
+    let start = c .before .before .before .before .before .before in
+    down-broken _ _ (treeWith (start .args .kind) (start .args .width) (start .args .entries) (start .args .items)) _ _ _ _ (c .before .before .if1 .left) (c .before .node-right .ensures) (c .if2 .taken)
 
 go-down-last-punt-requires : (t : ℕ) → go-down-lts.Need-last-punt-requires (claims t) (go-down-at t) go-down.Post
 go-down-last-punt-requires t c κs =
-    let c7 = c .before .before .before .before .before .before .before in
-    (c7 .pre .1 .0 .nodes-fit, node-record _ _ _ _ (c .before .node-right .ensures) (c .if2 .left), c7 .pre .1 .1)
+    let start = c .before .before .before .before .before .before in
+    (start .pre .1 .0 .nodes-fit, node-record _ _ _ _ (c .before .node-right .ensures) (c .if2 .left), start .pre .1 .1)
 
 go-down-returns-3 : (t : ℕ) → go-down-lts.Need-returns-3 (claims t) (go-down-at t) go-down.Post
 go-down-returns-3 t c =
-    let c3 = c .before .before .before in
-    let c5 = c3 .before .before in
-    down-absent _ _ _ _ _ _ _ (c5 .if1 .left) (c3 .node-right .ensures) _ (c .before .before .if2 .left) (c .before .last-punt .ensures)
-    (c .if3 .taken)
+    let start = c .before .before .before .before .before .before .before .before in
+    down-absent _ _ (treeWith (start .args .kind) (start .args .width) (start .args .entries) (start .args .items)) _ _ _ _ (c .before .before .before .before .if1 .left) (c .before .before .before .node-right .ensures) _ (c .before .before .if2 .left) (c .before .last-punt .ensures) (c .if3 .taken)
 
 go-down-sub-go-down : (t : ℕ) → go-down-lts.Need-sub-go-down (claims t) (go-down-at t) go-down.Post
-go-down-sub-go-down t c = omega arith
+go-down-sub-go-down t c =
+    omega arith
 
 go-down-go-down-requires : (t : ℕ) → go-down-lts.Need-go-down-requires (claims t) (go-down-at t) go-down.Post
-go-down-go-down-requires t c κs = (omega arith, c .before .before .before .before .before .before .before .before .before .before .pre .1)
+go-down-go-down-requires t c κs =
+    (omega arith, c .before .before .before .before .before .before .before .before .before .pre .1)
 
 go-down-returns-4 : (t : ℕ) → go-down-lts.Need-returns-4 (claims t) (go-down-at t) go-down.Post
 go-down-returns-4 t c =
-    let c3 = c .before .before .before in
-    let c4 = c3 .before in
-    let c5 = c4 .before in
-    let c7 = c5 .before .before in
-    down-node _ _ _ _ _ _ _ (c7 .if1 .left) (c5 .node-right .ensures) _ (c4 .if2 .left) (c3 .last-punt .ensures) _ (c .before .before .if3 .left)
+    let start = c .before .before .before .before .before .before .before .before .before .before in
+    down-node _ _ (treeWith (start .args .kind) (start .args .width) (start .args .entries) (start .args .items)) _ _ _ _ (c .before .before .before .before .before .before .if1 .left) (c .before .before .before .before .before .node-right .ensures) _ (c .before .before .before .before .if2 .left) (c .before .before .before .last-punt .ensures) _ (c .before .before .if3 .left)
     (c .before .if4 .taken) (c .go-down .ensures)
 
+go-down-add-t14-2 : (t : ℕ) → go-down-lts.Need-add-t14-2 (claims t) (go-down-at t) go-down.Post
+go-down-add-t14-2 t c =
+    let start = c .before .before .before .before .before .before .before .before .before in
+    omega (arith, start .pre .1 .0 .nodes-fit .width-high)
+
 go-down-sub-leaf-answer : (t : ℕ) → go-down-lts.Need-sub-leaf-answer (claims t) (go-down-at t) go-down.Post
-go-down-sub-leaf-answer t c = omega arith
+go-down-sub-leaf-answer t c =
+    omega arith
 
 go-down-add-leaf-answer : (t : ℕ) → go-down-lts.Need-add-leaf-answer (claims t) (go-down-at t) go-down.Post
-go-down-add-leaf-answer t c = omega arith
+go-down-add-leaf-answer t c =
+    omega arith
 
 go-down-leaf-answer-requires : (t : ℕ) → go-down-lts.Need-leaf-answer-requires (claims t) (go-down-at t) go-down.Post
 go-down-leaf-answer-requires t c κs =
-    (c .before .before .before .before .before .before .before .before .before .before .before .pre .1 .0 .leaves-fit, omega arith)
+    let start = c .before .before .before .before .before .before .before .before .before in
+    (start .pre .1 .0 .leaves-fit, start .pre .1 .1)
 
 go-down-returns-5 : (t : ℕ) → go-down-lts.Need-returns-5 (claims t) (go-down-at t) go-down.Post
 go-down-returns-5 t c =
-    let p = c .before .before .before .before .before .before .before .before .before .before .before .before .pre in
-    let a = c .before .before .before .before .before .before .before .before .before .before .before .before .args in
-    down-leaf _ _ _ _ _ _ _ (c .before .before .before .before .before .before .before .before .if1 .left)
-    (c .before .before .before .before .before .before .node-right .ensures) _ (c .before .before .before .before .before .if2 .left)
-    (c .before .before .before .before .last-punt .ensures) _ (c .before .before .before .if3 .left) _
-    (ap (part (a .key .now) 0) (p .1 .0 .widths))
-    (c .before .before .if4 .left) (omega arith) (c .leaf-answer .ensures)
+    let start = c .before .before .before .before .before .before .before .before .before .before in
+    down-leaf _ _ (treeWith (start .args .kind) (start .args .width) (start .args .entries) (start .args .items)) _ _ _ _ (c .before .before .before .before .before .before .if1 .left) (c .before .before .before .before .before .node-right .ensures) _ (c .before .before .before .before .if2 .left) (c .before .before .before .last-punt .ensures) _ (c .before .before .if3 .left)
+    (c .before .if4 .left) (omega arith) (c .leaf-answer .ensures)
 
 pub +go-down-spec : {M : Type 1} → statement M
 +go-down-spec = close μ-go-down λ t. go-down-lts.spec (claims t)
     (go-down-at t)
     go-down.Post
     (go-down-returns t)
+    (go-down-add-t14 t)
     (go-down-node-right-requires t)
     (go-down-returns-2 t)
     (go-down-last-punt-requires t)
@@ -105,6 +116,7 @@ pub +go-down-spec : {M : Type 1} → statement M
     (go-down-sub-go-down t)
     (go-down-go-down-requires t)
     (go-down-returns-4 t)
+    (go-down-add-t14-2 t)
     (go-down-sub-leaf-answer t)
     (go-down-add-leaf-answer t)
     (go-down-leaf-answer-requires t)

@@ -1,9 +1,10 @@
 use Rattle.terms.proofs.Padding.{width-high, key-length}
 use Rattle.index.proofs.Looking.{tree-wrong, tree-searched}
 use native.Mathlib.Omega.{arith}
-use mathlib.Core.Path.{sym}
+use mathlib.Core.Path.{sym, _∙_}
 use borrow.Author.Needs.{needs}
-use Rattle.index.proofs.Records.{part-fits}
+use Rattle.index.proofs.Records.{part-fits, numbers-fit}
+use Rattle.index.proofs.Finding.{down-numbers}
 use Rattle.index.proofs.lookup.lookup_in.Statement.{statement}
 use Rattle.index.proofs.lookup.lookup_in.Tie as tie
 
@@ -29,25 +30,24 @@ copy-to-requires c κs =
 
 slice-aggregate-go-down : tie.Need-slice-aggregate-go-down
 slice-aggregate-go-down c =
-    let start = c .before .before .before .before .before .before .before .before .before .before .before .before in
-    sym (key-length (start .args .term .now) _ (omega (arith, start .pre .2, width-high (start .args .kind))) (c .before .before .copy-to .ensures))
+    let start = c .before .before .before .before .before .before .before .before .before .before .before .before .before .before in
+    sym (key-length (start .args .term .now) _ (omega (arith, start .pre .2, width-high (start .args .kind))) (c .before .before .before .before .copy-to .ensures))
 
 go-down-requires : tie.Need-go-down-requires
 go-down-requires c κs =
     let c7 = c .before .before .before .before .before .before .before in
-    let start = c7 .before .before .before .before .before in
-    let f = part-fits _ _ _ _ (c7 .read-part .ensures) (c .before .before .before .before .before .p .given .1) in
-    let l = key-length (start .args .term .now) _ (omega (arith, start .pre .2, width-high (start .args .kind))) (c .before .before .copy-to .ensures) in
-    (f, omega (arith, f .nodes-fit .width-high))
+    let start = c7 .before .before .before .before .before .before .before in
+    let f = part-fits _ _ _ _ (c7 .before .before .read-part .ensures) (c7 .p .given .1) in
+    let l = key-length (start .args .term .now) _ (omega (arith, start .pre .2, width-high (start .args .kind))) (c .before .before .before .before .copy-to .ensures) in
+    (numbers-fit _ f, omega (arith, f .nodes-fit .width-high))
 
 returns-2 : tie.Need-returns-2
 returns-2 c =
-    let c3 = c .before .before .before in
-    let c6 = c3 .before .before .before in
-    let c8 = c6 .before .before in
-    let c13 = c8 .before .before .before .before .before in
-    tree-searched _ _ _ _ _ _ (c8 .read-part .ensures) _ _ _ (c6 .p .given .1) (c13 .pre .2)
-    (part-fits _ _ _ _ (c8 .read-part .ensures) (c6 .p .given .1) .nodes-fit .width-high) (c3 .copy-to .ensures) (c .go-down .ensures)
+    let c8 = c .before .before .before .before .before .before .before .before in
+    let start = c8 .before .before .before .before .before .before .before in
+    let f = part-fits _ _ _ _ (c8 .before .before .read-part .ensures) (c8 .p .given .1) in
+    tree-searched _ _ _ _ _ _ (c8 .before .before .read-part .ensures) _ _ _ (c8 .p .given .1) (start .pre .2) (f .nodes-fit .width-high) (c .before .before .before .before .before .copy-to .ensures)
+    (c .go-down .ensures ∙ down-numbers _ _ _ _ f _ _)
 
 pub lookup-in-spec : {M : Type 1} → statement M
 lookup-in-spec =
