@@ -3,7 +3,7 @@ use Prim.Native.Nat.{ℕ, zero, suc, _+_, _*_, _-_, _<_, _≤_}
 use native.Mathlib.Nat.{add-zero, add-suc, suc-mul}
 use native.Mathlib.Numerals.{add-one}
 use native.Mathlib.Omega.{arith}
-use mathlib.Core.Path.{_≡_, refl, sym, subst, _∙_}
+use mathlib.Core.Path.{_≡_, refl, sym, ap, subst, _∙_}
 use mathlib.Core.Bool.{Bool, true, false, not, _&&_, cond, and-false}
 use mathlib.Core.List.{List}
 use lib.Dec.{eqb, leb}
@@ -184,6 +184,10 @@ module _ (cnt : List ℕ) (kind : ℕ) where
   pub part-fits : (p : Part) (t : Tree) → p ≡ partOf cnt kind → p ≡ Right t → TreeFits t
   unfolding partOf
   part-fits p t e q = part-cases (partRight cnt kind) (treeOf cnt kind) t tree-fits (sym e ∙ q)
+
+-- nodes and leaves have keys of one width
+pub widths-same : (t : Tree) → TreeFits t → t .nodes .width ≡ t .leaves .width
+widths-same t f = sym (ap (λ (s : Shape). s .width) (f .leaves-are))
 
 -- and the one that its numbers give
 pub numbers-fit : (t : Tree) → TreeFits t → TreeFits (treeWith (t .nodes .kind) (t .nodes .width) (t .nodes .most) (t .leaves .most))

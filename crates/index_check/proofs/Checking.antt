@@ -11,9 +11,7 @@ use Rattle.index.specs.declared.layout.Part.{Part}
 use Rattle.index.specs.declared.layout.Part.the-variants.{Right, Wrong}
 use Rattle.index_check.specs.Walk.{walk}
 use Rattle.index_check.specs.Sound.{treeSound, soundOf, indexAnswer}
-use Rattle.index_check.specs.Passes.{pass, ended}
-use Rattle.index_check.specs.declared.check.Progress.{Progress}
-use Rattle.index_check.specs.declared.check.Progress.the-variants.{Before}
+use Rattle.index_check.specs.Passes.{Progress, Before, pass, ended}
 use Rattle.index_check.proofs.Sound.{pass-sound}
 
 -- ---- the check of a tree

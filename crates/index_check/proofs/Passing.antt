@@ -9,20 +9,20 @@ use mathlib.Core.List.{List, [], _∷_, _++_}
 use lib.Dec.{eqb}
 use borrow.Author.Tests.{eq-eqb, ne-eqb, lt-ltb, le-ltb, not-true, not-false}
 use Rattle.terms.specs.Key.{same, below, ascending}
-use Rattle.index.specs.Layout.{keyPlace, ockAt, keyAt, puntAt, psAt, keysOf}
+use Rattle.index.specs.Inner.{TreeFits, treeWith}
+use Rattle.index.specs.Layout.{nodeShape, leafShape, keyPlace, ockAt, keyAt, puntAt, psAt, keysOf}
 use Rattle.index.specs.Rules.{recordThere, recordRight, nodeRight}
 use Rattle.index.specs.Lookup.{leafNumber}
 use Rattle.index.specs.Reading.{Met, Node, Leaf, TooDeep}
 use Rattle.index.specs.declared.layout.Shape.{Shape}
 use Rattle.index.specs.declared.layout.Tree.{Tree}
+use Rattle.index.proofs.Shapes.{right-facts, there-facts}
 use Rattle.terms.proofs.Order.{by-cases}
 use Rattle.word.proofs.Tests.{and-left, false-true}
 use Rattle.word.specs.Overwrite.{part}
 use Rattle.index_check.specs.Walk.{behind, behindFirst, walk}
 use Rattle.index_check.specs.Sound.{pointerRight, pointersRight}
-use Rattle.index_check.specs.Passes.{nodeAscending, nodeSound, lastKey, follows, leafSound, leafStep, ended, Reached, isStopped, passOne, pass}
-use Rattle.index_check.specs.declared.check.Progress.{Progress}
-use Rattle.index_check.specs.declared.check.Progress.the-variants.{Stopped, Before, After}
+use Rattle.index_check.specs.Passes.{Progress, Stopped, Before, After, nodeAscending, nodeSound, lastKey, follows, leafSound, leafStep, ended, Reached, progressOf, passOne, pass}
 
 -- ---- a pointer
 
@@ -104,17 +104,6 @@ module _ (leaves : List ℕ) (s : Shape) (n : ℕ) where
   successor m ps r e h d = rw (← e, eq-eqb _ _ h, d)
 
   module _ (w : Progress) where
-    pub follows-stopped : w ≡ Stopped → false ≡ follows leaves s w n
-    unfolding follows
-    follows-stopped e = rw e
-
-    pub follows-before : w ≡ Before → true ≡ follows leaves s w n
-    unfolding follows
-    follows-before e = rw e
-
-    pub follows-after : (m : ℕ) (r : Bool) → w ≡ After m → r ≡ follows leaves s (After m) n → r ≡ follows leaves s w n
-    follows-after m r e d = rw e d
-
     module _ (a : Bool) (e : a ≡ recordRight leaves s n) where
       pub leaf-not-right : not a ≡ true → Stopped ≡ leafStep leaves s n w
       unfolding leafStep leafSound
@@ -134,24 +123,65 @@ module _ (leaves : List ℕ) (s : Shape) (n : ℕ) where
           unfolding leafStep leafSound
           leaf-follows o = rw (← e, not-false a q, ← d, not-false b p, ← g, not-false c o)
 
-  pub reached-after : (w : Progress) (m : ℕ) → w ≡ After m → Reached leaves s w → recordRight leaves s m ≡ true
-  unfolding Reached
-  reached-after w m e r = rw e at r
+-- ---- the progress as a number
 
--- ---- the end
+pub progress-stopped : progressOf 4294967295 ≡ Stopped
+unfolding progressOf
+progress-stopped = refl
 
-module _ (leaves : List ℕ) (s : Shape) (w : Progress) where
-  pub ended-stopped : w ≡ Stopped → false ≡ ended leaves s w
-  unfolding ended
-  ended-stopped e = rw e
+pub progress-before : progressOf 0 ≡ Before
+unfolding progressOf
+progress-before = refl
 
-  pub ended-before : w ≡ Before → true ≡ ended leaves s w
-  unfolding ended
-  ended-before e = rw e
+module _ (w : ℕ) (b : w ≡ 0 → ⊥) (s : w ≡ 4294967295 → ⊥) where
+  pub progress-after : progressOf w ≡ After w
+  unfolding progressOf
+  progress-after = rw (ne-eqb _ _ b, ne-eqb _ _ s)
 
-  pub ended-after : (m ps : ℕ) → w ≡ After m → ps ≡ psAt leaves s m → eqb ps 0 ≡ ended leaves s w
-  unfolding ended
-  ended-after m ps e d = rw (e, d)
+pub reached-start : (leaves : List ℕ) (s : Shape) → Reached leaves s Before
+unfolding Reached
+reached-start leaves s = tt
+
+pub reached-before : (leaves : List ℕ) (s : Shape) → Reached leaves s (progressOf 0)
+reached-before leaves s = rw progress-before (reached-start leaves s)
+
+-- a leaf that is there
+pub progress-leaf : (leaves : List ℕ) (s : Shape) (n : ℕ) → recordRight leaves s n ≡ true → progressOf n ≡ After n
+progress-leaf leaves s n e =
+    let r = right-facts leaves s n e in
+    let h = there-facts leaves s n (r .there) .number-high in
+    progress-after n (λ z. absurd (omega (arith, r .place-low))) (λ z. absurd (omega (arith, h)))
+
+module _ (leaves : List ℕ) (s : Shape) (w : ℕ) where
+  module _ (e : w ≡ 0) where
+    pub follows-before : (n : ℕ) → true ≡ follows leaves s (progressOf w) n
+    unfolding follows
+    follows-before n = rw (e, progress-before)
+
+    pub ended-before : true ≡ ended leaves s (progressOf w)
+    unfolding ended
+    ended-before = rw (e, progress-before)
+
+  module _ (e : w ≡ 4294967295) where
+    pub follows-stopped : (n : ℕ) → false ≡ follows leaves s (progressOf w) n
+    unfolding follows
+    follows-stopped n = rw (e, progress-stopped)
+
+    pub ended-stopped : false ≡ ended leaves s (progressOf w)
+    unfolding ended
+    ended-stopped = rw (e, progress-stopped)
+
+  module _ (b : w ≡ 0 → ⊥) (h : w ≡ 4294967295 → ⊥) where
+    pub reached-after : Reached leaves s (progressOf w) → recordRight leaves s w ≡ true
+    unfolding Reached
+    reached-after r = rw (progress-after w b h) at r
+
+    pub follows-after : (n : ℕ) (r : Bool) → r ≡ follows leaves s (After w) n → r ≡ follows leaves s (progressOf w) n
+    follows-after n r d = rw (progress-after w b h) d
+
+    pub ended-after : (ps : ℕ) → ps ≡ psAt leaves s w → eqb ps 0 ≡ ended leaves s (progressOf w)
+    unfolding ended
+    ended-after ps d = rw (progress-after w b h, d)
 
 -- ---- a pass
 
@@ -203,10 +233,6 @@ module _ (nodes leaves : List ℕ) (t : Tree) where
   unfolding pass
   pass-reached [] w r = r
   pass-reached (m ∷ ms) w r = pass-reached ms (passOne nodes leaves t m w) (reached-one m w r)
-
-  pub reached-before : Reached leaves (t .leaves) Before
-  unfolding Reached
-  reached-before = tt
 
   -- ---- over a node
 
@@ -301,7 +327,39 @@ module _ (nodes leaves : List ℕ) (t : Tree) where
         let k : 4294967295 - punt + 1 ≡ 4294967296 - punt = omega arith in
         more (Leaf (4294967296 - punt) ∷ []) (rw (le-ltb _ _ l)) next (e ∙ rw k)
 
-pub stopped-is : (w : Progress) → isStopped w ≡ true → w ≡ Stopped
-stopped-is Stopped e = refl
-stopped-is Before e = absurd (false-true e)
-stopped-is (After m) e = absurd (false-true e)
+-- the root is of no account to a pass
+module _ (nodes leaves : List ℕ) (t : Tree) where
+  abbrev rootless : Tree
+  rootless = record { nodes = t .nodes; leaves = t .leaves; root = 0 }
+
+  pointers-rootless : (n k : ℕ) → pointersRight nodes leaves rootless n k ≡ pointersRight nodes leaves t n k
+  unfolding pointersRight pointerRight
+  pointers-rootless n zero = refl
+  pointers-rootless n (suc k) = rw (pointers-rootless n k)
+
+  one-rootless : (m : Met) (w : Progress) → passOne nodes leaves rootless m w ≡ passOne nodes leaves t m w
+  unfolding passOne nodeSound
+  one-rootless (Node n) w = rw (pointers-rootless n (ockAt nodes (t .nodes) n))
+  one-rootless (Leaf n) w = refl
+  one-rootless TooDeep w = refl
+
+  pass-rootless : (ms : List Met) (w : Progress) → pass nodes leaves rootless ms w ≡ pass nodes leaves t ms w
+  unfolding pass
+  pass-rootless [] w = refl
+  pass-rootless (m ∷ ms) w = rw (one-rootless m w) (pass-rootless ms (passOne nodes leaves t m w))
+
+  -- so it goes by the tree's numbers
+  pass-numbers : TreeFits t → (left n : ℕ) (w : Progress)
+      → pass nodes leaves (treeWith (t .nodes .kind) (t .nodes .width) (t .nodes .most) (t .leaves .most))
+      (walk nodes (nodeShape (t .nodes .kind) (t .nodes .width) (t .nodes .most)) left n) w
+      ≡ pass nodes leaves t (walk nodes (t .nodes) left n) w
+  pass-numbers f left n w =
+      ap (λ (s : Shape). pass nodes leaves (record { nodes = s; leaves = leafShape (t .nodes .kind) (t .nodes .width) (t .leaves .most); root = 0 }) (walk nodes s left n) w) (sym (f .nodes-are))
+      ∙ ap (λ (l : Shape). pass nodes leaves (record { nodes = t .nodes; leaves = l; root = 0 }) (walk nodes (t .nodes) left n) w) (sym (f .leaves-are))
+      ∙ pass-rootless (walk nodes (t .nodes) left n) w
+
+  pub pass-whole : TreeFits t → (left n : ℕ) (w : Progress)
+      → w ≡ pass nodes leaves (treeWith (t .nodes .kind) (t .nodes .width) (t .nodes .most) (t .leaves .most))
+      (walk nodes (nodeShape (t .nodes .kind) (t .nodes .width) (t .nodes .most)) left n) (progressOf 0)
+      → w ≡ pass nodes leaves t (walk nodes (t .nodes) left n) Before
+  pass-whole f left n w e = e ∙ pass-numbers f left n (progressOf 0) ∙ ap (pass nodes leaves t (walk nodes (t .nodes) left n)) progress-before

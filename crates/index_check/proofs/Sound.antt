@@ -19,9 +19,7 @@ use Rattle.terms.proofs.Order.{by-cases, never, below-irrefl, above, above-righ
 use Rattle.word.proofs.Tests.{and-iff, false-true}
 use Rattle.index_check.specs.Walk.{keysAlong}
 use Rattle.index_check.specs.Sound.{all, keepsRules, nodeAscends, pointsToFirst, pointersRight, notIn, noneTwice, successorsAfter, successorsRight, metSound}
-use Rattle.index_check.specs.Passes.{nodeAscending, nodeSound, lastKey, follows, leafSound, leafStep, ended, passOne, pass}
-use Rattle.index_check.specs.declared.check.Progress.{Progress}
-use Rattle.index_check.specs.declared.check.Progress.the-variants.{Stopped, Before, After}
+use Rattle.index_check.specs.Passes.{Progress, Stopped, Before, After, nodeAscending, nodeSound, lastKey, follows, leafSound, leafStep, ended, passOne, pass}
 use Rattle.index_check.proofs.Passing.{pass-stopped}
 
 -- ---- the keys of a record: the first, and the last

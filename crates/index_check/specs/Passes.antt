@@ -12,8 +12,16 @@ use Rattle.index.specs.Reading.{Met, Node, Leaf, TooDeep}
 use Rattle.index.specs.declared.layout.Shape.{Shape}
 use Rattle.index.specs.declared.layout.Tree.{Tree}
 use Rattle.index_check.specs.Sound.{pointersRight}
-use Rattle.index_check.specs.declared.check.Progress.{Progress}
-use Rattle.index_check.specs.declared.check.Progress.the-variants.{Stopped, Before, After}
+
+-- how far a pass is: stopped at a broken rule, before the first leaf, or after a leaf
+pub data Progress : Type 0 where
+  Stopped : Progress
+  Before : Progress
+  After : ℕ → Progress
+
+-- as a number: 0 before the first leaf, 2 ^ 32 - 1 stopped, and otherwise the leaf's
+unfoldable pub progressOf : ℕ → Progress
+progressOf w = cond (eqb w 0) Before (cond (eqb w 4294967295) Stopped (After w))
 
 -- the first two sentences of a node
 unfoldable pub nodeAscending : List ℕ → Shape → ℕ → Bool
@@ -23,11 +31,6 @@ module _ (nodes leaves : List ℕ) (t : Tree) where
   -- all three
   unfoldable pub nodeSound : ℕ → Bool
   nodeSound n = nodeAscending nodes (t .nodes) n && pointersRight nodes leaves t n (ockAt nodes (t .nodes) n)
-
-abbrev pub isStopped : Progress → Bool
-isStopped Stopped = true
-isStopped Before = false
-isStopped (After m) = false
 
 module _ (leaves : List ℕ) (s : Shape) where
   abbrev pub lastKey : ℕ → List ℕ

@@ -19,20 +19,17 @@ ghost use mathlib.Core.Path.{_≡_};
 ghost use mathlib.Core.Bool.{true};
 ghost use Prim.Native.Nat.{_≤_, _<_};
 ghost use Rattle.index.specs.Files.{index};
-ghost use Rattle.index.specs.Inner.{ShapeFits, LeafFits, TreeFits};
-ghost use Rattle.index.specs.Layout.{ockAt};
+ghost use Rattle.index.specs.Inner.{ShapeFits, LeafFits, TreeFits, treeWith};
+ghost use Rattle.index.specs.Layout.{ockAt, nodeShape, leafShape};
 ghost use Rattle.index.specs.Rules.{recordRight, partOf};
 ghost use Rattle.index_check.specs.Walk.{walk};
 ghost use Rattle.index_check.specs.Sound.{pointerRight, treeSound, indexAnswer};
-ghost use Rattle.index_check.specs.Passes.{nodeAscending, follows, leafStep, pass, ended, Reached, isStopped};
-ghost use Rattle.index_check.specs.declared.check.Progress.the-variants.{After};
+ghost use Rattle.index_check.specs.Passes.{After, progressOf, nodeAscending, follows, leafStep, pass, ended, Reached};
 
-// How far a walk is: stopped at a broken rule, before the first leaf, or after a leaf.
-pub enum Progress {
-    Stopped,
-    Before,
-    After(u32),
-}
+// How far a walk is, as a number: before the first leaf, or the number of the last leaf met, or stopped at a broken rule. No leaf has one of the other two.
+const BEFORE: u32 = 0;
+
+const STOPPED: u32 = 4294967295;
 
 // Whether the target of entry `i` of node `n` is there and its first key is the entry's.
 fn pointer_right(nodes: &[u8], leaves: &[u8], t: Tree, n: u32, i: usize) -> bool
@@ -82,70 +79,99 @@ fn succeeds(leaves: &[u8], s: Shape, m: u32, n: u32) -> bool
 }
 
 // Whether leaf `n` may follow where the walk is.
-fn may_follow(leaves: &[u8], s: Shape, w: Progress, n: u32) -> bool
-    requires { ⌜ (LeafFits s) × (Reached (now leaves) s w) × (recordRight (now leaves) s n ≡ true) ⌝ }
-    ensures { λ r. ⌜ r ≡ follows (now (leaves .entry)) s w n ⌝ }
+fn may_follow(leaves: &[u8], s: Shape, w: u32, n: u32) -> bool
+    requires { ⌜ (LeafFits s) × (Reached (now leaves) s (progressOf w)) × (recordRight (now leaves) s n ≡ true) ⌝ }
+    ensures { λ r. ⌜ r ≡ follows (now (leaves .entry)) s (progressOf w) n ⌝ }
 {
-    match w {
-        Progress::Stopped => false,
-        Progress::Before => true,
-        Progress::After(m) => succeeds(leaves, s, m, n),
+    if w == BEFORE {
+        return true;
     }
+    if w == STOPPED {
+        return false;
+    }
+    succeeds(leaves, s, w, n)
 }
 
 // On from `w` over leaf `n`.
-fn over_leaf(leaves: &[u8], s: Shape, n: u32, w: Progress) -> Progress
-    requires { ⌜ (LeafFits s) × (Reached (now leaves) s w) ⌝ }
-    ensures { λ r. ⌜ r ≡ leafStep (now (leaves .entry)) s n w ⌝ }
+fn over_leaf(leaves: &[u8], s: Shape, n: u32, w: u32) -> u32
+    requires { ⌜ (LeafFits s) × (Reached (now leaves) s (progressOf w)) ⌝ }
+    ensures { λ r. ⌜ progressOf r ≡ leafStep (now (leaves .entry)) s n (progressOf w) ⌝ }
 {
     if !record_right(leaves, s, n) {
-        return Progress::Stopped;
+        return STOPPED;
     }
     if !keys_ascend(leaves, s, n) {
-        return Progress::Stopped;
+        return STOPPED;
     }
     if !may_follow(leaves, s, w, n) {
-        return Progress::Stopped;
+        return STOPPED;
     }
-    Progress::After(n)
+    n
 }
 
-fn stopped(w: Progress) -> bool
-    ensures { λ r. ⌜ r ≡ isStopped w ⌝ }
-{
-    match w {
-        Progress::Stopped => true,
-        Progress::Before => false,
-        Progress::After(_) => false,
-    }
-}
-
-// On from `w` over all that the walk from node `n` meets, over at most `left` nodes on one way down.
-fn over_node(nodes: &[u8], leaves: &[u8], t: Tree, left: u32, n: u32, w: Progress) -> Progress
-    requires { ⌜ (TreeFits t) × (Reached (now leaves) (t .leaves) w) ⌝ }
-    ensures { λ r. ⌜ r ≡ pass (now (nodes .entry)) (now (leaves .entry)) t (walk (now (nodes .entry)) (t .nodes) left n) w ⌝ }
+// On from `w` over all that the walk from node `n` meets, over at most `left` nodes on one way down. The tree comes as its numbers, as in a lookup.
+fn over_node(
+    nodes: &[u8],
+    leaves: &[u8],
+    kind: u16,
+    width: usize,
+    entries: usize,
+    items: usize,
+    left: u32,
+    n: u32,
+    w: u32,
+) -> u32
+    requires { ⌜ (TreeFits (treeWith kind width entries items)) × (Reached (now leaves) (leafShape kind width items) (progressOf w)) ⌝ }
+    ensures { λ r. ⌜ progressOf r ≡ pass (now (nodes .entry)) (now (leaves .entry)) (treeWith kind width entries items) (walk (now (nodes .entry)) (nodeShape kind width entries) left n) (progressOf w) ⌝ }
 {
     if left == 0 {
-        return Progress::Stopped;
+        return STOPPED;
     }
-    let s = t.nodes;
+    let s = Shape {
+        kind,
+        head: 8,
+        width,
+        step: width + 4,
+        most: entries,
+    };
     if !node_ascends(nodes, s, n) {
-        return Progress::Stopped;
+        return STOPPED;
     }
-    let l = t.leaves;
+    let l = Shape {
+        kind,
+        head: 12,
+        width,
+        step: width + 8,
+        most: items,
+    };
+    let t = Tree {
+        nodes: s,
+        leaves: l,
+        root: 0,
+    };
     let count = count_at(nodes, s, n);
     let mut at = w;
     let mut i: usize = 0;
     while i < count {
-        if stopped(at) {
-            return Progress::Stopped;
+        if at == STOPPED {
+            return STOPPED;
         }
         if !pointer_right(nodes, leaves, t, n, i) {
-            return Progress::Stopped;
+            return STOPPED;
         }
         let punt = punt_at(nodes, s, n, i);
         if punt < 2147483648 {
-            at = over_node(nodes, leaves, t, left - 1, punt, at);
+            at = over_node(
+                nodes,
+                leaves,
+                kind,
+                width,
+                entries,
+                items,
+                left - 1,
+                punt,
+                at,
+            );
         } else {
             at = over_leaf(leaves, l, 4294967295 - punt + 1, at);
         }
@@ -155,15 +181,17 @@ fn over_node(nodes: &[u8], leaves: &[u8], t: Tree, left: u32, n: u32, w: Progres
 }
 
 // Whether the walk ended where it may: the last leaf's successor is 0.
-fn well_ended(leaves: &[u8], s: Shape, w: Progress) -> bool
-    requires { ⌜ (LeafFits s) × (Reached (now leaves) s w) ⌝ }
-    ensures { λ r. ⌜ r ≡ ended (now (leaves .entry)) s w ⌝ }
+fn well_ended(leaves: &[u8], s: Shape, w: u32) -> bool
+    requires { ⌜ (LeafFits s) × (Reached (now leaves) s (progressOf w)) ⌝ }
+    ensures { λ r. ⌜ r ≡ ended (now (leaves .entry)) s (progressOf w) ⌝ }
 {
-    match w {
-        Progress::Stopped => false,
-        Progress::Before => true,
-        Progress::After(m) => u32_at(leaves, place(s, m) + 8) == 0,
+    if w == BEFORE {
+        return true;
     }
+    if w == STOPPED {
+        return false;
+    }
+    u32_at(leaves, place(s, w) + 8) == 0
 }
 
 // Whether the tree of type `kind` is sound.
@@ -175,8 +203,19 @@ fn tree_sound(cnt: &[u8], nodes: &[u8], leaves: &[u8], kind: u16) -> bool
     let Part::Right(t) = p else {
         return false;
     };
-    let w = over_node(nodes, leaves, t, NODES_MOST, t.root, Progress::Before);
+    let s = t.nodes;
     let l = t.leaves;
+    let w = over_node(
+        nodes,
+        leaves,
+        s.kind,
+        s.width,
+        s.most,
+        l.most,
+        NODES_MOST,
+        t.root,
+        BEFORE,
+    );
     well_ended(leaves, l, w)
 }
 

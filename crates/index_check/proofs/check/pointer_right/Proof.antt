@@ -1,6 +1,6 @@
 use native.Mathlib.Omega.{arith}
 use Rattle.index.proofs.Shapes.{first-in, there-facts, right-facts, active-in}
-use Rattle.index.proofs.Records.{is-there}
+use Rattle.index.proofs.Records.{is-there, widths-same}
 use Rattle.index_check.proofs.Passing.{pointer-node-out, pointer-node, pointer-leaf-out, pointer-leaf, leaf-number}
 use Rattle.index_check.proofs.check.pointer_right.Statement.{statement}
 use Rattle.index_check.proofs.check.pointer_right.Tie as tie
@@ -74,8 +74,12 @@ same-key-requires-2 c κs =
     let p = c .before .before .before .before .before .before .before .before .before .before .pre in (
       p .0 .nodes-fit .width-low,
       omega (arith, active-in _ _ _ _ (p .1) (p .2)),
-      omega
-          (arith, first-in _ _ _ (p .0 .leaves-fit .shape) (is-there _ _ _ _ (c .before .before .record-there2 .ensures) (c .before .if3 .left))),
+      omega (
+        arith,
+        widths-same _ (p .0),
+        p .0 .leaves-fit .shape .step-low,
+        first-in _ _ _ (p .0 .leaves-fit .shape) (is-there _ _ _ _ (c .before .before .record-there2 .ensures) (c .before .if3 .left)),
+      ),
     )
 
 returns-4 : tie.Need-returns-4
@@ -83,7 +87,7 @@ returns-4 c =
     pointer-leaf _ _ _ _ _ _ (c .before .before .before .before .before .before .punt-at .ensures) _ _
     (c .before .before .before .before .before .if1 .left) (leaf-number _ (omega arith) (c .before .before .before .before .before .if1 .left))
     (c .before .before .before .record-there2 .ensures) _ (c .before .before .if3 .left)
-    (c .before .before .before .before .before .before .before .before .before .before .before .pre .0 .widths)
+    (widths-same _ (c .before .before .before .before .before .before .before .before .before .before .before .pre .0))
     (rw (c .before .before .before .before .before .before .before .key-place .ensures, c .before .key-place3 .ensures) at (c .same-key2 .ensures))
 
 pub pointer-right-spec : {M : Type 1} → statement M
