@@ -10,17 +10,19 @@ use lib.Dec.{eqb, leb}
 use lib.ListN.{length}
 use borrow.Author.Tests.{eq-eqb, ne-eqb, le-leb, lt-leb, lt-ltb, le-ltb, not-true, not-false}
 use Rattle.word.specs.Integer.{u16At, u32At}
+use Rattle.terms.specs.Key.{ascending}
 use Rattle.terms.specs.Inner.{keysRun}
 use Rattle.terms.specs.Term.{widthOf}
 use Rattle.terms.proofs.Padding.{width-low, width-high}
 use Rattle.index.specs.Inner.{ShapeFits, LeafFits, TreeFits, treeWith}
-use Rattle.index.specs.Layout.{sizeOf, placeOf, ockAt, puntAt, keyPlace, keysFrom, partPlace, treeOf, nodeShape, leafShape}
+use Rattle.index.specs.Layout.{sizeOf, placeOf, ockAt, puntAt, keyPlace, keysFrom, keysOf, partPlace, treeOf, nodeShape, leafShape}
 use Rattle.index.specs.Rules.{orderRight, partRight, partOf, recordThere, recordRight, puntsRight, nodeRight}
 use Rattle.index.specs.declared.layout.Shape.{Shape}
 use Rattle.index.specs.declared.layout.Tree.{Tree}
 use Rattle.index.specs.declared.layout.Part.{Part}
 use Rattle.index.specs.declared.layout.Part.the-variants.{Right, Wrong}
 use Rattle.word.proofs.Tests.{tests, and-left}
+use Rattle.index.proofs.Shapes.{right-facts, keys-in}
 
 -- ---- CNT's part
 
@@ -152,6 +154,14 @@ pub keys-run : (f : List ℕ) (s : Shape) (n k i : ℕ) → keysRun f (keyPlace 
 unfolding keysRun keysFrom
 keys-run f s n zero i = refl
 keys-run f s n (suc k) i = rw (← place-next s n i, keys-run f s n k (i + 1))
+
+module _ (f : List ℕ) (s : Shape) (n at count : ℕ) (e : at ≡ keyPlace s n 0) (k : count ≡ ockAt f s n) where
+  pub run-fits : ShapeFits s → recordRight f s n ≡ true → (8 ≤ s .width) × (s .width ≤ s .step) × (1 ≤ count) × (at + count * s .step ≤ length f)
+  run-fits fits r =
+      (fits .width-low, omega (arith, fits .step-low), rw k (right-facts f s n r .count-low), rw (k, e) (keys-in f s n r))
+
+  pub run-keys : (b : Bool) → b ≡ ascending (keysRun f at (s .step) (s .width) count) → b ≡ ascending (keysOf f s n)
+  run-keys b d = d ∙ rw (e, k) (ap ascending (keys-run f s n (ockAt f s n) 0))
 
 -- a right node is a right record
 pub node-record : (f : List ℕ) (s : Shape) (n : ℕ) (b : Bool) → b ≡ nodeRight f s n → not b ≡ false → recordRight f s n ≡ true

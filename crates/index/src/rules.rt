@@ -1,4 +1,4 @@
-// The rules of answer 21 that a record met has to keep, and the order of its keys.
+// The rules of answer 21 that a record met has to keep.
 use crate::layout::Shape;
 use crate::layout::key_place;
 use crate::layout::place;
@@ -8,9 +8,8 @@ use word::integer::u32_at;
 ghost use mathlib.Core.Path.{_≡_};
 ghost use mathlib.Core.Bool.{true};
 ghost use Prim.Native.Nat.{_+_, _*_, _<_};
-ghost use Rattle.terms.specs.Key.{ascending};
 ghost use Rattle.index.specs.Inner.{ShapeFits};
-ghost use Rattle.index.specs.Layout.{ockAt, puntAt, keysOf};
+ghost use Rattle.index.specs.Layout.{ockAt, puntAt};
 ghost use Rattle.index.specs.Rules.{recordThere, recordRight, puntsRight, nodeRight};
 
 // Whether all bytes of record `n` are in the file. Its number is compared before it is multiplied.
@@ -90,14 +89,4 @@ pub fn node_right(file: &[u8], s: Shape, n: u32) -> bool
         return false;
     }
     punts_right(file, s, n)
-}
-
-// Whether the active keys of record `n` ascend strictly.
-pub fn keys_ascend(file: &[u8], s: Shape, n: u32) -> bool
-    requires { ⌜ (ShapeFits s) × (recordRight (now file) s n ≡ true) ⌝ }
-    ensures { λ r. ⌜ r ≡ ascending (keysOf (now (file .entry)) s n) ⌝ }
-{
-    let count = count_at(file, s, n);
-    let at = key_place(s, n, 0);
-    terms::key::keys_ascend(file, at, s.step, s.width, count)
 }

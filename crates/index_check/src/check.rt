@@ -7,12 +7,12 @@ use index::layout::place;
 use index::layout::read_part;
 use index::lookup::NODES_MOST;
 use index::rules::count_at;
-use index::rules::keys_ascend;
 use index::rules::node_right;
 use index::rules::punt_at;
 use index::rules::record_right;
 use index::rules::record_there;
 use terms::key::below_key;
+use terms::key::keys_ascend;
 use terms::key::same_key;
 use word::integer::u32_at;
 ghost use mathlib.Core.Path.{_≡_};
@@ -61,7 +61,9 @@ fn node_ascends(nodes: &[u8], s: Shape, n: u32) -> bool
     if !node_right(nodes, s, n) {
         return false;
     }
-    keys_ascend(nodes, s, n)
+    let count = count_at(nodes, s, n);
+    let at = key_place(s, n, 0);
+    keys_ascend(nodes, at, s.step, s.width, count)
 }
 
 // Whether leaf `n` is the successor of leaf `m`, and begins above its last key.
@@ -100,7 +102,9 @@ fn over_leaf(leaves: &[u8], s: Shape, n: u32, w: u32) -> u32
     if !record_right(leaves, s, n) {
         return STOPPED;
     }
-    if !keys_ascend(leaves, s, n) {
+    let count = count_at(leaves, s, n);
+    let at = key_place(s, n, 0);
+    if !keys_ascend(leaves, at, s.step, s.width, count) {
         return STOPPED;
     }
     if !may_follow(leaves, s, w, n) {

@@ -84,8 +84,11 @@ pub fn below_key(a: &[u8], i: usize, b: &[u8], j: usize, n: usize) -> bool
 {
     let x = eight(a, i);
     let y = eight(b, j);
-    if x != y {
-        return x < y;
+    if x < y {
+        return true;
+    }
+    if y < x {
+        return false;
     }
     below_rest(a, i, b, j, n)
 }
