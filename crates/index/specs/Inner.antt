@@ -1,9 +1,17 @@
 -- Inner: serves functions of this crate and of the check, no part of what is promised.
 use Prim.Native.Nat.{ℕ, _+_, _≤_}
 use mathlib.Core.Path.{_≡_}
-use Rattle.index.specs.Layout.{nodeShape, leafShape}
+use mathlib.Core.Bool.{Bool, _&&_}
+use mathlib.Core.List.{List}
+use Rattle.terms.specs.Key.{ascending}
+use Rattle.index.specs.Layout.{nodeShape, leafShape, keysOf}
+use Rattle.index.specs.Rules.{recordRight}
 use Rattle.index.specs.declared.layout.Shape.{Shape}
 use Rattle.index.specs.declared.layout.Tree.{Tree}
+
+-- a record keeps the rules of every record, and its keys ascend
+unfoldable pub recordAscends : List ℕ → Shape → ℕ → Bool
+recordAscends f s n = recordRight f s n && ascending (keysOf f s n)
 
 -- what functions ask of the records of a file: the bounds that CNT's rules give
 pub record ShapeFits (s : Shape) : Type 0 where

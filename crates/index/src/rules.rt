@@ -1,14 +1,15 @@
-// The rules of answer 21 that a record met has to keep.
+// The rules of answer 21 that a record met has to keep, and the order of its keys.
 use crate::layout::Shape;
 use crate::layout::key_place;
 use crate::layout::place;
 use crate::layout::size;
+use terms::key::keys_ascend;
 use word::integer::u16_at;
 use word::integer::u32_at;
 ghost use mathlib.Core.Path.{_≡_};
 ghost use mathlib.Core.Bool.{true};
 ghost use Prim.Native.Nat.{_+_, _*_, _<_};
-ghost use Rattle.index.specs.Inner.{ShapeFits};
+ghost use Rattle.index.specs.Inner.{ShapeFits, recordAscends};
 ghost use Rattle.index.specs.Layout.{ockAt, puntAt};
 ghost use Rattle.index.specs.Rules.{recordThere, recordRight, puntsRight, nodeRight};
 
@@ -65,7 +66,7 @@ pub fn punt_at(file: &[u8], s: Shape, n: u32, i: usize) -> u32
 }
 
 // Whether no active PUNT of node `n` is 0.
-fn punts_right(file: &[u8], s: Shape, n: u32) -> bool
+pub fn punts_right(file: &[u8], s: Shape, n: u32) -> bool
     requires { ⌜ (ShapeFits s) × (recordRight (now file) s n ≡ true) ⌝ }
     ensures { λ r. ⌜ r ≡ puntsRight (now (file .entry)) s n (ockAt (now (file .entry)) s n) ⌝ }
 {
@@ -89,4 +90,17 @@ pub fn node_right(file: &[u8], s: Shape, n: u32) -> bool
         return false;
     }
     punts_right(file, s, n)
+}
+
+// Whether record `n` keeps the rules for every record, and its active keys ascend strictly.
+pub fn record_ascends(file: &[u8], s: Shape, n: u32) -> bool
+    requires { ⌜ ShapeFits s ⌝ }
+    ensures { λ r. ⌜ r ≡ recordAscends (now (file .entry)) s n ⌝ }
+{
+    if !record_right(file, s, n) {
+        return false;
+    }
+    let count = count_at(file, s, n);
+    let at = key_place(s, n, 0);
+    keys_ascend(file, at, s.step, s.width, count)
 }

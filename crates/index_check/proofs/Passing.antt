@@ -4,14 +4,14 @@ use native.Mathlib.Nat.{add-zero, add-suc}
 use native.Mathlib.Numerals.{add-one}
 use native.Mathlib.Omega.{arith}
 use mathlib.Core.Path.{_≡_, refl, sym, ap, _∙_}
-use mathlib.Core.Bool.{Bool, true, false, not, cond, and-false}
+use mathlib.Core.Bool.{Bool, true, false, not, _&&_, cond, and-true, and-false}
 use mathlib.Core.List.{List, [], _∷_, _++_}
 use lib.Dec.{eqb}
 use borrow.Author.Tests.{eq-eqb, ne-eqb, lt-ltb, le-ltb, not-true, not-false}
 use Rattle.terms.specs.Key.{same, below, ascending}
-use Rattle.index.specs.Inner.{TreeFits, treeWith}
+use Rattle.index.specs.Inner.{TreeFits, treeWith, recordAscends}
 use Rattle.index.specs.Layout.{nodeShape, leafShape, keyPlace, ockAt, keyAt, puntAt, psAt, keysOf}
-use Rattle.index.specs.Rules.{recordThere, recordRight, nodeRight}
+use Rattle.index.specs.Rules.{recordThere, recordRight, puntsRight, nodeRight}
 use Rattle.index.specs.Lookup.{leafNumber}
 use Rattle.index.specs.Reading.{Met, Node, Leaf, TooDeep}
 use Rattle.index.specs.declared.layout.Shape.{Shape}
@@ -74,14 +74,23 @@ module _ (nodes leaves : List ℕ) (t : Tree) (n : ℕ) where
 
 -- ---- a node
 
-module _ (nodes : List ℕ) (s : Shape) (n : ℕ) (a : Bool) (e : a ≡ nodeRight nodes s n) where
-  pub node-not-right : not a ≡ true → false ≡ nodeAscending nodes s n
-  unfolding nodeAscending
-  node-not-right q = rw (← e, not-true a q)
+module _ (nodes : List ℕ) (s : Shape) (n : ℕ) where
+  exchange : (a b c : Bool) → ((a && b) && c) ≡ ((a && c) && b)
+  exchange true true c = sym (and-true c)
+  exchange true false c = sym (and-false c)
+  exchange false b c = refl
 
-  pub node-rest : (b : Bool) → not a ≡ false → b ≡ ascending (keysOf nodes s n) → b ≡ nodeAscending nodes s n
-  unfolding nodeAscending
-  node-rest b q d = rw (← e, not-false a q, d)
+  -- the record and its keys first, then the pointers
+  ascending-is : nodeAscending nodes s n ≡ (recordAscends nodes s n && puntsRight nodes s n (ockAt nodes s n))
+  unfolding nodeAscending nodeRight recordAscends
+  ascending-is = exchange (recordRight nodes s n) (puntsRight nodes s n (ockAt nodes s n)) (ascending (keysOf nodes s n))
+
+  module _ (a : Bool) (e : a ≡ recordAscends nodes s n) where
+    pub node-not : not a ≡ true → false ≡ nodeAscending nodes s n
+    node-not q = rw (ascending-is, ← e, not-true a q)
+
+    pub node-rest : (b : Bool) → not a ≡ false → b ≡ puntsRight nodes s n (ockAt nodes s n) → b ≡ nodeAscending nodes s n
+    node-rest b q d = rw (ascending-is, ← e, not-false a q, d)
 
 module _ (nodes : List ℕ) (s : Shape) (n : ℕ) (a : Bool) (e : a ≡ nodeAscending nodes s n) (q : not a ≡ false) where
   ascending-node : nodeRight nodes s n ≡ true
@@ -104,24 +113,23 @@ module _ (leaves : List ℕ) (s : Shape) (n : ℕ) where
   successor m ps r e h d = rw (← e, eq-eqb _ _ h, d)
 
   module _ (w : Progress) where
-    module _ (a : Bool) (e : a ≡ recordRight leaves s n) where
-      pub leaf-not-right : not a ≡ true → Stopped ≡ leafStep leaves s n w
-      unfolding leafStep leafSound
-      leaf-not-right q = rw (← e, not-true a q)
+    module _ (a : Bool) (e : a ≡ recordAscends leaves s n) where
+      step : leafSound leaves s w n ≡ (a && follows leaves s w n)
+      unfolding leafSound recordAscends
+      step = rw e
 
-      module _ (b : Bool) (q : not a ≡ false) (d : b ≡ ascending (keysOf leaves s n)) where
-        pub leaf-not-ascending : not b ≡ true → Stopped ≡ leafStep leaves s n w
-        unfolding leafStep leafSound
-        leaf-not-ascending p = rw (← e, not-false a q, ← d, not-true b p)
+      pub leaf-not : not a ≡ true → Stopped ≡ leafStep leaves s n w
+      unfolding leafStep
+      leaf-not q = rw (step, not-true a q)
 
-        module _ (c : Bool) (p : not b ≡ false) (g : c ≡ follows leaves s w n) where
-          pub leaf-not-following : not c ≡ true → Stopped ≡ leafStep leaves s n w
-          unfolding leafStep leafSound
-          leaf-not-following o = rw (← e, not-false a q, ← d, not-false b p, ← g, not-true c o)
+      module _ (c : Bool) (q : not a ≡ false) (g : c ≡ follows leaves s w n) where
+        pub leaf-not-following : not c ≡ true → Stopped ≡ leafStep leaves s n w
+        unfolding leafStep
+        leaf-not-following o = rw (step, not-false a q, ← g, not-true c o)
 
-          pub leaf-follows : not c ≡ false → After n ≡ leafStep leaves s n w
-          unfolding leafStep leafSound
-          leaf-follows o = rw (← e, not-false a q, ← d, not-false b p, ← g, not-false c o)
+        pub leaf-follows : not c ≡ false → After n ≡ leafStep leaves s n w
+        unfolding leafStep
+        leaf-follows o = rw (step, not-false a q, ← g, not-false c o)
 
 -- ---- the progress as a number
 

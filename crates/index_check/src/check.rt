@@ -7,12 +7,11 @@ use index::layout::place;
 use index::layout::read_part;
 use index::lookup::NODES_MOST;
 use index::rules::count_at;
-use index::rules::node_right;
 use index::rules::punt_at;
-use index::rules::record_right;
+use index::rules::punts_right;
+use index::rules::record_ascends;
 use index::rules::record_there;
 use terms::key::below_key;
-use terms::key::keys_ascend;
 use terms::key::same_key;
 use word::integer::u32_at;
 ghost use mathlib.Core.Path.{_≡_};
@@ -58,12 +57,10 @@ fn node_ascends(nodes: &[u8], s: Shape, n: u32) -> bool
     requires { ⌜ ShapeFits s ⌝ }
     ensures { λ r. ⌜ r ≡ nodeAscending (now (nodes .entry)) s n ⌝ }
 {
-    if !node_right(nodes, s, n) {
+    if !record_ascends(nodes, s, n) {
         return false;
     }
-    let count = count_at(nodes, s, n);
-    let at = key_place(s, n, 0);
-    keys_ascend(nodes, at, s.step, s.width, count)
+    punts_right(nodes, s, n)
 }
 
 // Whether leaf `n` is the successor of leaf `m`, and begins above its last key.
@@ -99,12 +96,7 @@ fn over_leaf(leaves: &[u8], s: Shape, n: u32, w: u32) -> u32
     requires { ⌜ (LeafFits s) × (Reached (now leaves) s (progressOf w)) ⌝ }
     ensures { λ r. ⌜ progressOf r ≡ leafStep (now (leaves .entry)) s n (progressOf w) ⌝ }
 {
-    if !record_right(leaves, s, n) {
-        return STOPPED;
-    }
-    let count = count_at(leaves, s, n);
-    let at = key_place(s, n, 0);
-    if !keys_ascend(leaves, at, s.step, s.width, count) {
+    if !record_ascends(leaves, s, n) {
         return STOPPED;
     }
     if !may_follow(leaves, s, w, n) {
