@@ -258,7 +258,7 @@ uint32_t isis_check(const uint8_t *mst, isis_size mst_len, const uint8_t *xrf, i
  * part for the term's tree has another tree's type or an order that is not 1 to 16;
  * where a node or leaf on the way is not there, has another number or type than its
  * own, or a count of keys that is not 1 to twice the order; where a node on the way
- * has a pointer 0 among its active entries; and where there is more than 16 nodes on
+ * has a pointer 0 among its active entries; and where there are more than 16 nodes on
  * the way. At most 16 nodes and one leaf are read, and nothing of the other tree.
  * 22 is given too where the term is below every key of a node on the way.
  */

@@ -16,10 +16,10 @@ use Rattle.word.proofs.Window.{window-u16, window-part}
 use Rattle.word.proofs.Tests.{and-iff, false-true}
 use Rattle.terms.specs.Key.{below}
 use Rattle.terms.proofs.Order.{by-cases, never}
-use Rattle.index.specs.Inner.{ShapeFits, LeafFits, TreeFits}
-use Rattle.index.specs.Layout.{sizeOf, placeOf, keyPlace, ockAt, keyAt, puntAt, blockAt, wordAt, keysFrom}
+use Rattle.index.specs.Inner.{ShapeFits, TreeFits}
+use Rattle.index.specs.Layout.{sizeOf, placeOf, keyPlace, ockAt, keyAt, puntAt, wordAt, keysFrom}
 use Rattle.index.specs.Rules.{recordRight, puntsRight, nodeRight}
-use Rattle.index.specs.Lookup.{Entry, entryAt, entriesFrom, entriesOf, firstEqual, leafAnswer, lastPunt, puntFor, isNode, leafNumber, onward, descend, searchTree}
+use Rattle.index.specs.Lookup.{entryAt, entriesFrom, leafAnswer, lastPunt, puntFor, isNode, leafNumber, onward, descend, searchTree}
 use Rattle.index.specs.Reading.{Met, Node, Leaf, nodesAmong, leavesAmong, wayOf, SameRecord, SameAlong, ReadsFew, belowAll, NoneMeansBelow}
 use Rattle.index.specs.declared.layout.Shape.{Shape}
 use Rattle.index.specs.declared.layout.Tree.{Tree}

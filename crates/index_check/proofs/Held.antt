@@ -203,9 +203,6 @@ module _ (nodes leaves : List ℕ) (t : Tree) (key : List ℕ) where
   module _ (from : ℕ → List Met) (down : ℕ → Found)
       (known : (m : ℕ) → all (keeps nodes leaves t) (from m) ≡ true → ascending (keysIn (held (from m))) ≡ true
       → Judged (from m) (down m) (keyAt nodes (t .nodes) m 0)) where
-    leafs : ℕ → Found
-    leafs = leafAnswer leaves (t .leaves) key
-
     pointer-first : (n i : ℕ) (b : Bool) → isNode (puntAt nodes (t .nodes) n i) ≡ b → pointerRight nodes leaves t n i ≡ true
         → keyAt nodes (t .nodes) n i
         ≡ cond b (keyAt nodes (t .nodes) (puntAt nodes (t .nodes) n i) 0) (keyAt leaves (t .leaves) (leafNumber (puntAt nodes (t .nodes) n i)) 0)

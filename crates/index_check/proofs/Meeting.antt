@@ -1,7 +1,7 @@
 -- How many nodes are met before a rule breaks (specs/Theorems, `MeetsFew`). A node that keeps its rules has an entry, so it leads to a leaf or to a broken rule;
 -- and between two leaves a way goes up and down over at most 16 nodes.
 use Prim.Native.Nat.{ℕ, zero, suc, _+_, _*_, _≤_}
-use native.Mathlib.Nat.{mul-add, suc-mul, mul-one}
+use native.Mathlib.Nat.{mul-add, suc-mul}
 use native.Mathlib.Omega.{arith}
 use mathlib.Core.Path.{_≡_, refl, sym, ap, _∙_}
 use mathlib.Core.Bool.{Bool, true, false, _&&_, cond}
@@ -11,7 +11,6 @@ use Rattle.index.specs.Layout.{ockAt, puntAt}
 use Rattle.index.specs.Rules.{recordRight, puntsRight, nodeRight}
 use Rattle.index.specs.Lookup.{isNode, leafNumber}
 use Rattle.index.specs.Reading.{Met, Node, Leaf, TooDeep, nodesAmong, leavesAmong}
-use Rattle.index.specs.declared.layout.Shape.{Shape}
 use Rattle.index.specs.declared.layout.Tree.{Tree}
 use Rattle.index.proofs.Shapes.{right-facts}
 use Rattle.word.proofs.Tests.{and-iff, false-true}

@@ -18,7 +18,7 @@ use Rattle.index.specs.declared.layout.Shape.{Shape}
 use Rattle.index.specs.declared.layout.Tree.{Tree}
 use Rattle.index.proofs.Shapes.{right-facts, there-facts}
 use Rattle.terms.proofs.Order.{by-cases}
-use Rattle.word.proofs.Tests.{and-left, false-true}
+use Rattle.word.proofs.Tests.{and-left}
 use Rattle.word.specs.Overwrite.{part}
 use Rattle.index_check.specs.Walk.{behind, behindFirst, walk}
 use Rattle.index_check.specs.Sound.{pointerRight, pointersRight}

@@ -16,7 +16,6 @@ use Rattle.index.specs.declared.layout.Shape.{Shape}
 use Rattle.index.specs.declared.layout.Tree.{Tree}
 use Rattle.index.specs.declared.layout.Part.{Part}
 use Rattle.index.specs.declared.layout.Part.the-variants.{Right, Wrong}
-use Rattle.index.specs.declared.lookup.Found.{Found}
 use Rattle.index.specs.declared.lookup.Found.the-variants.{At, NoTerm}
 use Rattle.index_check.specs.Walk.{met, keysAlong}
 use Rattle.index_check.specs.Sound.{all, keepsRules, noneTwice, soundOf}

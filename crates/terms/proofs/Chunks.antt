@@ -1,18 +1,18 @@
 -- Keys compared 8 bytes at a time: bytes as the digits of one number, whose order is the order of the bytes.
-use Prim.Native.Nat.{ℕ, zero, suc, _+_, _*_, _-_, _/_, _%_, _^_, _<_, _≤_}
-use native.Mathlib.Nat.{add-zero, add-assoc, suc-mul, mul-le-mul-right, pow-zero, pow-succ'}
+use Prim.Native.Nat.{ℕ, suc, _+_, _*_, _-_, _/_, _%_, _^_, _<_, _≤_}
+use native.Mathlib.Nat.{add-zero, suc-mul, mul-le-mul-right, pow-zero, pow-succ'}
 use native.Mathlib.Omega.{arith}
 use mathlib.Core.Path.{_≡_, refl, sym, ap, _∙_}
 use mathlib.Core.Logic.{_⊎_, inl, inr, ⊎-elim}
-use mathlib.Core.Bool.{Bool, true, false}
+use mathlib.Core.Bool.{true, false}
 use mathlib.Core.List.{List, [], _∷_, _++_}
 use lib.Dec.{eqb, ltb}
-use lib.ListN.{length, getD, take, drop}
+use lib.ListN.{length, take, drop}
 use lib.Seq.{take-take}
 use borrow.Author.Tests.{eq-eqb, eqb-true, eqb-false, lt-ltb, le-ltb}
 use Rattle.word.specs.Integer.{le}
 use Rattle.word.specs.Overwrite.{part}
-use Rattle.word.proofs.Overwrite.{lt-or-ge, part-length, part-add, part-cons}
+use Rattle.word.proofs.Overwrite.{lt-or-ge, part-length, part-add}
 use Rattle.word.proofs.Integers.{Bytes, bytes-part}
 use Rattle.terms.specs.Key.{same, below}
 use Rattle.terms.specs.Inner.{big}

@@ -1,4 +1,4 @@
--- The order of keys: strict, total, transitive; and what ascent says of all keys that follow.
+-- The order of keys: strict and transitive; and what ascent says of all keys that follow.
 use Prim.Native.Nat.{ℕ, _<_}
 use native.Mathlib.Omega.{arith}
 use mathlib.Core.Path.{_≡_, refl, sym, ap, _∙_}

@@ -12,7 +12,7 @@ use native.Mathlib.Numerals.{add-one}
 use native.Mathlib.Omega.{arith}
 use lib.Dec.{ltb}
 use lib.ListN.{length, getD, take, drop, set, length-append, length-take, length-drop, take-append-drop, drop-of-length-le, List·getD-append}
-use lib.Seq.{length-take-le, take-all, take-nil, take-at, drop-at, drop-cons, take-take, take-add, drop-drop, take-append-le, take-append-add, getD-take, getD-drop, set-split, sets, sets-eq}
+use lib.Seq.{length-take-le, take-all, take-nil, take-at, drop-at, take-take, take-add, drop-drop, take-append-le, take-append-add, getD-take, getD-drop, set-split, sets, sets-eq}
 use borrow.Author.Tests.{ltb-true, ltb-false}
 use borrow.Rule.Slice.PartMut.{midOf, putMid}
 use Rattle.word.specs.Overwrite.{overwrite, part}
@@ -55,10 +55,6 @@ part-part d a n i m h =
 
 pub part-take : (d : List ℕ) (n a m : ℕ) → a + m ≤ n → part (take n d) a m ≡ part d a m
 part-take d n a m h = part-part d 0 n a m h ∙ ap (λ (k : ℕ). part d k m) (zero-add a)
-
--- a part is its first byte, and the part behind it
-pub part-cons : (d : List ℕ) (a n : ℕ) → a < length d → part d a (suc n) ≡ getD d a 0 ∷ part d (a + 1) n
-part-cons d a n h = rw (drop-cons d a 0 h, add-one)
 
 -- two parts, one after the other
 pub part-add : (d : List ℕ) (a n m : ℕ) → part d a (n + m) ≡ part d a n ++ part d (a + n) m
