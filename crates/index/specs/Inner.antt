@@ -13,6 +13,10 @@ use Rattle.index.specs.declared.layout.Tree.{Tree}
 unfoldable pub recordAscends : List ℕ → Shape → ℕ → Bool
 recordAscends f s n = recordRight f s n && ascending (keysOf f s n)
 
+-- the records of which a function is given the numbers
+abbrev pub shapeWith : ℕ → ℕ → ℕ → ℕ → ℕ → Shape
+shapeWith kind head width step most = record { kind = kind; head = head; width = width; step = step; most = most }
+
 -- what functions ask of the records of a file: the bounds that CNT's rules give
 pub record ShapeFits (s : Shape) : Type 0 where
   pub head-low : 8 ≤ s .head

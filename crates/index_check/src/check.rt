@@ -57,7 +57,7 @@ fn node_ascends(nodes: &[u8], s: Shape, n: u32) -> bool
     requires { ⌜ ShapeFits s ⌝ }
     ensures { λ r. ⌜ r ≡ nodeAscending (now (nodes .entry)) s n ⌝ }
 {
-    if !record_ascends(nodes, s, n) {
+    if !record_ascends(nodes, s.kind, s.head, s.width, s.step, s.most, n) {
         return false;
     }
     punts_right(nodes, s, n)
@@ -96,7 +96,7 @@ fn over_leaf(leaves: &[u8], s: Shape, n: u32, w: u32) -> u32
     requires { ⌜ (LeafFits s) × (Reached (now leaves) s (progressOf w)) ⌝ }
     ensures { λ r. ⌜ progressOf r ≡ leafStep (now (leaves .entry)) s n (progressOf w) ⌝ }
 {
-    if !record_ascends(leaves, s, n) {
+    if !record_ascends(leaves, s.kind, s.head, s.width, s.step, s.most, n) {
         return STOPPED;
     }
     if !may_follow(leaves, s, w, n) {

@@ -8,7 +8,7 @@ use model::random::Random;
 pub type Damage = (&'static str, fn(&mut Tree, &mut Random));
 
 /// All of them.
-pub const ALL: [Damage; 18] = [
+pub const ALL: [Damage; 19] = [
     ("count of a node", |tree, random| {
         let (at, most) = (node(tree, random), 2 * tree.ordn);
         let node = record(&mut tree.nodes, at);
@@ -57,6 +57,7 @@ pub const ALL: [Damage; 18] = [
         });
     }),
     ("key of a leaf", leaf_key),
+    ("last key of a leaf", last_key),
     ("successor", successor),
     ("control", control),
     ("depth", depth),
@@ -202,6 +203,23 @@ fn leaf_key(tree: &mut Tree, random: &mut Random) {
     let any = random.below(last + 1);
     let at = random.pick(&[0, last, any]);
     step(&mut entries[at].key, random);
+}
+
+/// The last key is the next leaf's first, or near it: all else that is said of the two stays
+/// right.
+fn last_key(tree: &mut Tree, random: &mut Random) {
+    let at = leaf(tree, random);
+    let next = record(&mut tree.leaves, at).ps;
+    let Some(next) = at_number(&tree.leaves, next).map(|leaf| leaf.entries[0].key.clone()) else {
+        return;
+    };
+    let Some(last) = record(&mut tree.leaves, at).entries.last_mut() else {
+        return;
+    };
+    last.key = next;
+    if random.one_in(2) {
+        step(&mut last.key, random);
+    }
 }
 
 fn successor(tree: &mut Tree, random: &mut Random) {

@@ -1,3 +1,4 @@
+use Rattle.index.specs.Inner.{shapeWith}
 use native.Mathlib.Omega.{arith}
 use borrow.Author.Needs.{needs}
 use Rattle.index.proofs.Shapes.{right-facts}
@@ -26,7 +27,7 @@ returns-2 : tie.Need-returns-2
 returns-2 c =
     let start = c .before .before .before .before .before .before in
     ascends-rest _ _ _ _ (c .before .before .before .before .record-right .ensures) _ (c .before .before .before .if1 .left)
-    (run-keys (start .args .file .now) (start .args .s) (start .args .n) _ _ (c .before .key-place .ensures) (c .before .before .count-at .ensures .0) _ (c .keys-ascend .ensures))
+    (run-keys (start .args .file .now) (shapeWith (start .args .kind) (start .args .head) (start .args .width) (start .args .step) (start .args .most)) (start .args .n) _ _ (c .before .key-place .ensures) (c .before .before .count-at .ensures .0) _ (c .keys-ascend .ensures))
 
 pub record-ascends-spec : {M : Type 1} → statement M
 record-ascends-spec = tie.close (tie.spec record-right-requires returns count-at-requires key-place-requires keys-ascend-requires returns-2)
