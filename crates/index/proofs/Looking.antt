@@ -1,15 +1,16 @@
 -- The lookup over CNT's part: what a tree, and the whole index, answers.
 use Prim.Native.Nat.{ℕ, _≤_}
 use native.Mathlib.Omega.{arith}
-use mathlib.Core.Path.{_≡_, sym, ap, _∙_}
+use mathlib.Core.Path.{_≡_, refl, sym, ap, _∙_}
 use mathlib.Core.Bool.{Bool, true, false, not, cond}
 use mathlib.Core.List.{List}
 use lib.ListN.{length, replicate}
 use borrow.Author.Tests.{not-true, not-false}
 use Rattle.word.specs.Overwrite.{overwrite, part}
 use Rattle.terms.specs.Term.{termRight, kindFor, widthOf, padded}
-use Rattle.terms.proofs.Padding.{long-kind, key-padded}
+use Rattle.terms.proofs.Padding.{width-high, long-kind, key-padded}
 use Rattle.index.specs.Files.{index}
+use Rattle.index.specs.Inner.{TreeFits, treeWith}
 use Rattle.index.specs.Layout.{treeOf}
 use Rattle.index.specs.Rules.{partRight, partOf}
 use Rattle.index.specs.Lookup.{descend, searchTree, lookupIn, lookupOf}
@@ -18,15 +19,17 @@ use Rattle.index.specs.declared.layout.Part.{Part}
 use Rattle.index.specs.declared.layout.Part.the-variants.{Right, Wrong}
 use Rattle.index.specs.declared.lookup.Found.{Found}
 use Rattle.index.specs.declared.lookup.Found.the-variants.{BadTerm, BadIndex}
+use Rattle.index.proofs.Finding.{down-numbers}
 
 -- ---- in a tree
 
-part-width : (cnt : List ℕ) (kind : ℕ) (p : Part) (t : Tree) → p ≡ partOf cnt kind → p ≡ Right t → t .nodes .width ≡ widthOf kind
+-- its type and its width are those that were asked for
+pub part-numbers : (cnt : List ℕ) (kind : ℕ) (p : Part) (t : Tree) → p ≡ partOf cnt kind → p ≡ Right t → (kind ≡ t .nodes .kind) × (widthOf kind ≡ t .nodes .width)
 unfolding partOf treeOf
-part-width cnt kind p t e q = cases (partRight cnt kind) (sym e ∙ q)
+part-numbers cnt kind p t e q = cases (partRight cnt kind) (sym e ∙ q)
   where
-    cases : (b : Bool) → cond b (Right (treeOf cnt kind)) Wrong ≡ Right t → t .nodes .width ≡ widthOf kind
-    cases true z = let same : treeOf cnt kind ≡ t = cc in rw (← same)
+    cases : (b : Bool) → cond b (Right (treeOf cnt kind)) Wrong ≡ Right t → (kind ≡ t .nodes .kind) × (widthOf kind ≡ t .nodes .width)
+    cases true z = let same : treeOf cnt kind ≡ t = cc in rw (← same) (refl, refl)
     cases false z = let w : _≡_ {A = ℕ} 0 1 = cc in absurd (omega arith)
 
 module _ (cnt nodes leaves : List ℕ) (kind : ℕ) (term : List ℕ) (p : Part) (e : p ≡ partOf cnt kind) where
@@ -34,14 +37,20 @@ module _ (cnt nodes leaves : List ℕ) (kind : ℕ) (term : List ℕ) (p : Part)
   unfolding searchTree
   tree-wrong q = rw (← e, q)
 
-  pub tree-searched : (t : Tree) (key : List ℕ) (r : Found) → p ≡ Right t → length term ≤ widthOf kind → t .nodes .width ≤ 30
-      → key ≡ overwrite (replicate 30 32) 0 term → r ≡ descend nodes leaves t (part key 0 (t .nodes .width)) 16 (t .root)
+  pub tree-searched : (t : Tree) (key : List ℕ) (width : ℕ) (r : Found) → p ≡ Right t → TreeFits t → length term ≤ widthOf kind → width ≡ widthOf kind
+      → key ≡ overwrite (replicate 30 32) 0 term
+      → r ≡ descend nodes leaves (treeWith kind width (t .nodes .most) (t .leaves .most)) (part key 0 width) 16 (t .root)
       → r ≡ searchTree nodes leaves (padded (widthOf kind) term) (partOf cnt kind)
   unfolding searchTree
-  tree-searched t key r q l h k d =
-      let w = part-width cnt kind p t e q in
-      let z : part key 0 (t .nodes .width) ≡ padded (t .nodes .width) term = key-padded term key (omega arith) k (t .nodes .width) (omega arith) h in
-      d ∙ ap (λ (s : List ℕ). descend nodes leaves t s 16 (t .root)) (z ∙ ap (λ (v : ℕ). padded v term) w) ∙ rw (← e, q)
+  tree-searched t key width r q fits l w k d =
+      let m = part-numbers cnt kind p t e q in
+      let h = width-high kind in
+      let z : part key 0 width ≡ padded (widthOf kind) term = rw w (key-padded term key (omega arith) k (widthOf kind) l h) in
+      let y : descend nodes leaves (treeWith kind width (t .nodes .most) (t .leaves .most)) (padded (widthOf kind) term) 16 (t .root) ≡ descend nodes leaves t (padded (widthOf kind) term) 16 (t .root) =
+      ap (λ (v : ℕ). descend nodes leaves (treeWith v width (t .nodes .most) (t .leaves .most)) (padded (widthOf kind) term) 16 (t .root)) (m .0)
+      ∙ ap (λ (v : ℕ). descend nodes leaves (treeWith (t .nodes .kind) v (t .nodes .most) (t .leaves .most)) (padded (widthOf kind) term) 16 (t .root)) (w ∙ m .1)
+      ∙ down-numbers nodes leaves t (padded (widthOf kind) term) fits 16 (t .root) in
+      d ∙ ap (λ (s : List ℕ). descend nodes leaves (treeWith kind width (t .nodes .most) (t .leaves .most)) s 16 (t .root)) z ∙ y ∙ rw (← e, q)
 
 -- ---- in the index
 

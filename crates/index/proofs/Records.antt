@@ -214,11 +214,12 @@ pub widths-same : (t : Tree) → TreeFits t → t .nodes .width ≡ t .leaves .w
 widths-same t f = sym (ap (λ (s : Shape). s .width) (f .leaves-are))
 
 -- and the one that its numbers give
-pub numbers-fit : (t : Tree) → TreeFits t → TreeFits (treeWith (t .nodes .kind) (t .nodes .width) (t .nodes .most) (t .leaves .most))
-numbers-fit t f =
-    record {
+pub numbers-fit : (t : Tree) (kind width : ℕ) → kind ≡ t .nodes .kind → width ≡ t .nodes .width → TreeFits t → TreeFits (treeWith kind width (t .nodes .most) (t .leaves .most))
+numbers-fit t kind width e w f =
+    rw (e, w)
+    (record {
       nodes-fit = subst ShapeFits (f .nodes-are) (f .nodes-fit);
       leaves-fit = subst LeafFits (f .leaves-are) (f .leaves-fit);
       nodes-are = refl;
       leaves-are = refl;
-    }
+    })

@@ -12,6 +12,7 @@ use terms::key::same_key;
 use terms::term::SPACE;
 use terms::term::kind_for;
 use terms::term::term_right;
+use terms::term::width_of;
 use word::bytes::copy_to;
 use word::integer::u32_at;
 use word::signed::to_signed;
@@ -188,14 +189,15 @@ fn lookup_in(cnt: &[u8], nodes: &[u8], leaves: &[u8], kind: u16, term: &[u8]) ->
     };
     let mut key = [SPACE; 30];
     copy_to(&mut key, 0, term);
+    let width = width_of(kind);
     let s = t.nodes;
     let l = t.leaves;
     go_down(
         nodes,
         leaves,
         &key,
-        s.kind,
-        s.width,
+        kind,
+        width,
         s.most,
         l.most,
         NODES_MOST,

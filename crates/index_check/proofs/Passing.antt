@@ -366,8 +366,12 @@ module _ (nodes leaves : List ℕ) (t : Tree) where
       ∙ ap (λ (l : Shape). pass nodes leaves (record { nodes = t .nodes; leaves = l; root = 0 }) (walk nodes (t .nodes) left n) w) (sym (f .leaves-are))
       ∙ pass-rootless (walk nodes (t .nodes) left n) w
 
-  pub pass-whole : TreeFits t → (left n : ℕ) (w : Progress)
-      → w ≡ pass nodes leaves (treeWith (t .nodes .kind) (t .nodes .width) (t .nodes .most) (t .leaves .most))
-      (walk nodes (nodeShape (t .nodes .kind) (t .nodes .width) (t .nodes .most)) left n) (progressOf 0)
+  pub pass-whole : TreeFits t → (kind width left n : ℕ) (w : Progress) → kind ≡ t .nodes .kind → width ≡ t .nodes .width
+      → w ≡ pass nodes leaves (treeWith kind width (t .nodes .most) (t .leaves .most)) (walk nodes (nodeShape kind width (t .nodes .most)) left n) (progressOf 0)
       → w ≡ pass nodes leaves t (walk nodes (t .nodes) left n) Before
-  pass-whole f left n w e = e ∙ pass-numbers f left n (progressOf 0) ∙ ap (pass nodes leaves t (walk nodes (t .nodes) left n)) progress-before
+  pass-whole f kind width left n w k v e =
+      e
+      ∙ ap (λ (x : ℕ). pass nodes leaves (treeWith x width (t .nodes .most) (t .leaves .most)) (walk nodes (nodeShape x width (t .nodes .most)) left n) (progressOf 0)) k
+      ∙ ap (λ (x : ℕ). pass nodes leaves (treeWith (t .nodes .kind) x (t .nodes .most) (t .leaves .most)) (walk nodes (nodeShape (t .nodes .kind) x (t .nodes .most)) left n) (progressOf 0)) v
+      ∙ pass-numbers f left n (progressOf 0)
+      ∙ ap (pass nodes leaves t (walk nodes (t .nodes) left n)) progress-before

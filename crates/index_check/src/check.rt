@@ -13,6 +13,7 @@ use index::rules::record_ascends;
 use index::rules::record_there;
 use terms::key::below_key;
 use terms::key::same_key;
+use terms::term::width_of;
 use word::integer::u32_at;
 ghost use mathlib.Core.Path.{_≡_};
 ghost use mathlib.Core.Bool.{true};
@@ -199,13 +200,14 @@ fn tree_sound(cnt: &[u8], nodes: &[u8], leaves: &[u8], kind: u16) -> bool
     let Part::Right(t) = p else {
         return false;
     };
+    let width = width_of(kind);
     let s = t.nodes;
     let l = t.leaves;
     let w = over_node(
         nodes,
         leaves,
-        s.kind,
-        s.width,
+        kind,
+        width,
         s.most,
         l.most,
         NODES_MOST,

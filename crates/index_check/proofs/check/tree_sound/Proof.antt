@@ -1,5 +1,7 @@
+use mathlib.Core.Path.{_∙_}
 use borrow.Author.Needs.{needs}
 use Rattle.index.proofs.Records.{part-fits, numbers-fit}
+use Rattle.index.proofs.Looking.{part-numbers}
 use Rattle.index_check.proofs.Passing.{reached-start, reached-before, pass-reached, pass-whole}
 use Rattle.index_check.proofs.Checking.{tree-wrong, tree-right}
 use Rattle.index_check.proofs.check.tree_sound.Statement.{statement}
@@ -17,19 +19,37 @@ enum-told c = search needs
 returns : tie.Need-returns
 returns c = tree-wrong _ _ _ _ _ (c .before .before .read-part .ensures) (c .enum-told .given .1)
 
+width-of-requires : tie.Need-width-of-requires
+width-of-requires c κs = search needs
+
 over-node-requires : tie.Need-over-node-requires
 over-node-requires c κs =
-    (numbers-fit _ (part-fits _ _ _ _ (c .before .before .before .before .before .read-part .ensures) (c .before .before .before .p .given .1)), reached-before _ _)
+    let o = c .before .before in
+    let e = o .before .before .before .before .read-part .ensures in
+    let g = o .before .before .p .given in
+    let f = part-fits _ _ _ _ e (g .1) in
+    let m = part-numbers _ _ _ _ e (g .1) in
+    (numbers-fit _ _ _ (m .0) (o .width-of .ensures .0 ∙ m .1) f, reached-before _ _)
 
 well-ended-requires : tie.Need-well-ended-requires
 well-ended-requires c κs =
-    let f = part-fits _ _ _ _ (c .before .before .before .before .before .before .read-part .ensures) (c .before .before .before .before .p .given .1) in
-    (f .leaves-fit, rw (pass-whole _ _ _ f _ _ _ (c .over-node .ensures)) (pass-reached _ _ (c .before .before .before .before .p .given .0 .0) _ _ (reached-start _ _)))
+    let o = c .before .before .before in
+    let e = o .before .before .before .before .read-part .ensures in
+    let g = o .before .before .p .given in
+    let f = part-fits _ _ _ _ e (g .1) in
+    let m = part-numbers _ _ _ _ e (g .1) in (
+      f .leaves-fit,
+      rw (pass-whole _ _ _ f _ _ _ _ _ (m .0) (o .width-of .ensures .0 ∙ m .1) (c .over-node .ensures)) (pass-reached _ _ (g .0 .0) _ _ (reached-start _ _)),
+    )
 
 returns-2 : tie.Need-returns-2
 returns-2 c =
-    let f = part-fits _ _ _ _ (c .before .before .before .before .before .before .before .read-part .ensures) (c .before .before .before .before .before .p .given .1) in
-    tree-right _ _ _ _ _ (c .before .before .before .before .before .before .before .read-part .ensures) _ _ _ (c .before .before .before .before .before .p .given .1) (pass-whole _ _ _ f _ _ _ (c .before .over-node .ensures)) (c .well-ended .ensures)
+    let o = c .before .before .before .before in
+    let e = o .before .before .before .before .read-part .ensures in
+    let g = o .before .before .p .given in
+    let f = part-fits _ _ _ _ e (g .1) in
+    let m = part-numbers _ _ _ _ e (g .1) in
+    tree-right _ _ _ _ _ e _ _ _ (g .1) (pass-whole _ _ _ f _ _ _ _ _ (m .0) (o .width-of .ensures .0 ∙ m .1) (c .before .over-node .ensures)) (c .well-ended .ensures)
 
 pub tree-sound-spec : {M : Type 1} → statement M
 tree-sound-spec =
@@ -39,6 +59,7 @@ tree-sound-spec =
     enum-known-p
     enum-told
     returns
+    width-of-requires
     over-node-requires
     well-ended-requires
     returns-2)
