@@ -54,13 +54,20 @@ fn pointer_right(nodes: &[u8], leaves: &[u8], t: Tree, n: u32, i: usize) -> bool
 }
 
 // Whether node `n` keeps its rules and its keys ascend.
-fn node_ascends(nodes: &[u8], s: Shape, n: u32) -> bool
-    requires { ⌜ ShapeFits s ⌝ }
-    ensures { λ r. ⌜ r ≡ nodeAscending (now (nodes .entry)) s n ⌝ }
+fn node_ascends(nodes: &[u8], kind: u16, width: usize, entries: usize, n: u32) -> bool
+    requires { ⌜ ShapeFits (nodeShape kind width entries) ⌝ }
+    ensures { λ r. ⌜ r ≡ nodeAscending (now (nodes .entry)) (nodeShape kind width entries) n ⌝ }
 {
-    if !record_ascends(nodes, s.kind, s.head, s.width, s.step, s.most, n) {
+    if !record_ascends(nodes, kind, 8, width, width + 4, entries, n) {
         return false;
     }
+    let s = Shape {
+        kind,
+        head: 8,
+        width,
+        step: width + 4,
+        most: entries,
+    };
     punts_right(nodes, s, n)
 }
 
@@ -93,14 +100,21 @@ fn may_follow(leaves: &[u8], s: Shape, w: u32, n: u32) -> bool
 }
 
 // On from `w` over leaf `n`.
-fn over_leaf(leaves: &[u8], s: Shape, n: u32, w: u32) -> u32
-    requires { ⌜ (LeafFits s) × (Reached (now leaves) s (progressOf w)) ⌝ }
-    ensures { λ r. ⌜ progressOf r ≡ leafStep (now (leaves .entry)) s n (progressOf w) ⌝ }
+fn over_leaf(leaves: &[u8], kind: u16, width: usize, items: usize, n: u32, w: u32) -> u32
+    requires { ⌜ (LeafFits (leafShape kind width items)) × (Reached (now leaves) (leafShape kind width items) (progressOf w)) ⌝ }
+    ensures { λ r. ⌜ progressOf r ≡ leafStep (now (leaves .entry)) (leafShape kind width items) n (progressOf w) ⌝ }
 {
-    if !record_ascends(leaves, s.kind, s.head, s.width, s.step, s.most, n) {
+    if !record_ascends(leaves, kind, 12, width, width + 8, items, n) {
         return STOPPED;
     }
-    if !may_follow(leaves, s, w, n) {
+    let l = Shape {
+        kind,
+        head: 12,
+        width,
+        step: width + 8,
+        most: items,
+    };
+    if !may_follow(leaves, l, w, n) {
         return STOPPED;
     }
     n
@@ -131,7 +145,7 @@ fn over_node(
         step: width + 4,
         most: entries,
     };
-    if !node_ascends(nodes, s, n) {
+    if !node_ascends(nodes, kind, width, entries, n) {
         return STOPPED;
     }
     let l = Shape {
@@ -170,7 +184,7 @@ fn over_node(
                 at,
             );
         } else {
-            at = over_leaf(leaves, l, 4294967295 - punt + 1, at);
+            at = over_leaf(leaves, kind, width, items, 4294967295 - punt + 1, at);
         }
         i += 1;
     }

@@ -53,13 +53,13 @@ claims t = (
 )
 
 abbrev over-node-Inv-loop : over-node-lts.InvT-loop
-over-node-Inv-loop nodes leaves kind width entries items left n w s l t count at₀ i₀ at i =
+over-node-Inv-loop nodes leaves kind width entries items left n w s t count at₀ i₀ at i =
     (i ≤ count) × (Reached leaves (leafShape kind width items) (progressOf at)) ×
     (progressOf at ≡ pass nodes leaves (treeWith kind width entries items) (behindFirst (λ m. walk nodes (nodeShape kind width entries) (left - 1) m) nodes (nodeShape kind width entries) n i) (progressOf at₀)) ×
     (pointersRight nodes leaves (treeWith kind width entries items) n i ≡ true)
 
 abbrev over-node-μ-loop : over-node-lts.MeasureT-loop
-over-node-μ-loop nodes leaves kind width entries items left n w s l t count at₀ i₀ at i = count - i
+over-node-μ-loop nodes leaves kind width entries items left n w s t count at₀ i₀ at i = count - i
 
 over-node-returns : (t : ℕ) → over-node-lts.Need-returns (claims t) (over-node-at t) over-node.Post over-node-Inv-loop over-node-μ-loop
 over-node-returns t c =

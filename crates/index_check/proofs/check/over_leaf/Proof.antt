@@ -1,14 +1,21 @@
+use native.Mathlib.Omega.{arith}
 use mathlib.Core.Path.{_∙_}
 use Rattle.index.proofs.Records.{ascends-right}
 use Rattle.index_check.proofs.Passing.{leaf-not, leaf-not-following, leaf-follows, progress-stopped, progress-leaf}
 use Rattle.index_check.proofs.check.over_leaf.Statement.{statement}
 use Rattle.index_check.proofs.check.over_leaf.Tie as tie
 
+add-record-ascends : tie.Need-add-record-ascends
+add-record-ascends c = omega (arith, c .before .pre .0 .shape .width-high)
+
 record-ascends-requires : tie.Need-record-ascends-requires
 record-ascends-requires c κs = c .before .pre .0 .shape
 
 returns : tie.Need-returns
 returns c = progress-stopped ∙ leaf-not _ _ _ _ _ (c .before .record-ascends .ensures) (c .if1 .taken)
+
+add-t9 : tie.Need-add-t9
+add-t9 c = omega (arith, c .before .before .before .pre .0 .shape .width-high)
 
 may-follow-requires : tie.Need-may-follow-requires
 may-follow-requires c κs =
@@ -27,4 +34,4 @@ returns-3 c =
     progress-leaf _ _ _ (ascends-right _ _ _ _ e q) ∙ leaf-follows _ _ _ _ _ e _ q (c .before .may-follow .ensures) (c .if2 .left)
 
 pub over-leaf-spec : {M : Type 1} → statement M
-over-leaf-spec = tie.close (tie.spec record-ascends-requires returns may-follow-requires returns-2 returns-3)
+over-leaf-spec = tie.close (tie.spec add-record-ascends record-ascends-requires returns add-t9 may-follow-requires returns-2 returns-3)
