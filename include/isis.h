@@ -28,8 +28,8 @@
  * cortex-m0, cortex-m3, cortex-m4 and 64-bit Arm, all from one proved module.
  * Lengths have 64 bits on every one of them, see isis_size. What it needs from
  * the program that it is linked into:
- *   x86-64     memset
- *   aarch64    memset
+ *   x86-64     memcpy memset
+ *   aarch64    memcpy memset
  *   cortex-m0  __aeabi_lmul __aeabi_memclr __aeabi_memcpy __aeabi_uldivmod
  *   cortex-m3  __aeabi_memclr __aeabi_memcpy __aeabi_uldivmod
  *   cortex-m4  __aeabi_memclr __aeabi_memcpy __aeabi_uldivmod
