@@ -189,6 +189,7 @@ fn lookup_in(cnt: &[u8], nodes: &[u8], leaves: &[u8], kind: u16, term: &[u8]) ->
     };
     let mut key = [SPACE; 30];
     copy_to(&mut key, 0, term);
+    // The width is asked of the type again, which is 1 or 2 where this is called: so the compiler knows that it is 10 or 30.
     let width = width_of(kind);
     let s = t.nodes;
     let l = t.leaves;

@@ -19,7 +19,7 @@ use Rattle.index.specs.declared.lookup.Found.the-variants.{At, NoTerm}
 use Rattle.index.proofs.Shapes.{right-facts}
 use Rattle.terms.proofs.Order.{by-cases, never, below-irrefl, below-trans, same-is, above, above-lower, ascent-above, lastOf, ascent-append}
 use Rattle.word.proofs.Tests.{and-iff, false-true}
-use Rattle.index_check.specs.Walk.{behind, behindFirst, walk, entriesAlong, keysAlong}
+use Rattle.index_check.specs.Walk.{behind, behindFirst, walk, keysAlong}
 use Rattle.index_check.specs.Sound.{all, pointerRight, pointersRight}
 use Rattle.index_check.specs.Passes.{nodeAscending, nodeSound}
 use Rattle.index_check.proofs.Sound.{keeps, keys-cons}
@@ -31,7 +31,11 @@ both a b e = and-iff a b .0 e
 pub join : (a b : Bool) → a ≡ true → b ≡ true → a && b ≡ true
 join a b p q = and-iff a b .1 (p, q)
 
--- ---- the keys of entries
+-- ---- the entries along leaves, and their keys
+
+unfoldable pub entriesAlong : List ℕ → Shape → List ℕ → List Entry
+entriesAlong f s [] = []
+entriesAlong f s (n ∷ ns) = entriesOf f s n ++ entriesAlong f s ns
 
 unfoldable pub keysIn : List Entry → List (List ℕ)
 keysIn [] = []

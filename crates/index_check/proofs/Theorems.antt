@@ -22,11 +22,11 @@ use Rattle.index.specs.declared.lookup.Found.{Found}
 use Rattle.index.specs.declared.lookup.Found.the-variants.{At, NoTerm}
 use Rattle.terms.proofs.Order.{by-cases, never, below-irrefl, same-is, above, ascent-above}
 use Rattle.word.proofs.Tests.{false-true}
-use Rattle.index_check.specs.Walk.{met, entriesAlong, keysAlong}
+use Rattle.index_check.specs.Walk.{met, keysAlong}
 use Rattle.index_check.specs.Sound.{all, keepsRules, nodeAscends, pointsToFirst, noneTwice, successorsRight, metSound, treeSound, soundIn, soundOf}
 use Rattle.index_check.specs.Theorems.{Among, HeldBy, HeldIn, FoundExactlyIfHeld, AbsentOtherwise, AscentMeetsOnce}
 use Rattle.index_check.proofs.Sound.{keeps, keeps-all, ascent-once}
-use Rattle.index_check.proofs.Held.{both, keysIn, keys-in-along, ascent-tail, held, way-judged}
+use Rattle.index_check.proofs.Held.{both, keysIn, entriesAlong, keys-in-along, ascent-tail, held, way-judged}
 
 -- ---- an entry among others
 

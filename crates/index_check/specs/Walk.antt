@@ -4,7 +4,7 @@ use mathlib.Core.Bool.{cond}
 use mathlib.Core.List.{List, [], _∷_, _++_}
 use Rattle.index.specs.Layout.{nodesMost, ockAt, puntAt, keysOf}
 use Rattle.index.specs.Rules.{nodeRight}
-use Rattle.index.specs.Lookup.{Entry, entriesOf, isNode, leafNumber}
+use Rattle.index.specs.Lookup.{isNode, leafNumber}
 use Rattle.index.specs.Reading.{Met, Node, Leaf, TooDeep}
 use Rattle.index.specs.declared.layout.Shape.{Shape}
 use Rattle.index.specs.declared.layout.Tree.{Tree}
@@ -27,12 +27,7 @@ walk f s (suc left) n = Node n ∷ cond (nodeRight f s n) (behindFirst (λ m. wa
 abbrev pub met : List ℕ → Tree → List Met
 met nodes t = walk nodes (t .nodes) nodesMost (t .root)
 
--- ---- what leaves hold, one after the other
-
--- the active entries along leaves
-unfoldable pub entriesAlong : List ℕ → Shape → List ℕ → List Entry
-entriesAlong f s [] = []
-entriesAlong f s (n ∷ ns) = entriesOf f s n ++ entriesAlong f s ns
+-- ---- the keys of leaves, one leaf after the other
 
 -- the active keys along leaves
 unfoldable pub keysAlong : List ℕ → Shape → List ℕ → List (List ℕ)

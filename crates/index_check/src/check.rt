@@ -214,6 +214,7 @@ fn tree_sound(cnt: &[u8], nodes: &[u8], leaves: &[u8], kind: u16) -> bool
     let Part::Right(t) = p else {
         return false;
     };
+    // The width is asked of the type again, which is 1 or 2 where this is called: so the compiler knows that it is 10 or 30.
     let width = width_of(kind);
     let s = t.nodes;
     let l = t.leaves;
