@@ -5,7 +5,7 @@ use word::integer::u32_at;
 ghost use mathlib.Core.Path.{_≡_};
 ghost use Prim.Native.Nat.{_+_, _*_, _≤_, _<_};
 ghost use Rattle.index.specs.Inner.{ShapeFits};
-ghost use Rattle.index.specs.Layout.{orderMost, sizeOf, placeOf, keyPlace, nodeShape, leafShape};
+ghost use Rattle.index.specs.Layout.{sizeOf, placeOf, keyPlace, nodeShape, leafShape};
 ghost use Rattle.index.specs.Rules.{partOf, orderRight};
 
 // The bytes of CNT, and of its part for a tree.
@@ -63,29 +63,31 @@ pub fn key_place(s: Shape, n: u32, i: usize) -> usize
     place(s, n) + s.head + i * s.step
 }
 
-fn node_shape(kind: u16, width: usize, ordn: u16) -> Shape
-    requires { ⌜ (width ≤ 30) × (ordn ≤ orderMost) ⌝ }
-    ensures { λ r. ⌜ r ≡ nodeShape kind width (2 * ordn) ⌝ }
+// The records of a node file, of a tree's type, the keys' width and how many entries there are.
+pub fn node_shape(kind: u16, width: usize, most: usize) -> Shape
+    requires { ⌜ width ≤ 30 ⌝ }
+    ensures { λ r. ⌜ r ≡ nodeShape kind width most ⌝ }
 {
     Shape {
         kind,
         head: 8,
         width,
         step: width + 4,
-        most: 2 * (ordn as usize),
+        most,
     }
 }
 
-fn leaf_shape(kind: u16, width: usize, ordf: u16) -> Shape
-    requires { ⌜ (width ≤ 30) × (ordf ≤ orderMost) ⌝ }
-    ensures { λ r. ⌜ r ≡ leafShape kind width (2 * ordf) ⌝ }
+// Of a leaf file.
+pub fn leaf_shape(kind: u16, width: usize, most: usize) -> Shape
+    requires { ⌜ width ≤ 30 ⌝ }
+    ensures { λ r. ⌜ r ≡ leafShape kind width most ⌝ }
 {
     Shape {
         kind,
         head: 12,
         width,
         step: width + 8,
-        most: 2 * (ordf as usize),
+        most,
     }
 }
 
@@ -119,8 +121,8 @@ pub fn read_part(cnt: &[u8], kind: u16) -> Part
         return Part::Wrong;
     }
     let width = width_of(kind);
-    let nodes = node_shape(kind, width, ordn);
-    let leaves = leaf_shape(kind, width, ordf);
+    let nodes = node_shape(kind, width, 2 * (ordn as usize));
+    let leaves = leaf_shape(kind, width, 2 * (ordf as usize));
     let root = u32_at(cnt, at + 12);
     Part::Right(Tree {
         nodes,

@@ -7,10 +7,11 @@ use terms::key::keys_ascend;
 use word::integer::u16_at;
 use word::integer::u32_at;
 ghost use mathlib.Core.Path.{_≡_};
-ghost use mathlib.Core.Bool.{true};
+ghost use mathlib.Core.Bool.{true, false};
 ghost use Prim.Native.Nat.{_+_, _*_, _<_};
 ghost use Rattle.index.specs.Inner.{ShapeFits, shapeWith, recordAscends};
 ghost use Rattle.index.specs.Layout.{ockAt, puntAt};
+ghost use Rattle.index.specs.Lookup.{isNode, leafNumber};
 ghost use Rattle.index.specs.Rules.{recordThere, recordRight, puntsRight, nodeRight};
 
 // Whether all bytes of record `n` are in the file. Its number is compared before it is multiplied.
@@ -63,6 +64,21 @@ pub fn punt_at(file: &[u8], s: Shape, n: u32, i: usize) -> u32
     ensures { λ r. ⌜ r ≡ puntAt (now (file .entry)) s n i ⌝ }
 {
     u32_at(file, key_place(s, n, i) + s.width)
+}
+
+// A positive PUNT is a node's number.
+pub fn is_node(punt: u32) -> bool
+    ensures { λ r. ⌜ r ≡ isNode punt ⌝ }
+{
+    punt < 2147483648
+}
+
+// A negative one is a leaf's, whose number is its absolute value.
+pub fn leaf_number(punt: u32) -> u32
+    requires { ⌜ isNode punt ≡ false ⌝ }
+    ensures { λ r. ⌜ r ≡ leafNumber punt ⌝ }
+{
+    4294967295 - punt + 1
 }
 
 // Whether no active PUNT of node `n` is 0.
