@@ -15,7 +15,7 @@ use Rattle.word.specs.Overwrite.{part}
 use Rattle.word.proofs.Overwrite.{lt-or-ge, part-length, part-add}
 use Rattle.word.proofs.Integers.{Bytes, bytes-part}
 use Rattle.terms.specs.Key.{same, below}
-use Rattle.terms.specs.Inner.{big}
+use Rattle.terms.specs.Inner.{big, DecidedAt}
 use Rattle.terms.proofs.Order.{by-cases, never, below-irrefl, below-trans, below-first, below-rest, same-is, same-refl}
 
 -- ---- two numbers by their highest digits
@@ -107,7 +107,7 @@ halves s at n k h =
 abbrev pub Agree : List ℕ → List ℕ → ℕ → ℕ → ℕ → Type 0
 Agree a b i j k = part a i k ≡ part b j k
 
-pub agree-less : (a b : List ℕ) (i j k m : ℕ) → m ≤ k → Agree a b i j k → Agree a b i j m
+agree-less : (a b : List ℕ) (i j k m : ℕ) → m ≤ k → Agree a b i j k → Agree a b i j m
 agree-less a b i j k m h e = sym (take-take m k (drop i a) h) ∙ ap (take m) e ∙ take-take m k (drop j b) h
 
 -- the 8 bytes behind the first k, and the number that they are the digits of
@@ -161,15 +161,40 @@ module _ (a b : List ℕ) (i j k x y : ℕ) (p : Eight a i k x) (q : Eight b j k
     whole : x ≡ y → part a i n ≡ part b j n
     whole e = rw h (agree-more e)
 
-    pub last-same : eqb x y ≡ same (part a i n) (part b j n)
+    last-same : eqb x y ≡ same (part a i n) (part b j n)
     last-same =
         by-cases (eqb x y) (λ e. e ∙ sym (rw (whole (eqb-true x y e)) (same-refl (part b j n))))
         (λ e. e ∙ differ-same n (omega arith) (eqb-false x y e))
 
-    pub last-below : ltb x y ≡ below (part a i n) (part b j n)
+    last-below : ltb x y ≡ below (part a i n) (part b j n)
     last-below =
         by-cases (eqb x y) (λ e. let z = eqb-true x y e in le-ltb x y (omega arith) ∙ sym (rw (whole z) (below-irrefl (part b j n))))
         (λ e. differ-below n (omega arith) (eqb-false x y e))
+
+-- ---- where keys are decided
+
+-- at 8 bytes that differ
+pub decided-here : (a b : List ℕ) (i j n k x y : ℕ) → Eight a i k x → Eight b j k y → Agree a b i j k → k + 8 ≤ n → (x ≡ y → ⊥) → DecidedAt a i b j n k
+decided-here a b i j n k x y p q known h ne =
+    record { inside = h; agree = known; last = λ e. absurd (ne (p .number ∙ ap big e ∙ sym (q .number))) }
+
+-- or at the last 8
+pub decided-last : (a b : List ℕ) (i j n k : ℕ) → 8 ≤ n → n - 8 ≤ k → Agree a b i j k → DecidedAt a i b j n (n - 8)
+decided-last a b i j n k h l known = record { inside = omega arith; agree = agree-less a b i j k (n - 8) l known; last = λ e. omega arith }
+
+module _ (a b : List ℕ) (i j n k x y : ℕ) (d : DecidedAt a i b j n k) (p : Eight a i k x) (q : Eight b j k y) where
+  end : x ≡ y → n ≡ k + 8
+  end e = sym (d .last (these a b i j k x y p q (d .agree) e))
+
+  pub decided-same : eqb x y ≡ same (part a i n) (part b j n)
+  decided-same =
+      by-cases (eqb x y) (λ e. last-same a b i j k x y p q (d .agree) n (end (eqb-true x y e)))
+      (λ e. e ∙ differ-same a b i j k x y p q (d .agree) n (d .inside) (eqb-false x y e))
+
+  pub decided-below : ltb x y ≡ below (part a i n) (part b j n)
+  decided-below =
+      by-cases (eqb x y) (λ e. last-below a b i j k x y p q (d .agree) n (end (eqb-true x y e)))
+      (λ e. differ-below a b i j k x y p q (d .agree) n (d .inside) (eqb-false x y e))
 
 -- ---- 8 bytes as one number
 

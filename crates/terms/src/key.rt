@@ -6,7 +6,7 @@ ghost use lib.ListN.{length};
 ghost use Rattle.word.specs.Integer.{le};
 ghost use Rattle.word.specs.Overwrite.{part};
 ghost use Rattle.terms.specs.Key.{same, below, ascending};
-ghost use Rattle.terms.specs.Inner.{big, keysRun};
+ghost use Rattle.terms.specs.Inner.{big, keysRun, DecidedAt};
 
 // The number whose 8 bytes are those of `v` in the other order.
 fn swapped(v: u64) -> u64
@@ -32,20 +32,29 @@ fn eight(s: &[u8], at: usize) -> u64
     swapped(u64_at(s, at))
 }
 
-// Whether keys that agree in their first 8 bytes agree: 8 bytes at a time, the last 8 of which may begin among those known to agree.
-fn same_rest(a: &[u8], i: usize, b: &[u8], j: usize, n: usize) -> bool
+// Where keys that agree in their first 8 bytes are decided: at the first 8 that differ, 8 at a time; or else at the last 8, which may begin among those known to
+// agree.
+fn decided_at(a: &[u8], i: usize, b: &[u8], j: usize, n: usize) -> usize
     requires { ⌜ (8 ≤ n) × (i + n ≤ length (now a)) × (j + n ≤ length (now b)) × (part (now a) i 8 ≡ part (now b) j 8) ⌝ }
-    ensures { λ r. ⌜ r ≡ same (part (now (a .entry)) i n) (part (now (b .entry)) j n) ⌝ }
+    ensures { λ r. ⌜ DecidedAt (now (a .entry)) i (now (b .entry)) j n r ⌝ }
 {
     let mut k: usize = 8;
     while 8 <= n - k {
         if eight(a, i + k) != eight(b, j + k) {
-            return false;
+            return k;
         }
         k += 8;
     }
-    let m = n - 8;
-    eight(a, i + m) == eight(b, j + m)
+    n - 8
+}
+
+// Whether keys that agree in their first 8 bytes agree.
+fn same_rest(a: &[u8], i: usize, b: &[u8], j: usize, n: usize) -> bool
+    requires { ⌜ (8 ≤ n) × (i + n ≤ length (now a)) × (j + n ≤ length (now b)) × (part (now a) i 8 ≡ part (now b) j 8) ⌝ }
+    ensures { λ r. ⌜ r ≡ same (part (now (a .entry)) i n) (part (now (b .entry)) j n) ⌝ }
+{
+    let k = decided_at(a, i, b, j, n);
+    eight(a, i + k) == eight(b, j + k)
 }
 
 // The same for their order.
@@ -53,17 +62,8 @@ fn below_rest(a: &[u8], i: usize, b: &[u8], j: usize, n: usize) -> bool
     requires { ⌜ (8 ≤ n) × (i + n ≤ length (now a)) × (j + n ≤ length (now b)) × (part (now a) i 8 ≡ part (now b) j 8) ⌝ }
     ensures { λ r. ⌜ r ≡ below (part (now (a .entry)) i n) (part (now (b .entry)) j n) ⌝ }
 {
-    let mut k: usize = 8;
-    while 8 <= n - k {
-        let x = eight(a, i + k);
-        let y = eight(b, j + k);
-        if x != y {
-            return x < y;
-        }
-        k += 8;
-    }
-    let m = n - 8;
-    eight(a, i + m) < eight(b, j + m)
+    let k = decided_at(a, i, b, j, n);
+    eight(a, i + k) < eight(b, j + k)
 }
 
 // Whether the `n` bytes at `i` of `a` are those at `j` of `b`. Most keys differ in their first 8 bytes.
@@ -77,13 +77,11 @@ pub fn same_key(a: &[u8], i: usize, b: &[u8], j: usize, n: usize) -> bool
     same_rest(a, i, b, j, n)
 }
 
-// Whether the `n` bytes at `i` of `a` come before those at `j` of `b`.
-pub fn below_key(a: &[u8], i: usize, b: &[u8], j: usize, n: usize) -> bool
-    requires { ⌜ (8 ≤ n) × (i + n ≤ length (now a)) × (j + n ≤ length (now b)) ⌝ }
+// Whether the `n` bytes at `i` of `a`, of which the first 8 are the digits of `x`, come before those at `j` of `b`, of which they are the digits of `y`.
+fn below_by(a: &[u8], i: usize, x: u64, b: &[u8], j: usize, y: u64, n: usize) -> bool
+    requires { ⌜ (8 ≤ n) × (i + n ≤ length (now a)) × (j + n ≤ length (now b)) × (x ≡ big (part (now a) i 8)) × (y ≡ big (part (now b) j 8)) ⌝ }
     ensures { λ r. ⌜ r ≡ below (part (now (a .entry)) i n) (part (now (b .entry)) j n) ⌝ }
 {
-    let x = eight(a, i);
-    let y = eight(b, j);
     if x < y {
         return true;
     }
@@ -93,19 +91,32 @@ pub fn below_key(a: &[u8], i: usize, b: &[u8], j: usize, n: usize) -> bool
     below_rest(a, i, b, j, n)
 }
 
-// Whether `count` keys ascend strictly, of which the first is at `at` and each next one `step` bytes further.
+// Whether the `n` bytes at `i` of `a` come before those at `j` of `b`.
+pub fn below_key(a: &[u8], i: usize, b: &[u8], j: usize, n: usize) -> bool
+    requires { ⌜ (8 ≤ n) × (i + n ≤ length (now a)) × (j + n ≤ length (now b)) ⌝ }
+    ensures { λ r. ⌜ r ≡ below (part (now (a .entry)) i n) (part (now (b .entry)) j n) ⌝ }
+{
+    let x = eight(a, i);
+    let y = eight(b, j);
+    below_by(a, i, x, b, j, y, n)
+}
+
+// Whether `count` keys ascend strictly, of which the first is at `at` and each next one `step` bytes further. The first 8 bytes of a key are read once.
 pub fn keys_ascend(file: &[u8], at: usize, step: usize, width: usize, count: usize) -> bool
     requires { ⌜ (8 ≤ width) × (width ≤ step) × (1 ≤ count) × (at + count * step ≤ length (now file)) ⌝ }
     ensures { λ r. ⌜ r ≡ ascending (keysRun (now (file .entry)) at step width count) ⌝ }
 {
     let mut key = at;
+    let mut x = eight(file, at);
     let mut left = count - 1;
     while 0 < left {
         let next = key + step;
-        if !below_key(file, key, file, next, width) {
+        let y = eight(file, next);
+        if !below_by(file, key, x, file, next, y, width) {
             return false;
         }
         key = next;
+        x = y;
         left -= 1;
     }
     true
