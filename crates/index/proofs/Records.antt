@@ -144,7 +144,7 @@ part-right cnt kind id n m w root a b x y l i j p q r s t u v d e z =
 
 -- ---- the keys of a record, one after the other
 
-place-next : (s : Shape) (n i : ℕ) → keyPlace s n (i + 1) ≡ keyPlace s n i + s .step
+pub place-next : (s : Shape) (n i : ℕ) → keyPlace s n (i + 1) ≡ keyPlace s n i + s .step
 unfolding keyPlace
 place-next s n i =
     let z : i + 1 ≡ suc i = omega arith in

@@ -11,7 +11,9 @@ use Rattle.index.specs.declared.layout.Part.{Part}
 use Rattle.index.specs.declared.layout.Part.the-variants.{Right, Wrong}
 use Rattle.index_check.specs.Walk.{walk}
 use Rattle.index_check.specs.Sound.{treeSound, soundOf, indexAnswer}
-use Rattle.index_check.specs.Passes.{Progress, Before, pass, ended}
+use Rattle.index_check.specs.Passes.{pass, ended}
+use Rattle.index_check.specs.declared.check.Progress.{Progress}
+use Rattle.index_check.specs.declared.check.Progress.the-variants.{Before}
 use Rattle.index_check.proofs.Sound.{pass-sound}
 
 -- ---- the check of a tree
@@ -22,10 +24,10 @@ module _ (cnt nodes leaves : List ℕ) (kind : ℕ) (p : Part) (e : p ≡ partOf
   tree-wrong q = rw (← e, q)
 
   pub tree-right : (t : Tree) (w : Progress) (r : Bool) → p ≡ Right t → w ≡ pass nodes leaves t (walk nodes (t .nodes) 16 (t .root)) Before
-      → r ≡ ended leaves (t .leaves) w → r ≡ treeSound nodes leaves (partOf cnt kind)
+      → r ≡ ended w → r ≡ treeSound nodes leaves (partOf cnt kind)
   unfolding treeSound
   tree-right t w r q d f =
-      rw (← e, q) (f ∙ ap (ended leaves (t .leaves)) d ∙ pass-sound nodes leaves t (walk nodes (t .nodes) 16 (t .root)))
+      rw (← e, q) (f ∙ ap ended d ∙ pass-sound nodes leaves t (walk nodes (t .nodes) 16 (t .root)))
 
 module _ (cnt n01 l01 n02 l02 : List ℕ) (a : Bool) (e : a ≡ treeSound n01 l01 (partOf cnt 1)) where
   pub check-first : not a ≡ true → 21 ≡ indexAnswer (index cnt n01 l01 n02 l02)

@@ -21,7 +21,7 @@ use Rattle.terms.proofs.Order.{by-cases, never, below-irrefl, below-trans, same
 use Rattle.word.proofs.Tests.{and-iff, false-true}
 use Rattle.index_check.specs.Walk.{behind, behindFirst, walk, keysAlong}
 use Rattle.index_check.specs.Sound.{all, pointerRight, pointersRight}
-use Rattle.index_check.specs.Passes.{nodeAscending, nodeSound}
+use Rattle.index_check.specs.Passes.{nodeSound}
 use Rattle.index_check.proofs.Sound.{keeps, keys-cons}
 
 -- both parts of a test that came out true
@@ -395,7 +395,7 @@ module _ (nodes leaves : List ℕ) (t : Tree) (key : List ℕ) where
     counted : 1 ≤ ockAt nodes (t .nodes) n
 
   node-facts : (n : ℕ) → nodeSound nodes leaves t n ≡ true → NodeFacts n
-  unfolding nodeSound nodeAscending nodeRight
+  unfolding nodeSound nodeRight
   node-facts n e =
       let q = both (nodeRight nodes (t .nodes) n && ascending (keysOf nodes (t .nodes) n)) (pointersRight nodes leaves t n (ockAt nodes (t .nodes) n)) e in
       let r = both (nodeRight nodes (t .nodes) n) (ascending (keysOf nodes (t .nodes) n)) (q .0) in

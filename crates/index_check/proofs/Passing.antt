@@ -4,192 +4,194 @@ use native.Mathlib.Nat.{add-zero, add-suc}
 use native.Mathlib.Numerals.{add-one}
 use native.Mathlib.Omega.{arith}
 use mathlib.Core.Path.{_≡_, refl, sym, ap, _∙_}
-use mathlib.Core.Bool.{Bool, true, false, not, _&&_, cond, and-true, and-false}
+use mathlib.Core.Bool.{Bool, true, false, not, _&&_, cond, and-false}
 use mathlib.Core.List.{List, [], _∷_, _++_}
 use lib.Dec.{eqb}
-use borrow.Author.Tests.{eq-eqb, ne-eqb, lt-ltb, le-ltb, not-true, not-false}
-use Rattle.terms.specs.Key.{same, below, ascending}
-use Rattle.index.specs.Inner.{TreeFits, treeWith, recordAscends}
+use lib.ListN.{length}
+use borrow.Author.Tests.{eq-eqb, ne-eqb, eqb-true, not-true, not-false}
+use Rattle.word.specs.Overwrite.{part}
+use Rattle.terms.specs.Key.{same, below, ascending, ascendingAfter}
+use Rattle.terms.specs.Inner.{keysRun}
+use Rattle.index.specs.Inner.{ShapeFits, TreeFits, treeWith}
 use Rattle.index.specs.Layout.{nodeShape, leafShape, keyPlace, ockAt, keyAt, puntAt, psAt, keysOf}
 use Rattle.index.specs.Rules.{recordThere, recordRight, puntsRight, nodeRight}
-use Rattle.index.specs.Lookup.{leafNumber}
+use Rattle.index.specs.Lookup.{isNode, leafNumber}
 use Rattle.index.specs.Reading.{Met, Node, Leaf, TooDeep}
 use Rattle.index.specs.declared.layout.Shape.{Shape}
 use Rattle.index.specs.declared.layout.Tree.{Tree}
-use Rattle.index.proofs.Shapes.{right-facts, there-facts}
-use Rattle.terms.proofs.Order.{by-cases}
-use Rattle.word.proofs.Tests.{and-left}
-use Rattle.word.specs.Overwrite.{part}
+use Rattle.index.proofs.Shapes.{right-facts, active-in}
+use Rattle.index.proofs.Records.{run-keys}
+use Rattle.terms.proofs.Ascending.{run-start, run-done, run-stop, run-next}
+use Rattle.terms.proofs.Order.{by-cases, never}
+use Rattle.word.proofs.Tests.{and-left, and-iff}
 use Rattle.index_check.specs.Walk.{behind, behindFirst, walk}
-use Rattle.index_check.specs.Sound.{pointerRight, pointersRight}
-use Rattle.index_check.specs.Passes.{Progress, Stopped, Before, After, nodeAscending, nodeSound, lastKey, follows, leafSound, leafStep, ended, Reached, progressOf, passOne, pass}
+use Rattle.index_check.specs.Sound.{begins, pointerRight, pointersRight}
+use Rattle.index_check.specs.Passes.{isStopped, led, pointed, nodeSound, lastPlace, follows, leafSound, leafStep, Reached, passOne, pass}
+use Rattle.index_check.specs.declared.check.Progress.{Progress}
+use Rattle.index_check.specs.declared.check.Progress.the-variants.{Stopped, Before, After}
 
--- ---- a pointer
+-- ---- the progress
 
-module _ (nodes leaves : List ℕ) (t : Tree) (n i punt : ℕ) (p : punt ≡ puntAt nodes (t .nodes) n i) where
-  module _ (b : Bool) (l : punt < 2147483648) (e : b ≡ recordThere nodes (t .nodes) punt) where
-    pub pointer-node-out : not b ≡ true → false ≡ pointerRight nodes leaves t n i
-    unfolding pointerRight
-    pointer-node-out q = rw (← p, lt-ltb _ _ l, ← e, not-true b q)
+stopped-is : (w : Progress) → isStopped w ≡ true → w ≡ Stopped
+unfolding isStopped
+stopped-is Stopped e = refl
+stopped-is Before e = never e refl
+stopped-is (After key next) e = never e refl
 
-    pub pointer-node : (r : Bool) → not b ≡ false → r ≡ same (keyAt nodes (t .nodes) n i) (keyAt nodes (t .nodes) punt 0) → r ≡ pointerRight nodes leaves t n i
-    unfolding pointerRight
-    pointer-node r q d = rw (← p, lt-ltb _ _ l, ← e, not-false b q, d)
+is-stopped : isStopped Stopped ≡ true
+unfolding isStopped
+is-stopped = refl
 
-  module _ (m : ℕ) (b : Bool) (l : 2147483648 ≤ punt) (k : m ≡ leafNumber punt) (e : b ≡ recordThere leaves (t .leaves) m) where
-    pub pointer-leaf-out : not b ≡ true → false ≡ pointerRight nodes leaves t n i
-    unfolding pointerRight
-    pointer-leaf-out q = rw (← p, le-ltb _ _ l, ← k, ← e, not-true b q)
+pub reached-after : (leaves : List ℕ) (s : Shape) (w : Progress) (key next : ℕ) → w ≡ After key next → Reached leaves s w → key + s .width ≤ length leaves
+unfolding Reached
+reached-after leaves s w key next e r = rw e at r
 
-    pub pointer-leaf : (r : Bool) → not b ≡ false → t .nodes .width ≡ t .leaves .width
-        → r ≡ same (keyAt nodes (t .nodes) n i) (part leaves (keyPlace (t .leaves) m 0) (t .nodes .width)) → r ≡ pointerRight nodes leaves t n i
-    unfolding pointerRight
-    pointer-leaf r q z d =
-        rw (← p, le-ltb _ _ l, ← k, ← e, not-false b q)
-        (d ∙ ap (λ (v : ℕ). same (keyAt nodes (t .nodes) n i) (part leaves (keyPlace (t .leaves) m 0) v)) z)
+pub reached-start : (leaves : List ℕ) (s : Shape) → Reached leaves s Before
+unfolding Reached
+reached-start leaves s = tt
 
-pub leaf-number : (punt : ℕ) → punt < 4294967296 → 2147483648 ≤ punt → 4294967295 - punt + 1 ≡ leafNumber punt
-leaf-number punt h l = omega arith
+-- ---- a record that begins with a key
+
+pub pointed-none : (f : List ℕ) (s : Shape) (n key : ℕ) → key ≡ 0 → true ≡ pointed f s key n
+unfolding pointed
+pointed-none f s n key z = rw (eq-eqb _ _ z)
+
+module _ (f : List ℕ) (s : Shape) (n : ℕ) (h : recordRight f s n ≡ true) where
+  begins-is : (key : List ℕ) → begins key f s n ≡ same key (keyAt f s n 0)
+  begins-is key = rw (right-facts f s n h .there)
+
+  pub pointed-key : (key : ℕ) (r : Bool) → (key ≡ 0 → ⊥) → r ≡ same (part f key (s .width)) (keyAt f s n 0) → r ≡ pointed f s key n
+  unfolding pointed
+  pointed-key key r z d = rw (ne-eqb _ _ z) (d ∙ sym (begins-is (part f key (s .width))))
+
+pub led-on : (b : Bool) (w : Progress) → b ≡ true → led b w ≡ w
+unfolding led
+led-on b w e = rw e
+
+led-off : (b : Bool) (w : Progress) → b ≡ false → led b w ≡ Stopped
+unfolding led
+led-off b w e = rw e
+
+-- ---- a leaf
+
+module _ (leaves : List ℕ) (s : Shape) (n : ℕ) where
+  step-stopped : (w : Progress) → leafSound leaves s w n ≡ false → Stopped ≡ leafStep leaves s n w
+  unfolding leafStep
+  step-stopped w e = rw e
+
+  no-step : Stopped ≡ leafStep leaves s n Stopped
+  unfolding leafSound follows
+  no-step = step-stopped Stopped none
+    where
+      none : leafSound leaves s Stopped n ≡ false
+      none = simp and-false
+
+  module _ (a : Bool) (e : a ≡ recordRight leaves s n) where
+    pub leaf-broken : (w : Progress) → not a ≡ true → Stopped ≡ leafStep leaves s n w
+    unfolding leafSound
+    leaf-broken w q = step-stopped w broken
+      where
+        broken : leafSound leaves s w n ≡ false
+        broken = rw (← e, not-true a q)
+
+    module _ (key : List ℕ) (w : Progress) (q : not a ≡ false) (b : Bool) (d : b ≡ same key (keyAt leaves s n 0)) where
+      is-right : recordRight leaves s n ≡ true
+      is-right = sym e ∙ not-false a q
+
+      pub leaf-unpointed : not b ≡ true → Stopped ≡ leafStep leaves s n (led (begins key leaves s n) w)
+      leaf-unpointed o = rw (led-off (begins key leaves s n) w (begins-is leaves s n is-right key ∙ sym d ∙ not-true b o)) no-step
+
+      module _ (o : not b ≡ false) (c : Bool) (g : c ≡ follows leaves s w n) where
+        here : led (begins key leaves s n) w ≡ w
+        here = led-on (begins key leaves s n) w (begins-is leaves s n is-right key ∙ sym d ∙ not-false b o)
+
+        pub leaf-unfollowing : not c ≡ true → Stopped ≡ leafStep leaves s n (led (begins key leaves s n) w)
+        unfolding leafSound
+        leaf-unfollowing u = rw here (step-stopped w broken)
+          where
+            broken : leafSound leaves s w n ≡ false
+            broken = rw (← g, not-true c u, and-false)
+
+        module _ (u : not c ≡ false) (k : Bool) (m : k ≡ ascending (keysOf leaves s n)) where
+          pub leaf-unordered : not k ≡ true → Stopped ≡ leafStep leaves s n (led (begins key leaves s n) w)
+          unfolding leafSound
+          leaf-unordered v = rw here (step-stopped w broken)
+            where
+              broken : leafSound leaves s w n ≡ false
+              broken = rw (← m, not-true k v, and-false)
+
+          pub leaf-on : (at ps count : ℕ) → not k ≡ false → count ≡ ockAt leaves s n → at ≡ keyPlace s n (count - 1) → ps ≡ psAt leaves s n
+              → After at ps ≡ leafStep leaves s n (led (begins key leaves s n) w)
+          unfolding leafStep leafSound
+          leaf-on at ps count v x y z = rw (here, is-right, ← m, not-false k v, ← g, not-false c u, y, z, x)
 
 -- ---- the pointers of a node
 
 module _ (nodes leaves : List ℕ) (t : Tree) (n : ℕ) where
-  pub pointers-more : (i : ℕ) (b : Bool) → pointersRight nodes leaves t n i ≡ true → b ≡ pointerRight nodes leaves t n i → not b ≡ false
-      → pointersRight nodes leaves t n (i + 1) ≡ true
+  pub pointers-more : (i : ℕ) → pointersRight nodes leaves t n i ≡ true → pointerRight nodes leaves t n i ≡ true → pointersRight nodes leaves t n (i + 1) ≡ true
   unfolding pointersRight
-  pointers-more i b inv e q = rw (add-one, inv, ← e, not-false b q)
+  pointers-more i inv e = rw (add-one, inv, e)
 
   pointers-fail : (d i : ℕ) → pointerRight nodes leaves t n i ≡ false → pointersRight nodes leaves t n (suc i + d) ≡ false
   unfolding pointersRight
   pointers-fail zero i e = rw (add-zero, e, and-false)
   pointers-fail (suc d) i e = rw (add-suc, pointers-fail d i e)
 
-  module _ (count : ℕ) (k : count ≡ ockAt nodes (t .nodes) n) where
-    pub pointers-stop : (i : ℕ) (b : Bool) → i < count → b ≡ pointerRight nodes leaves t n i → not b ≡ true
-        → false ≡ pointersRight nodes leaves t n (ockAt nodes (t .nodes) n)
-    pointers-stop i b h e q =
-        let d : ℕ = count - suc i in
-        let z : suc i + d ≡ count = omega arith in
-        rw (← k, ← z) (sym (pointers-fail d i (sym e ∙ not-true b q)))
+  pointer-among : (i count : ℕ) → i < count → pointersRight nodes leaves t n count ≡ true → pointerRight nodes leaves t n i ≡ true
+  pointer-among i count h e =
+      let d : ℕ = count - suc i in
+      let z : suc i + d ≡ count = omega arith in
+      by-cases (pointerRight nodes leaves t n i) (λ y. y) (λ y. never e (rw z at (pointers-fail d i y)))
 
--- ---- a node
+  -- no PUNT 0 among pointers that are right: no node has that number
+  zero-wrong : (i : ℕ) → puntAt nodes (t .nodes) n i ≡ 0 → pointerRight nodes leaves t n i ≡ false
+  unfolding pointerRight recordThere
+  zero-wrong i z = rw z
 
-module _ (nodes : List ℕ) (s : Shape) (n : ℕ) where
-  exchange : (a b c : Bool) → ((a && b) && c) ≡ ((a && c) && b)
-  exchange true true c = sym (and-true c)
-  exchange true false c = sym (and-false c)
-  exchange false b c = refl
+  pub pointers-punts : (k : ℕ) → pointersRight nodes leaves t n k ≡ true → puntsRight nodes (t .nodes) n k ≡ true
+  unfolding pointersRight puntsRight
+  pointers-punts zero e = refl
+  pointers-punts (suc i) e =
+      let q = and-iff (pointersRight nodes leaves t n i) (pointerRight nodes leaves t n i) .0 e in
+      by-cases (eqb (puntAt nodes (t .nodes) n i) 0) (λ y. never (q .1) (zero-wrong i (eqb-true _ _ y)))
+      (λ y. rw (pointers-punts i (q .0), y))
 
-  -- the record and its keys first, then the pointers
-  ascending-is : nodeAscending nodes s n ≡ (recordAscends nodes s n && puntsRight nodes s n (ockAt nodes s n))
-  unfolding nodeAscending nodeRight recordAscends
-  ascending-is = exchange (recordRight nodes s n) (puntsRight nodes s n (ockAt nodes s n)) (ascending (keysOf nodes s n))
+-- no key of a record is at the beginning of the file
+pub key-low : (s : Shape) (n i : ℕ) → ShapeFits s → keyPlace s n i ≡ 0 → ⊥
+unfolding keyPlace
+key-low s n i fits e = omega (arith, fits .head-low, e)
 
-  module _ (a : Bool) (e : a ≡ recordAscends nodes s n) where
-    pub node-not : not a ≡ true → false ≡ nodeAscending nodes s n
-    node-not q = rw (ascending-is, ← e, not-true a q)
+-- ---- the order of a node's keys, one after the other
 
-    pub node-rest : (b : Bool) → not a ≡ false → b ≡ puntsRight nodes s n (ockAt nodes s n) → b ≡ nodeAscending nodes s n
-    node-rest b q d = rw (ascending-is, ← e, not-false a q, d)
+module _ (f : List ℕ) (s : Shape) (n own count : ℕ) where
+  -- what is left to ask, with the key at `own` the last one asked for and i entries done
+  abbrev pub OrderFrom : ℕ → Type 0
+  OrderFrom i = ascending (keysOf f s n) ≡ ascendingAfter (part f own (s .width)) (keysRun f (own + s .step) (s .step) (s .width) (count - 1 - i))
 
-module _ (nodes : List ℕ) (s : Shape) (n : ℕ) (a : Bool) (e : a ≡ nodeAscending nodes s n) (q : not a ≡ false) where
-  ascending-node : nodeRight nodes s n ≡ true
-  unfolding nodeAscending
-  ascending-node = and-left _ _ (sym e ∙ not-false a q)
+  pub order-start : own ≡ keyPlace s n 0 → count ≡ ockAt f s n → 1 ≤ count → OrderFrom 0
+  order-start e k h =
+      let z : count - 1 - 0 ≡ count - 1 = omega arith in
+      sym (run-keys f s n own count e k _ refl) ∙ run-start f (s .step) (s .width) own count h ∙ rw z
 
-  pub ascending-record : recordRight nodes s n ≡ true
-  unfolding nodeRight
-  ascending-record = and-left _ _ ascending-node
+  module _ (i : ℕ) (inv : OrderFrom i) where
+    pub order-end : count ≤ i + 1 → OrderFrom (i + 1)
+    order-end h =
+        let z : count - 1 - i ≡ count - 1 - (i + 1) = omega arith in
+        rw (← z) inv
 
--- ---- a leaf
+    pub order-done : count ≤ i + 1 → true ≡ ascending (keysOf f s n)
+    order-done h = run-done f (s .step) (s .width) _ own (count - 1 - i) inv (omega arith)
 
-module _ (leaves : List ℕ) (s : Shape) (n : ℕ) where
-  pub not-successor : (m ps : ℕ) → ps ≡ psAt leaves s m → (ps ≡ n → ⊥) → false ≡ follows leaves s (After m) n
-  unfolding follows
-  not-successor m ps e h = rw (← e, ne-eqb _ _ h)
+    module _ (b : Bool) (h : i + 1 < count) (e : b ≡ below (part f own (s .width)) (part f (own + s .step) (s .width))) where
+      pub order-stop : not b ≡ true → false ≡ ascending (keysOf f s n)
+      order-stop q = run-stop f (s .step) (s .width) _ own (count - 1 - i) inv b (omega arith) e q
 
-  pub successor : (m ps : ℕ) (r : Bool) → ps ≡ psAt leaves s m → ps ≡ n → r ≡ below (lastKey leaves s m) (keyAt leaves s n 0) → r ≡ follows leaves s (After m) n
-  unfolding follows
-  successor m ps r e h d = rw (← e, eq-eqb _ _ h, d)
-
-  module _ (w : Progress) where
-    module _ (a : Bool) (e : a ≡ recordAscends leaves s n) where
-      step : leafSound leaves s w n ≡ (a && follows leaves s w n)
-      unfolding leafSound recordAscends
-      step = rw e
-
-      pub leaf-not : not a ≡ true → Stopped ≡ leafStep leaves s n w
-      unfolding leafStep
-      leaf-not q = rw (step, not-true a q)
-
-      module _ (c : Bool) (q : not a ≡ false) (g : c ≡ follows leaves s w n) where
-        pub leaf-not-following : not c ≡ true → Stopped ≡ leafStep leaves s n w
-        unfolding leafStep
-        leaf-not-following o = rw (step, not-false a q, ← g, not-true c o)
-
-        pub leaf-follows : not c ≡ false → After n ≡ leafStep leaves s n w
-        unfolding leafStep
-        leaf-follows o = rw (step, not-false a q, ← g, not-false c o)
-
--- ---- the progress as a number
-
-pub progress-stopped : progressOf 4294967295 ≡ Stopped
-unfolding progressOf
-progress-stopped = refl
-
-pub progress-before : progressOf 0 ≡ Before
-unfolding progressOf
-progress-before = refl
-
-module _ (w : ℕ) (b : w ≡ 0 → ⊥) (s : w ≡ 4294967295 → ⊥) where
-  pub progress-after : progressOf w ≡ After w
-  unfolding progressOf
-  progress-after = rw (ne-eqb _ _ b, ne-eqb _ _ s)
-
-pub reached-start : (leaves : List ℕ) (s : Shape) → Reached leaves s Before
-unfolding Reached
-reached-start leaves s = tt
-
-pub reached-before : (leaves : List ℕ) (s : Shape) → Reached leaves s (progressOf 0)
-reached-before leaves s = rw progress-before (reached-start leaves s)
-
--- a leaf that is there
-pub progress-leaf : (leaves : List ℕ) (s : Shape) (n : ℕ) → recordRight leaves s n ≡ true → progressOf n ≡ After n
-progress-leaf leaves s n e =
-    let r = right-facts leaves s n e in
-    let h = there-facts leaves s n (r .there) .number-high in
-    progress-after n (λ z. absurd (omega (arith, r .place-low))) (λ z. absurd (omega (arith, h)))
-
-module _ (leaves : List ℕ) (s : Shape) (w : ℕ) where
-  module _ (e : w ≡ 0) where
-    pub follows-before : (n : ℕ) → true ≡ follows leaves s (progressOf w) n
-    unfolding follows
-    follows-before n = rw (e, progress-before)
-
-    pub ended-before : true ≡ ended leaves s (progressOf w)
-    unfolding ended
-    ended-before = rw (e, progress-before)
-
-  module _ (e : w ≡ 4294967295) where
-    pub follows-stopped : (n : ℕ) → false ≡ follows leaves s (progressOf w) n
-    unfolding follows
-    follows-stopped n = rw (e, progress-stopped)
-
-    pub ended-stopped : false ≡ ended leaves s (progressOf w)
-    unfolding ended
-    ended-stopped = rw (e, progress-stopped)
-
-  module _ (b : w ≡ 0 → ⊥) (h : w ≡ 4294967295 → ⊥) where
-    pub reached-after : Reached leaves s (progressOf w) → recordRight leaves s w ≡ true
-    unfolding Reached
-    reached-after r = rw (progress-after w b h) at r
-
-    pub follows-after : (n : ℕ) (r : Bool) → r ≡ follows leaves s (After w) n → r ≡ follows leaves s (progressOf w) n
-    follows-after n r d = rw (progress-after w b h) d
-
-    pub ended-after : (ps : ℕ) → ps ≡ psAt leaves s w → eqb ps 0 ≡ ended leaves s (progressOf w)
-    unfolding ended
-    ended-after ps d = rw (progress-after w b h, d)
+      pub order-next : not b ≡ false
+          → ascending (keysOf f s n)
+          ≡ ascendingAfter (part f (own + s .step) (s .width)) (keysRun f (own + s .step + s .step) (s .step) (s .width) (count - 1 - (i + 1)))
+      order-next q =
+          let z : count - 1 - i - 1 ≡ count - 1 - (i + 1) = omega arith in
+          run-next f (s .step) (s .width) _ own (count - 1 - i) inv b (omega arith) e q ∙ rw z
 
 -- ---- a pass
 
@@ -204,9 +206,9 @@ module _ (nodes leaves : List ℕ) (t : Tree) where
   cond-same false w = refl
 
   one-stopped : (m : Met) → passOne nodes leaves t m Stopped ≡ Stopped
-  unfolding passOne leafStep leafSound follows
+  unfolding passOne
   one-stopped (Node n) = cond-same (nodeSound nodes leaves t n) Stopped
-  one-stopped (Leaf n) = simp and-false
+  one-stopped (Leaf n) = sym (no-step leaves (t .leaves) n)
   one-stopped TooDeep = refl
 
   pub pass-stopped : (ms : List Met) → pass nodes leaves t ms Stopped ≡ Stopped
@@ -214,126 +216,164 @@ module _ (nodes leaves : List ℕ) (t : Tree) where
   pass-stopped [] = refl
   pass-stopped (m ∷ ms) = ap (pass nodes leaves t ms) (one-stopped m) ∙ pass-stopped ms
 
-  -- the last leaf met keeps its rules
-  reached-cond : (b : Bool) (v w : Progress) → (b ≡ true → Reached leaves (t .leaves) v) → Reached leaves (t .leaves) w → Reached leaves (t .leaves) (cond b v w)
-  reached-cond true v w f g = f refl
-  reached-cond false v w f g = g
+  -- the last leaf's last key is in the file
+  module _ (fits : ShapeFits (t .leaves)) where
+    reached-cond : (b : Bool) (v w : Progress) → (b ≡ true → Reached leaves (t .leaves) v) → Reached leaves (t .leaves) w → Reached leaves (t .leaves) (cond b v w)
+    reached-cond true v w f g = f refl
+    reached-cond false v w f g = g
 
-  reached-stopped : Reached leaves (t .leaves) Stopped
-  unfolding Reached
-  reached-stopped = tt
+    reached-stopped : Reached leaves (t .leaves) Stopped
+    unfolding Reached
+    reached-stopped = tt
 
-  reached-leaf : (n : ℕ) (w : Progress) → leafSound leaves (t .leaves) w n ≡ true → Reached leaves (t .leaves) (After n)
-  unfolding Reached leafSound
-  reached-leaf n w e = and-left _ _ (and-left _ _ e)
+    reached-leaf : (n : ℕ) (w : Progress) → leafSound leaves (t .leaves) w n ≡ true → Reached leaves (t .leaves) (After (lastPlace leaves (t .leaves) n) (psAt leaves (t .leaves) n))
+    unfolding Reached leafSound
+    reached-leaf n w e =
+        let r = and-left _ _ (and-left _ _ e) in
+        let c = right-facts leaves (t .leaves) n r .count-low in
+        let a = active-in leaves (t .leaves) n (ockAt leaves (t .leaves) n - 1) r (omega arith) in
+        omega (arith, a, fits .step-low)
 
-  pub leaf-reached : (n : ℕ) (w : Progress) → Reached leaves (t .leaves) (leafStep leaves (t .leaves) n w)
-  unfolding leafStep
-  leaf-reached n w = reached-cond (leafSound leaves (t .leaves) w n) (After n) Stopped (reached-leaf n w) reached-stopped
+    reached-one : (m : Met) (w : Progress) → Reached leaves (t .leaves) w → Reached leaves (t .leaves) (passOne nodes leaves t m w)
+    unfolding passOne leafStep
+    reached-one (Node n) w r = reached-cond (nodeSound nodes leaves t n) w Stopped (λ e. r) reached-stopped
+    reached-one (Leaf n) w r = reached-cond (leafSound leaves (t .leaves) w n) _ Stopped (reached-leaf n w) reached-stopped
+    reached-one TooDeep w r = reached-stopped
 
-  reached-one : (m : Met) (w : Progress) → Reached leaves (t .leaves) w → Reached leaves (t .leaves) (passOne nodes leaves t m w)
-  unfolding passOne
-  reached-one (Node n) w r = reached-cond (nodeSound nodes leaves t n) w Stopped (λ e. r) reached-stopped
-  reached-one (Leaf n) w r = leaf-reached n w
-  reached-one TooDeep w r = reached-stopped
+    reached-pass : (ms : List Met) (w : Progress) → Reached leaves (t .leaves) w → Reached leaves (t .leaves) (pass nodes leaves t ms w)
+    unfolding pass
+    reached-pass [] w r = r
+    reached-pass (m ∷ ms) w r = reached-pass ms (passOne nodes leaves t m w) (reached-one m w r)
 
-  pub pass-reached : (ms : List Met) (w : Progress) → Reached leaves (t .leaves) w → Reached leaves (t .leaves) (pass nodes leaves t ms w)
-  unfolding pass
-  pass-reached [] w r = r
-  pass-reached (m ∷ ms) w r = pass-reached ms (passOne nodes leaves t m w) (reached-one m w r)
+    pub pass-reached : (ms : List Met) (b : Bool) (w : Progress) → Reached leaves (t .leaves) w → Reached leaves (t .leaves) (pass nodes leaves t ms (led b w))
+    unfolding led
+    pass-reached ms b w r = reached-pass ms (cond b w Stopped) (reached-cond b w Stopped (λ e. r) reached-stopped)
 
   -- ---- over a node
 
-  module _ (n : ℕ) (a : Bool) (e : a ≡ nodeAscending nodes (t .nodes) n) where
-    module _ (q : not a ≡ false) where
-      node-sound : (i : ℕ) → ockAt nodes (t .nodes) n ≡ i → pointersRight nodes leaves t n i ≡ true → nodeSound nodes leaves t n ≡ true
-      unfolding nodeSound
-      node-sound i z p = rw (← e, not-false a q, z, p)
+  -- which begins with the key that points to it, or does not
+  module _ (f : List ℕ) (s : Shape) (key n : ℕ) (ms : List Met) (w : Progress) (b : Bool) (e : b ≡ pointed f s key n) where
+    pub over-unpointed : not b ≡ true → Stopped ≡ pass nodes leaves t ms (led (pointed f s key n) w)
+    over-unpointed q = sym (ap (pass nodes leaves t ms) (led-off (pointed f s key n) w (sym e ∙ not-true b q)) ∙ pass-stopped ms)
 
-    not-ascending : not a ≡ true → nodeSound nodes leaves t n ≡ false
-    unfolding nodeSound
-    not-ascending q = rw (← e, not-true a q)
-
-  not-pointing : (n : ℕ) → false ≡ pointersRight nodes leaves t n (ockAt nodes (t .nodes) n) → nodeSound nodes leaves t n ≡ false
-  unfolding nodeSound
-  not-pointing n p = rw (← p, and-false)
+    pub over-pointed : (r : Progress) → not b ≡ false → r ≡ pass nodes leaves t ms w → r ≡ pass nodes leaves t ms (led (pointed f s key n) w)
+    over-pointed r q d = d ∙ ap (pass nodes leaves t ms) (sym (led-on (pointed f s key n) w (sym e ∙ not-false b q)))
 
   module _ (left n : ℕ) (w : Progress) where
     pub over-none : left ≡ 0 → Stopped ≡ pass nodes leaves t (walk nodes (t .nodes) left n) w
     unfolding pass walk passOne
     over-none h = rw h
 
-    over-step : (left ≡ 0 → ⊥)
-        → pass nodes leaves t (walk nodes (t .nodes) left n) w
-        ≡ pass nodes leaves t
-        (cond (nodeRight nodes (t .nodes) n) (behindFirst (λ m. walk nodes (t .nodes) (left - 1) m) nodes (t .nodes) n (ockAt nodes (t .nodes) n)) [])
-        (cond (nodeSound nodes leaves t n) w Stopped)
-    unfolding pass walk passOne
-    over-step h =
-        let e : left ≡ suc (left - 1) = omega arith in
-        ap (λ (k : ℕ). pass nodes leaves t (walk nodes (t .nodes) k n) w) e
-
     module _ (h : left ≡ 0 → ⊥) where
+      over-step :
+          pass nodes leaves t (walk nodes (t .nodes) left n) w
+          ≡ pass nodes leaves t
+          (cond (nodeRight nodes (t .nodes) n) (behindFirst (λ m. walk nodes (t .nodes) (left - 1) m) nodes (t .nodes) n (ockAt nodes (t .nodes) n)) [])
+          (cond (nodeSound nodes leaves t n) w Stopped)
+      unfolding pass walk passOne
+      over-step =
+          let e : left ≡ suc (left - 1) = omega arith in
+          ap (λ (k : ℕ). pass nodes leaves t (walk nodes (t .nodes) k n) w) e
+
       unsound : nodeSound nodes leaves t n ≡ false → Stopped ≡ pass nodes leaves t (walk nodes (t .nodes) left n) w
-      unsound e = sym (over-step h ∙ rw e (pass-stopped _))
+      unsound e = sym (over-step ∙ rw e (pass-stopped _))
 
-      over-rest : (from : ℕ → List Met) (d i : ℕ) → pass nodes leaves t (behindFirst from nodes (t .nodes) n i) w ≡ Stopped
-          → pass nodes leaves t (behindFirst from nodes (t .nodes) n (i + d)) w ≡ Stopped
-      unfolding behindFirst
-      over-rest from zero i z = rw add-zero z
-      over-rest from (suc d) i z =
-          rw add-suc
-          (pass-append (behindFirst from nodes (t .nodes) n (i + d)) (behind from (puntAt nodes (t .nodes) n (i + d))) w
-          ∙ ap (pass nodes leaves t (behind from (puntAt nodes (t .nodes) n (i + d)))) (over-rest from d i z)
-          ∙ pass-stopped (behind from (puntAt nodes (t .nodes) n (i + d))))
+      sound : nodeSound nodes leaves t n ≡ true
+          → pass nodes leaves t (walk nodes (t .nodes) left n) w
+          ≡ pass nodes leaves t (behindFirst (λ m. walk nodes (t .nodes) (left - 1) m) nodes (t .nodes) n (ockAt nodes (t .nodes) n)) w
+      unfolding nodeSound
+      sound e = over-step ∙ rw (e, right e)
+        where
+          right : nodeSound nodes leaves t n ≡ true → nodeRight nodes (t .nodes) n ≡ true
+          right e = and-left _ _ (and-left _ _ e)
 
-      module _ (a : Bool) (e : a ≡ nodeAscending nodes (t .nodes) n) where
-        pub over-unsound : not a ≡ true → Stopped ≡ pass nodes leaves t (walk nodes (t .nodes) left n) w
-        over-unsound q = unsound (not-ascending n a e q)
+      -- a record that breaks a rule
+      pub over-broken : (a : Bool) → a ≡ recordRight nodes (t .nodes) n → not a ≡ true → Stopped ≡ pass nodes leaves t (walk nodes (t .nodes) left n) w
+      unfolding nodeSound nodeRight
+      over-broken a e q = unsound broken
+        where
+          broken : nodeSound nodes leaves t n ≡ false
+          broken = rw (← e, not-true a q)
 
-        module _ (count i : ℕ) (q : not a ≡ false) (k : count ≡ ockAt nodes (t .nodes) n) where
-          -- all entries done
-          pub over-done : (at : Progress) → count ≤ i → i ≤ count → pointersRight nodes leaves t n i ≡ true
-              → at ≡ pass nodes leaves t (behindFirst (λ m. walk nodes (t .nodes) (left - 1) m) nodes (t .nodes) n i) w
-              → at ≡ pass nodes leaves t (walk nodes (t .nodes) left n) w
-          over-done at l m p inv =
-              let z : ockAt nodes (t .nodes) n ≡ i = omega arith in
-              inv ∙ sym (over-step h ∙ rw (node-sound n a e q i z p, ascending-node nodes (t .nodes) n a e q, z))
+      -- keys that do not ascend
+      pub over-unordered : false ≡ ascending (keysOf nodes (t .nodes) n) → Stopped ≡ pass nodes leaves t (walk nodes (t .nodes) left n) w
+      unfolding nodeSound
+      over-unordered e = unsound broken
+        where
+          broken : nodeSound nodes leaves t n ≡ false
+          broken = rw (← e, and-false)
 
-          -- a pointer that is not right
-          pub over-pointer : (b : Bool) → i < count → b ≡ pointerRight nodes leaves t n i → not b ≡ true → Stopped ≡ pass nodes leaves t (walk nodes (t .nodes) left n) w
-          over-pointer b l p r = unsound (not-pointing n (pointers-stop nodes leaves t n count k i b l p r))
-
-          -- stopped among the entries
-          pub over-stopped : (at : Progress) → i < count → at ≡ Stopped
-              → at ≡ pass nodes leaves t (behindFirst (λ m. walk nodes (t .nodes) (left - 1) m) nodes (t .nodes) n i) w
-              → Stopped ≡ pass nodes leaves t (walk nodes (t .nodes) left n) w
-          over-stopped at l s inv =
-              let z : i + (count - i) ≡ ockAt nodes (t .nodes) n = omega arith in
-              by-cases (nodeSound nodes leaves t n)
-              (λ y. sym (over-step h ∙ rw (y, ascending-node nodes (t .nodes) n a e q, ← z) (over-rest (λ m. walk nodes (t .nodes) (left - 1) m) (count - i) i (sym inv ∙ s))))
-              unsound
+      -- all entries done
+      pub over-done : (at : Progress) (count i : ℕ) → recordRight nodes (t .nodes) n ≡ true → count ≡ ockAt nodes (t .nodes) n → count ≤ i → i ≤ count
+          → pointersRight nodes leaves t n i ≡ true → true ≡ ascending (keysOf nodes (t .nodes) n)
+          → at ≡ pass nodes leaves t (behindFirst (λ m. walk nodes (t .nodes) (left - 1) m) nodes (t .nodes) n i) w
+          → at ≡ pass nodes leaves t (walk nodes (t .nodes) left n) w
+      unfolding nodeSound nodeRight
+      over-done at count i r k l m p o inv =
+          let z : ockAt nodes (t .nodes) n ≡ i = omega arith in
+          inv ∙ sym (sound (whole z) ∙ rw z)
+        where
+          whole : ockAt nodes (t .nodes) n ≡ i → nodeSound nodes leaves t n ≡ true
+          whole z = rw (r, ← o, z, pointers-punts nodes leaves t n i p, p)
 
   -- ---- one entry more
 
-  module _ (from : ℕ → List Met) (n i punt : ℕ) (w at : Progress) (p : punt ≡ puntAt nodes (t .nodes) n i)
-      (inv : at ≡ pass nodes leaves t (behindFirst from nodes (t .nodes) n i) w) where
-    more : (ms : List Met) → behind from punt ≡ ms → (next : Progress) → next ≡ pass nodes leaves t ms at
-        → next ≡ pass nodes leaves t (behindFirst from nodes (t .nodes) n (i + 1)) w
+  module _ (from : ℕ → List Met) (n i : ℕ) (at next : Progress) where
+    -- what the walk over the entry gives
+    abbrev pub Stepped : Type 0
+    Stepped = next ≡ pass nodes leaves t (behind from (puntAt nodes (t .nodes) n i)) (led (pointerRight nodes leaves t n i) at)
+
+    module _ (punt own : ℕ) (b : Bool) (p : punt ≡ puntAt nodes (t .nodes) n i) (k : own ≡ keyPlace (t .nodes) n i) (d : b ≡ isNode punt) where
+      pub step-node : (own ≡ 0 → ⊥) → b ≡ true → next ≡ pass nodes leaves t (from punt) (led (pointed nodes (t .nodes) own punt) at) → Stepped
+      unfolding pointerRight pointed
+      step-node z y e = e ∙ rw (← p, ← d, y, ne-eqb _ _ z, k)
+
+      pub step-leaf : (m : ℕ) → b ≡ false → m ≡ leafNumber punt → next ≡ leafStep leaves (t .leaves) m (led (begins (part nodes own (t .nodes .width)) leaves (t .leaves) m) at) → Stepped
+      unfolding pointerRight pass passOne
+      step-leaf m y x e = e ∙ rw (← p, ← d, y, ← x, k)
+
+    module _ (s : Stepped) where
+      -- it goes on only by a pointer that is right
+      pub right-on : isStopped next ≡ false → pointerRight nodes leaves t n i ≡ true
+      right-on e =
+          by-cases (pointerRight nodes leaves t n i) (λ y. y)
+          (λ y. never is-stopped (rw (s ∙ ap (pass nodes leaves t (behind from (puntAt nodes (t .nodes) n i))) (led-off (pointerRight nodes leaves t n i) at y) ∙ pass-stopped _) at e))
+
+      module _ (w : Progress) (inv : at ≡ pass nodes leaves t (behindFirst from nodes (t .nodes) n i) w) where
+        pub more : pointerRight nodes leaves t n i ≡ true → next ≡ pass nodes leaves t (behindFirst from nodes (t .nodes) n (i + 1)) w
+        unfolding behindFirst
+        more y =
+            rw add-one
+            (s ∙ ap (pass nodes leaves t (behind from (puntAt nodes (t .nodes) n i))) (led-on (pointerRight nodes leaves t n i) at y ∙ inv)
+            ∙ sym (pass-append (behindFirst from nodes (t .nodes) n i) (behind from (puntAt nodes (t .nodes) n i)) w))
+
+  -- stopped at an entry
+  module _ (from : ℕ → List Met) (n : ℕ) (w : Progress) where
+    over-rest : (d i : ℕ) → pass nodes leaves t (behindFirst from nodes (t .nodes) n i) w ≡ Stopped → pass nodes leaves t (behindFirst from nodes (t .nodes) n (i + d)) w ≡ Stopped
     unfolding behindFirst
-    more ms b next e =
-        rw (add-one, ← p, b) (e ∙ ap (pass nodes leaves t ms) inv ∙ sym (pass-append (behindFirst from nodes (t .nodes) n i) ms w))
+    over-rest zero i z = rw add-zero z
+    over-rest (suc d) i z =
+        rw add-suc
+        (pass-append (behindFirst from nodes (t .nodes) n (i + d)) (behind from (puntAt nodes (t .nodes) n (i + d))) w
+        ∙ ap (pass nodes leaves t (behind from (puntAt nodes (t .nodes) n (i + d)))) (over-rest d i z)
+        ∙ pass-stopped (behind from (puntAt nodes (t .nodes) n (i + d))))
 
-    pub more-node : (next : Progress) → punt < 2147483648 → next ≡ pass nodes leaves t (from punt) at
-        → next ≡ pass nodes leaves t (behindFirst from nodes (t .nodes) n (i + 1)) w
-    more-node next l e = more (from punt) (rw (lt-ltb _ _ l)) next e
-
-    pub more-leaf : (next : Progress) → 2147483648 ≤ punt → punt < 4294967296 → next ≡ leafStep leaves (t .leaves) (4294967295 - punt + 1) at
-        → next ≡ pass nodes leaves t (behindFirst from nodes (t .nodes) n (i + 1)) w
-    unfolding pass passOne
-    more-leaf next l m e =
-        let k : 4294967295 - punt + 1 ≡ 4294967296 - punt = omega arith in
-        more (Leaf (4294967296 - punt) ∷ []) (rw (le-ltb _ _ l)) next (e ∙ rw k)
+  pub over-stopped : (left n i count : ℕ) (w at next : Progress) → (left ≡ 0 → ⊥) → count ≡ ockAt nodes (t .nodes) n → i < count
+      → at ≡ pass nodes leaves t (behindFirst (λ m. walk nodes (t .nodes) (left - 1) m) nodes (t .nodes) n i) w
+      → Stepped (λ m. walk nodes (t .nodes) (left - 1) m) n i at next → isStopped next ≡ true
+      → Stopped ≡ pass nodes leaves t (walk nodes (t .nodes) left n) w
+  unfolding nodeSound
+  over-stopped left n i count w at next h k l inv s e =
+      by-cases (nodeSound nodes leaves t n)
+      (λ y.
+      let z : i + 1 + (count - (i + 1)) ≡ ockAt nodes (t .nodes) n = omega arith in
+      let r = pointer-among nodes leaves t n i (ockAt nodes (t .nodes) n) (omega arith) (right y) in
+      let m = more (λ m. walk nodes (t .nodes) (left - 1) m) n i at next s w inv r in
+      sym (sound left n w h y ∙ rw (← z) (over-rest (λ m. walk nodes (t .nodes) (left - 1) m) n w (count - (i + 1)) (i + 1) (sym m ∙ stopped-is next e))))
+      (unsound left n w h)
+    where
+      right : nodeSound nodes leaves t n ≡ true → pointersRight nodes leaves t n (ockAt nodes (t .nodes) n) ≡ true
+      right y = and-iff (nodeRight nodes (t .nodes) n && ascending (keysOf nodes (t .nodes) n)) (pointersRight nodes leaves t n (ockAt nodes (t .nodes) n)) .0 y .1
 
 -- the root is of no account to a pass
 module _ (nodes leaves : List ℕ) (t : Tree) where
@@ -367,11 +407,12 @@ module _ (nodes leaves : List ℕ) (t : Tree) where
       ∙ pass-rootless (walk nodes (t .nodes) left n) w
 
   pub pass-whole : TreeFits t → (kind width left n : ℕ) (w : Progress) → kind ≡ t .nodes .kind → width ≡ t .nodes .width
-      → w ≡ pass nodes leaves (treeWith kind width (t .nodes .most) (t .leaves .most)) (walk nodes (nodeShape kind width (t .nodes .most)) left n) (progressOf 0)
+      → w ≡ pass nodes leaves (treeWith kind width (t .nodes .most) (t .leaves .most)) (walk nodes (nodeShape kind width (t .nodes .most)) left n)
+      (led (pointed nodes (nodeShape kind width (t .nodes .most)) 0 n) Before)
       → w ≡ pass nodes leaves t (walk nodes (t .nodes) left n) Before
+  unfolding led pointed
   pass-whole f kind width left n w k v e =
       e
-      ∙ ap (λ (x : ℕ). pass nodes leaves (treeWith x width (t .nodes .most) (t .leaves .most)) (walk nodes (nodeShape x width (t .nodes .most)) left n) (progressOf 0)) k
-      ∙ ap (λ (x : ℕ). pass nodes leaves (treeWith (t .nodes .kind) x (t .nodes .most) (t .leaves .most)) (walk nodes (nodeShape (t .nodes .kind) x (t .nodes .most)) left n) (progressOf 0)) v
-      ∙ pass-numbers f left n (progressOf 0)
-      ∙ ap (pass nodes leaves t (walk nodes (t .nodes) left n)) progress-before
+      ∙ ap (λ (x : ℕ). pass nodes leaves (treeWith x width (t .nodes .most) (t .leaves .most)) (walk nodes (nodeShape x width (t .nodes .most)) left n) Before) k
+      ∙ ap (λ (x : ℕ). pass nodes leaves (treeWith (t .nodes .kind) x (t .nodes .most) (t .leaves .most)) (walk nodes (nodeShape (t .nodes .kind) x (t .nodes .most)) left n) Before) v
+      ∙ pass-numbers f left n Before

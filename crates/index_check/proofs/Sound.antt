@@ -8,6 +8,7 @@ use mathlib.Core.Bool.{Bool, true, false, not, _&&_, cond, and-false}
 use mathlib.Core.List.{List, [], _∷_, _++_}
 use lib.Dec.{eqb}
 use borrow.Author.Tests.{ne-eqb}
+use Rattle.word.specs.Overwrite.{part}
 use Rattle.terms.specs.Key.{below, ascending, ascendingAfter}
 use Rattle.index.specs.Layout.{ockAt, keyAt, psAt, keysFrom, keysOf}
 use Rattle.index.specs.Rules.{recordRight, nodeRight}
@@ -19,10 +20,15 @@ use Rattle.terms.proofs.Order.{by-cases, never, below-irrefl, above, above-righ
 use Rattle.word.proofs.Tests.{and-iff, false-true}
 use Rattle.index_check.specs.Walk.{keysAlong}
 use Rattle.index_check.specs.Sound.{all, keepsRules, nodeAscends, pointsToFirst, pointersRight, notIn, noneTwice, successorsAfter, successorsRight, metSound}
-use Rattle.index_check.specs.Passes.{Progress, Stopped, Before, After, nodeAscending, nodeSound, lastKey, follows, leafSound, leafStep, ended, passOne, pass}
+use Rattle.index_check.specs.Passes.{nodeSound, lastPlace, follows, leafSound, leafStep, ended, passOne, pass}
+use Rattle.index_check.specs.declared.check.Progress.{Progress}
+use Rattle.index_check.specs.declared.check.Progress.the-variants.{Stopped, Before, After}
 use Rattle.index_check.proofs.Passing.{pass-stopped}
 
 -- ---- the keys of a record: the first, and the last
+
+abbrev lastKey : List ℕ → Shape → ℕ → List ℕ
+lastKey f s n = keyAt f s n (ockAt f s n - 1)
 
 module _ (f : List ℕ) (s : Shape) (n : ℕ) where
   last-from : (k i : ℕ) → lastOf (keyAt f s n i) (keysFrom f s n k (i + 1)) ≡ keyAt f s n (i + k)
@@ -89,7 +95,7 @@ module _ (nodes leaves : List ℕ) (t : Tree) where
 
   pub keeps-all : (ms : List Met)
       → ((all (keepsRules nodes leaves t) ms && all (nodeAscends nodes leaves t) ms) && all (pointsToFirst nodes leaves t) ms) ≡ all keeps ms
-  unfolding all nodeSound nodeAscending
+  unfolding all nodeSound
   keeps-all [] = refl
   keeps-all (Node n ∷ ms) =
       shuffle (nodeRight nodes (t .nodes) n) (ascending (keysOf nodes (t .nodes) n)) (pointersRight nodes leaves t n (ockAt nodes (t .nodes) n))
@@ -112,21 +118,30 @@ module _ (nodes leaves : List ℕ) (t : Tree) where
   -- ---- the pass
 
   gate : (ms : List Met) (b : Bool) (w : Progress)
-      → ended leaves (t .leaves) (pass nodes leaves t ms (cond b w Stopped)) ≡ (b && ended leaves (t .leaves) (pass nodes leaves t ms w))
+      → ended (pass nodes leaves t ms (cond b w Stopped)) ≡ (b && ended (pass nodes leaves t ms w))
   unfolding ended
   gate ms true w = refl
-  gate ms false w = ap (ended leaves (t .leaves)) (pass-stopped nodes leaves t ms)
+  gate ms false w = ap ended (pass-stopped nodes leaves t ms)
 
   -- the keys, and the successors, that may follow where the walk is
   abbrev keysAfter : Progress → List (List ℕ) → Bool
   keysAfter Stopped ks = false
   keysAfter Before ks = ascending ks
-  keysAfter (After m) ks = ascendingAfter (lastKey leaves (t .leaves) m) ks
+  keysAfter (After key next) ks = ascendingAfter (part leaves key (t .leaves .width)) ks
+
+  unfoldable pub nextRight : ℕ → List ℕ → Bool
+  nextRight next [] = eqb next 0
+  nextRight next (n ∷ ns) = eqb next n && successorsAfter leaves (t .leaves) n ns
+
+  next-right : (n : ℕ) (ns : List ℕ) → nextRight (psAt leaves (t .leaves) n) ns ≡ successorsAfter leaves (t .leaves) n ns
+  unfolding nextRight successorsAfter
+  next-right n [] = refl
+  next-right n (m ∷ ns) = refl
 
   abbrev successors : Progress → List ℕ → Bool
   successors Stopped ns = false
   successors Before ns = successorsRight leaves (t .leaves) ns
-  successors (After m) ns = successorsAfter leaves (t .leaves) m ns
+  successors (After key next) ns = nextRight next ns
 
   node-case : (a b c : Bool) → (a && (b && c)) ≡ ((a && b) && c)
   node-case true b c = refl
@@ -157,15 +172,15 @@ module _ (nodes leaves : List ℕ) (t : Tree) where
       (first-case (ascending (keysOf leaves (t .leaves) n)) (all keeps ms)
       (ascendingAfter (lastKey leaves (t .leaves) n) (keysAlong leaves (t .leaves) (leavesAmong ms))) (successorsAfter leaves (t .leaves) n (leavesAmong ms)))
 
-  leaf-after : (m n : ℕ) (ms : List Met) (r : Bool) → recordRight leaves (t .leaves) n ≡ true
+  leaf-after : (key next n : ℕ) (ms : List Met) (r : Bool) → recordRight leaves (t .leaves) n ≡ true
       → r ≡ (all keeps ms && (ascendingAfter (lastKey leaves (t .leaves) n) (keysAlong leaves (t .leaves) (leavesAmong ms)) && successorsAfter leaves (t .leaves) n (leavesAmong ms)))
-      → (leafSound leaves (t .leaves) (After m) n && r)
+      → (leafSound leaves (t .leaves) (After key next) n && r)
       ≡ ((recordRight leaves (t .leaves) n && all keeps ms)
-      && (ascendingAfter (lastKey leaves (t .leaves) m) (keysOf leaves (t .leaves) n ++ keysAlong leaves (t .leaves) (leavesAmong ms))
-      && (eqb (psAt leaves (t .leaves) m) n && successorsAfter leaves (t .leaves) n (leavesAmong ms))))
+      && (ascendingAfter (part leaves key (t .leaves .width)) (keysOf leaves (t .leaves) n ++ keysAlong leaves (t .leaves) (leavesAmong ms))
+      && (eqb next n && successorsAfter leaves (t .leaves) n (leavesAmong ms))))
   unfolding leafSound follows
-  leaf-after m n ms r e p = rw (p, after-then leaves (t .leaves) n e, e)
-      (next-case (ascending (keysOf leaves (t .leaves) n)) (below (lastKey leaves (t .leaves) m) (keyAt leaves (t .leaves) n 0)) (eqb (psAt leaves (t .leaves) m) n)
+  leaf-after key next n ms r e p = rw (p, after-then leaves (t .leaves) n e, e)
+      (next-case (ascending (keysOf leaves (t .leaves) n)) (below (part leaves key (t .leaves .width)) (keyAt leaves (t .leaves) n 0)) (eqb next n)
       (all keeps ms) (ascendingAfter (lastKey leaves (t .leaves) n) (keysAlong leaves (t .leaves) (leavesAmong ms)))
       (successorsAfter leaves (t .leaves) n (leavesAmong ms)))
 
@@ -178,28 +193,32 @@ module _ (nodes leaves : List ℕ) (t : Tree) where
   unfolding leafSound follows
   leaf-stopped n r x = simp and-false
 
+  abbrev after : ℕ → Progress
+  after n = After (lastPlace leaves (t .leaves) n) (psAt leaves (t .leaves) n)
+
   over-leaf : (w : Progress) (n : ℕ) (ms : List Met) (r : Bool)
-      → r ≡ (all keeps ms && (keysAfter (After n) (keysAlong leaves (t .leaves) (leavesAmong ms)) && successors (After n) (leavesAmong ms)))
+      → r ≡ (all keeps ms && (keysAfter (after n) (keysAlong leaves (t .leaves) (leavesAmong ms)) && successors (after n) (leavesAmong ms)))
       → (leafSound leaves (t .leaves) w n && r)
       ≡ ((recordRight leaves (t .leaves) n && all keeps ms) && (keysAfter w (keysAlong leaves (t .leaves) (n ∷ leavesAmong ms)) && successors w (n ∷ leavesAmong ms)))
-  unfolding keysAlong successorsRight successorsAfter
+  unfolding keysAlong successorsRight nextRight
   over-leaf Stopped n ms r p = leaf-stopped n r (recordRight leaves (t .leaves) n && all keeps ms)
   over-leaf Before n ms r p =
-      by-cases (recordRight leaves (t .leaves) n) (λ e. leaf-before n ms r e p) (λ e. leaf-broken Before n r _ _ e)
-  over-leaf (After m) n ms r p =
-      by-cases (recordRight leaves (t .leaves) n) (λ e. leaf-after m n ms r e p) (λ e. leaf-broken (After m) n r _ _ e)
+      by-cases (recordRight leaves (t .leaves) n) (λ e. leaf-before n ms r e (rw (next-right n (leavesAmong ms)) at p)) (λ e. leaf-broken Before n r _ _ e)
+  over-leaf (After key next) n ms r p =
+      by-cases (recordRight leaves (t .leaves) n) (λ e. leaf-after key next n ms r e (rw (next-right n (leavesAmong ms)) at p))
+      (λ e. leaf-broken (After key next) n r _ _ e)
 
   pub pass-is : (ms : List Met) (w : Progress)
-      → ended leaves (t .leaves) (pass nodes leaves t ms w)
+      → ended (pass nodes leaves t ms w)
       ≡ (all keeps ms && (keysAfter w (keysAlong leaves (t .leaves) (leavesAmong ms)) && successors w (leavesAmong ms)))
-  unfolding pass passOne leafStep all leavesAmong ended keysAlong successorsRight successorsAfter ascending ascendingAfter
+  unfolding pass passOne leafStep all leavesAmong ended keysAlong successorsRight nextRight ascending ascendingAfter
   pass-is [] Stopped = refl
   pass-is [] Before = refl
-  pass-is [] (After m) = refl
+  pass-is [] (After key next) = refl
   pass-is (Node n ∷ ms) w =
       gate ms (nodeSound nodes leaves t n) w ∙ ap (λ (b : Bool). nodeSound nodes leaves t n && b) (pass-is ms w) ∙ node-case (nodeSound nodes leaves t n) _ _
-  pass-is (Leaf n ∷ ms) w = gate ms (leafSound leaves (t .leaves) w n) (After n) ∙ over-leaf w n ms _ (pass-is ms (After n))
-  pass-is (TooDeep ∷ ms) w = ap (ended leaves (t .leaves)) (pass-stopped nodes leaves t ms)
+  pass-is (Leaf n ∷ ms) w = gate ms (leafSound leaves (t .leaves) w n) (after n) ∙ over-leaf w n ms _ (pass-is ms (after n))
+  pass-is (TooDeep ∷ ms) w = ap ended (pass-stopped nodes leaves t ms)
 
   -- ---- no leaf twice
 
@@ -255,6 +274,6 @@ module _ (nodes leaves : List ℕ) (t : Tree) where
   absorb true false d s f = refl
   absorb false k d s f = refl
 
-  pub pass-sound : (ms : List Met) → ended leaves (t .leaves) (pass nodes leaves t ms Before) ≡ metSound nodes leaves t ms
+  pub pass-sound : (ms : List Met) → ended (pass nodes leaves t ms Before) ≡ metSound nodes leaves t ms
   unfolding metSound
   pass-sound ms = pass-is ms Before ∙ rw (keeps-all ms) (absorb (all keeps ms) _ _ _ (λ a. ascent-once ms (keeps-rules ms a)))

@@ -22,6 +22,10 @@ unfoldable pub all : (Met → Bool) → List Met → Bool
 all p [] = true
 all p (m ∷ ms) = p m && all p ms
 
+-- a record is there, and this is its first key
+abbrev pub begins : List ℕ → List ℕ → Shape → ℕ → Bool
+begins key f s n = recordThere f s n && same key (keyAt f s n 0)
+
 module _ (nodes leaves : List ℕ) (t : Tree) where
   -- no rule of 21 is broken
   abbrev pub keepsRules : Met → Bool
@@ -35,14 +39,12 @@ module _ (nodes leaves : List ℕ) (t : Tree) where
   nodeAscends (Leaf n) = true
   nodeAscends TooDeep = true
 
-  -- a pointer's target is there, and its first key is the pointer's
+  -- a pointer's target begins with the pointer's key
   unfoldable pub pointerRight : ℕ → ℕ → Bool
   pointerRight n i =
       cond (isNode (puntAt nodes (t .nodes) n i))
-      (recordThere nodes (t .nodes) (puntAt nodes (t .nodes) n i)
-      && same (keyAt nodes (t .nodes) n i) (keyAt nodes (t .nodes) (puntAt nodes (t .nodes) n i) 0))
-      (recordThere leaves (t .leaves) (leafNumber (puntAt nodes (t .nodes) n i))
-      && same (keyAt nodes (t .nodes) n i) (keyAt leaves (t .leaves) (leafNumber (puntAt nodes (t .nodes) n i)) 0))
+      (begins (keyAt nodes (t .nodes) n i) nodes (t .nodes) (puntAt nodes (t .nodes) n i))
+      (begins (keyAt nodes (t .nodes) n i) leaves (t .leaves) (leafNumber (puntAt nodes (t .nodes) n i)))
 
   -- of the first k entries
   unfoldable pub pointersRight : ℕ → ℕ → Bool

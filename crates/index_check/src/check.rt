@@ -1,126 +1,120 @@
-// The check of a whole index: one walk from each root by recursion, which stops at the first broken rule and remembers only the last leaf met.
+// The check of a whole index: one walk from each root by recursion, which stops at the first broken rule and remembers of the leaves met only the last one's last
+// key and successor. What a pointer says of its target is asked where the target is met.
 use index::layout::Part;
 use index::layout::Shape;
-use index::layout::Tree;
 use index::layout::key_place;
 use index::layout::place;
 use index::layout::read_part;
 use index::lookup::NODES_MOST;
 use index::rules::count_at;
-use index::rules::punt_at;
-use index::rules::punts_right;
-use index::rules::record_ascends;
-use index::rules::record_there;
+use index::rules::is_node;
+use index::rules::leaf_number;
+use index::rules::record_right;
 use terms::key::below_key;
+use terms::key::keys_ascend;
 use terms::key::same_key;
 use terms::term::width_of;
 use word::integer::u32_at;
 ghost use mathlib.Core.Path.{_≡_};
 ghost use mathlib.Core.Bool.{true};
-ghost use Prim.Native.Nat.{_≤_, _<_};
+ghost use Prim.Native.Nat.{_+_, _*_, _≤_, _<_};
+ghost use lib.ListN.{length};
+ghost use Rattle.word.specs.Overwrite.{part};
+ghost use Rattle.terms.specs.Key.{ascending};
+ghost use Rattle.terms.specs.Inner.{keysRun};
 ghost use Rattle.index.specs.Files.{index};
 ghost use Rattle.index.specs.Inner.{ShapeFits, LeafFits, TreeFits, treeWith};
-ghost use Rattle.index.specs.Layout.{ockAt, nodeShape, leafShape};
+ghost use Rattle.index.specs.Layout.{nodeShape, leafShape};
 ghost use Rattle.index.specs.Rules.{recordRight, partOf};
 ghost use Rattle.index_check.specs.Walk.{walk};
-ghost use Rattle.index_check.specs.Sound.{pointerRight, treeSound, indexAnswer};
-ghost use Rattle.index_check.specs.Passes.{After, progressOf, nodeAscending, follows, leafStep, pass, ended, Reached};
+ghost use Rattle.index_check.specs.Sound.{begins, treeSound, indexAnswer};
+ghost use Rattle.index_check.specs.Passes.{KeyWidth, isStopped, follows, leafStep, led, pointed, pass, ended, Reached};
 
-// How far a walk is, as a number: before the first leaf, or the number of the last leaf met, or stopped at a broken rule. No leaf has one of the other two.
-const BEFORE: u32 = 0;
+// How far a walk is: stopped at a broken rule, before the first leaf, or after a leaf, whose last key is at `key` and whose successor is `next`.
+pub enum Progress {
+    Stopped,
+    Before,
+    After { key: usize, next: u32 },
+}
 
-const STOPPED: u32 = 4294967295;
-
-// Whether the target of entry `i` of node `n` is there and its first key is the entry's.
-fn pointer_right(nodes: &[u8], leaves: &[u8], t: Tree, n: u32, i: usize) -> bool
-    requires { ⌜ (TreeFits t) × (recordRight (now nodes) (t .nodes) n ≡ true) × (i < ockAt (now nodes) (t .nodes) n) ⌝ }
-    ensures { λ r. ⌜ r ≡ pointerRight (now (nodes .entry)) (now (leaves .entry)) t n i ⌝ }
+fn stopped(w: Progress) -> bool
+    ensures { λ r. ⌜ r ≡ isStopped w ⌝ }
 {
-    let s = t.nodes;
-    let at = key_place(s, n, i);
-    let punt = punt_at(nodes, s, n, i);
-    if punt < 2147483648 {
-        if !record_there(nodes, s, punt) {
-            return false;
+    match w {
+        Progress::Stopped => true,
+        Progress::Before => false,
+        Progress::After { key: _, next: _ } => false,
+    }
+}
+
+// Whether leaf `n` may follow where the walk is: it is the last one's successor and begins above its last key.
+fn may_follow(leaves: &[u8], s: Shape, w: Progress, n: u32) -> bool
+    requires { ⌜ (ShapeFits s) × (Reached (now leaves) s w) × (recordRight (now leaves) s n ≡ true) ⌝ }
+    ensures { λ r. ⌜ r ≡ follows (now (leaves .entry)) s w n ⌝ }
+{
+    match w {
+        Progress::Stopped => false,
+        Progress::Before => true,
+        Progress::After { key, next } => {
+            if next != n {
+                return false;
+            }
+            let first = key_place(s, n, 0);
+            below_key(leaves, key, leaves, first, s.width)
         }
-        return same_key(nodes, at, nodes, key_place(s, punt, 0), s.width);
     }
-    let l = t.leaves;
-    let m = 4294967295 - punt + 1;
-    if !record_there(leaves, l, m) {
-        return false;
-    }
-    same_key(nodes, at, leaves, key_place(l, m, 0), s.width)
 }
 
-// Whether node `n` keeps its rules and its keys ascend.
-fn node_ascends(nodes: &[u8], kind: u16, width: usize, entries: usize, n: u32) -> bool
-    requires { ⌜ ShapeFits (nodeShape kind width entries) ⌝ }
-    ensures { λ r. ⌜ r ≡ nodeAscending (now (nodes .entry)) (nodeShape kind width entries) n ⌝ }
+// Whether `count` keys of a leaf ascend, of which the first is at `at`. Each width is named, so that the compiler makes a loop for each.
+fn leaf_ascends(leaves: &[u8], width: usize, at: usize, count: usize) -> bool
+    requires { ⌜ (KeyWidth width) × (1 ≤ count) × (at + count * (width + 8) ≤ length (now leaves)) ⌝ }
+    ensures { λ r. ⌜ r ≡ ascending (keysRun (now (leaves .entry)) at (width + 8) width count) ⌝ }
 {
-    if !record_ascends(nodes, kind, 8, width, width + 4, entries, n) {
-        return false;
+    if width == 10 {
+        return keys_ascend(leaves, at, 18, 10, count);
     }
-    let s = Shape {
-        kind,
-        head: 8,
-        width,
-        step: width + 4,
-        most: entries,
-    };
-    punts_right(nodes, s, n)
+    keys_ascend(leaves, at, 38, 30, count)
 }
 
-// Whether leaf `n` is the successor of leaf `m`, and begins above its last key.
-fn succeeds(leaves: &[u8], s: Shape, m: u32, n: u32) -> bool
-    requires { ⌜ (LeafFits s) × (recordRight (now leaves) s m ≡ true) × (recordRight (now leaves) s n ≡ true) ⌝ }
-    ensures { λ r. ⌜ r ≡ follows (now (leaves .entry)) s (After m) n ⌝ }
+// On from `w` over leaf `n`, to which the key at `key` of the nodes points.
+fn over_leaf(nodes: &[u8], key: usize, leaves: &[u8], s: Shape, n: u32, w: Progress) -> Progress
+    requires { ⌜ (LeafFits s) × (s .step ≡ s .width + 8) × (KeyWidth (s .width)) × (key + s .width ≤ length (now nodes)) × (Reached (now leaves) s w) ⌝ }
+    ensures { λ r. ⌜ r ≡ leafStep (now (leaves .entry)) s n (led (begins (part (now (nodes .entry)) key (s .width)) (now (leaves .entry)) s n) w) ⌝ }
 {
-    if u32_at(leaves, place(s, m) + 8) != n {
-        return false;
+    if !record_right(leaves, s, n) {
+        return Progress::Stopped;
     }
-    let last = count_at(leaves, s, m) - 1;
-    let a = key_place(s, m, last);
-    let b = key_place(s, n, 0);
-    below_key(leaves, a, leaves, b, s.width)
+    let first = key_place(s, n, 0);
+    if !same_key(nodes, key, leaves, first, s.width) {
+        return Progress::Stopped;
+    }
+    if !may_follow(leaves, s, w, n) {
+        return Progress::Stopped;
+    }
+    let count = count_at(leaves, s, n);
+    if !leaf_ascends(leaves, s.width, first, count) {
+        return Progress::Stopped;
+    }
+    Progress::After {
+        key: key_place(s, n, count - 1),
+        next: u32_at(leaves, place(s, n) + 8),
+    }
 }
 
-// Whether leaf `n` may follow where the walk is.
-fn may_follow(leaves: &[u8], s: Shape, w: u32, n: u32) -> bool
-    requires { ⌜ (LeafFits s) × (Reached (now leaves) s (progressOf w)) × (recordRight (now leaves) s n ≡ true) ⌝ }
-    ensures { λ r. ⌜ r ≡ follows (now (leaves .entry)) s (progressOf w) n ⌝ }
+// Whether node `n` begins with the key that points to it, which is at `key`; 0 stands for none, as for the root: no node's key is there.
+fn is_pointed(nodes: &[u8], s: Shape, key: usize, n: u32) -> bool
+    requires { ⌜ (ShapeFits s) × (recordRight (now nodes) s n ≡ true) × ((key ≡ 0 → ⊥) → key + s .width ≤ length (now nodes)) ⌝ }
+    ensures { λ r. ⌜ r ≡ pointed (now (nodes .entry)) s key n ⌝ }
 {
-    if w == BEFORE {
+    if key == 0 {
         return true;
     }
-    if w == STOPPED {
-        return false;
-    }
-    succeeds(leaves, s, w, n)
+    let first = key_place(s, n, 0);
+    same_key(nodes, key, nodes, first, s.width)
 }
 
-// On from `w` over leaf `n`.
-fn over_leaf(leaves: &[u8], kind: u16, width: usize, items: usize, n: u32, w: u32) -> u32
-    requires { ⌜ (LeafFits (leafShape kind width items)) × (Reached (now leaves) (leafShape kind width items) (progressOf w)) ⌝ }
-    ensures { λ r. ⌜ progressOf r ≡ leafStep (now (leaves .entry)) (leafShape kind width items) n (progressOf w) ⌝ }
-{
-    if !record_ascends(leaves, kind, 12, width, width + 8, items, n) {
-        return STOPPED;
-    }
-    let l = Shape {
-        kind,
-        head: 12,
-        width,
-        step: width + 8,
-        most: items,
-    };
-    if !may_follow(leaves, l, w, n) {
-        return STOPPED;
-    }
-    n
-}
-
-// On from `w` over all that the walk from node `n` meets, over at most `left` nodes on one way down. The tree comes as its numbers, as in a lookup.
+// On from `w` over all that the walk from node `n` meets, over at most `left` nodes on one way down, if the node begins with the key at `key`. The tree comes as
+// its numbers, which stay in registers.
 fn over_node(
     nodes: &[u8],
     leaves: &[u8],
@@ -130,13 +124,14 @@ fn over_node(
     items: usize,
     left: u32,
     n: u32,
-    w: u32,
-) -> u32
-    requires { ⌜ (TreeFits (treeWith kind width entries items)) × (Reached (now leaves) (leafShape kind width items) (progressOf w)) ⌝ }
-    ensures { λ r. ⌜ progressOf r ≡ pass (now (nodes .entry)) (now (leaves .entry)) (treeWith kind width entries items) (walk (now (nodes .entry)) (nodeShape kind width entries) left n) (progressOf w) ⌝ }
+    key: usize,
+    w: Progress,
+) -> Progress
+    requires { ⌜ (TreeFits (treeWith kind width entries items)) × (KeyWidth width) × ((key ≡ 0 → ⊥) → key + width ≤ length (now nodes)) × (Reached (now leaves) (leafShape kind width items) w) ⌝ }
+    ensures { λ r. ⌜ r ≡ pass (now (nodes .entry)) (now (leaves .entry)) (treeWith kind width entries items) (walk (now (nodes .entry)) (nodeShape kind width entries) left n) (led (pointed (now (nodes .entry)) (nodeShape kind width entries) key n) w) ⌝ }
 {
     if left == 0 {
-        return STOPPED;
+        return Progress::Stopped;
     }
     let s = Shape {
         kind,
@@ -145,8 +140,11 @@ fn over_node(
         step: width + 4,
         most: entries,
     };
-    if !node_ascends(nodes, kind, width, entries, n) {
-        return STOPPED;
+    if !record_right(nodes, s, n) {
+        return Progress::Stopped;
+    }
+    if !is_pointed(nodes, s, key, n) {
+        return Progress::Stopped;
     }
     let l = Shape {
         kind,
@@ -155,23 +153,13 @@ fn over_node(
         step: width + 8,
         most: items,
     };
-    let t = Tree {
-        nodes: s,
-        leaves: l,
-        root: 0,
-    };
     let count = count_at(nodes, s, n);
     let mut at = w;
+    let mut own = key_place(s, n, 0);
     let mut i: usize = 0;
     while i < count {
-        if at == STOPPED {
-            return STOPPED;
-        }
-        if !pointer_right(nodes, leaves, t, n, i) {
-            return STOPPED;
-        }
-        let punt = punt_at(nodes, s, n, i);
-        if punt < 2147483648 {
+        let punt = u32_at(nodes, own + width);
+        if is_node(punt) {
             at = over_node(
                 nodes,
                 leaves,
@@ -181,28 +169,36 @@ fn over_node(
                 items,
                 left - 1,
                 punt,
+                own,
                 at,
             );
         } else {
-            at = over_leaf(leaves, kind, width, items, 4294967295 - punt + 1, at);
+            at = over_leaf(nodes, own, leaves, l, leaf_number(punt), at);
+        }
+        if stopped(at) {
+            return Progress::Stopped;
         }
         i += 1;
+        if i < count {
+            let next = own + s.step;
+            if !below_key(nodes, own, nodes, next, width) {
+                return Progress::Stopped;
+            }
+            own = next;
+        }
     }
     at
 }
 
 // Whether the walk ended where it may: the last leaf's successor is 0.
-fn well_ended(leaves: &[u8], s: Shape, w: u32) -> bool
-    requires { ⌜ (LeafFits s) × (Reached (now leaves) s (progressOf w)) ⌝ }
-    ensures { λ r. ⌜ r ≡ ended (now (leaves .entry)) s (progressOf w) ⌝ }
+fn well_ended(w: Progress) -> bool
+    ensures { λ r. ⌜ r ≡ ended w ⌝ }
 {
-    if w == BEFORE {
-        return true;
+    match w {
+        Progress::Stopped => false,
+        Progress::Before => true,
+        Progress::After { key: _, next } => next == 0,
     }
-    if w == STOPPED {
-        return false;
-    }
-    u32_at(leaves, place(s, w) + 8) == 0
 }
 
 // Whether the tree of type `kind` is sound.
@@ -227,9 +223,10 @@ fn tree_sound(cnt: &[u8], nodes: &[u8], leaves: &[u8], kind: u16) -> bool
         l.most,
         NODES_MOST,
         t.root,
-        BEFORE,
+        0,
+        Progress::Before,
     );
-    well_ended(leaves, l, w)
+    well_ended(w)
 }
 
 // Checks both trees: 0, or 21 where a rule is broken.

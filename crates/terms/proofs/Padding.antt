@@ -2,6 +2,7 @@
 use Prim.Native.Nat.{ℕ, zero, suc, _+_, _-_, _≤_}
 use native.Mathlib.Omega.{arith}
 use mathlib.Core.Path.{_≡_, refl, ap, _∙_}
+use mathlib.Core.Logic.{_⊎_, inl, inr, ⊎-elim}
 use mathlib.Core.Bool.{Bool, true, false, cond}
 use mathlib.Core.List.{List, _∷_, _++_}
 use lib.Dec.{eqb, leb}
@@ -18,15 +19,18 @@ pub term-fits : (term : List ℕ) → termRight term ≡ true → length term �
 unfolding termRight
 term-fits term e = let q = simp tests at e in q .0 .1
 
-width-cases : (b : Bool) → (10 ≤ cond b 10 30) × (cond b 10 30 ≤ 30)
-width-cases true = (omega arith, omega arith)
-width-cases false = (omega arith, omega arith)
+width-cases : (b : Bool) → (_≡_ {A = ℕ} (cond b 10 30) 10) ⊎ (_≡_ {A = ℕ} (cond b 10 30) 30)
+width-cases true = inl refl
+width-cases false = inr refl
+
+pub width-is : (kind : ℕ) → (widthOf kind ≡ 10) ⊎ (widthOf kind ≡ 30)
+width-is kind = width-cases (eqb kind 1)
 
 pub width-low : (kind : ℕ) → 10 ≤ widthOf kind
-width-low kind = width-cases (eqb kind 1) .0
+width-low kind = ⊎-elim (λ e. omega (arith, e)) (λ e. omega (arith, e)) (width-is kind)
 
 pub width-high : (kind : ℕ) → widthOf kind ≤ 30
-width-high kind = width-cases (eqb kind 1) .1
+width-high kind = ⊎-elim (λ e. omega (arith, e)) (λ e. omega (arith, e)) (width-is kind)
 
 module _ (term : List ℕ) where
   pub short-fits : kindFor term ≡ 1 → length term ≤ 10

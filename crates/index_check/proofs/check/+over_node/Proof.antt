@@ -1,30 +1,37 @@
-use Prim.Native.Nat.{_-_, _≤_, ℕ, _<_}
+use Prim.Native.Nat.{ℕ, _+_, _-_, _<_, _≤_}
 use native.Mathlib.Omega.{arith}
-use mathlib.Core.Path.{_≡_, refl, ap, _∙_}
+use mathlib.Core.Path.{_≡_, refl, sym, _∙_}
 use mathlib.Core.Logic.{⊎-elim}
 use mathlib.Core.Bool.{true}
 use mathlib.Core.List.{List}
 use borrow.Fn.Kinds.{In}
 use borrow.Fn.PlainCycle.{Measures, is, falls, and}
+use borrow.Author.Needs.{needs}
 use Rattle.index.specs.Inner.{treeWith}
-use Rattle.index.specs.Layout.{nodeShape, leafShape}
+use Rattle.index.specs.Layout.{nodeShape, leafShape, keyPlace, puntAt}
 use Rattle.index.specs.Reading.{Met}
 use Rattle.index.specs.declared.layout.Tree.{Tree}
-use Rattle.index.proofs.Shapes.{right-facts}
+use Rattle.index.proofs.Shapes.{right-facts, active-in}
+use Rattle.index.proofs.Records.{is-right, place-next}
 use Rattle.index_check.specs.Walk.{walk, behindFirst}
 use Rattle.index_check.specs.Sound.{pointersRight}
-use Rattle.index_check.specs.Passes.{pass, Reached, progressOf}
-use Rattle.index_check.proofs.Passing.{over-none, over-unsound, over-pointer, ascending-record, over-done, over-stopped, pointers-more, more-node, more-leaf, pass-reached, leaf-reached, progress-stopped}
+use Rattle.index_check.specs.Passes.{pass, Reached}
+use Rattle.index_check.proofs.Passing.{over-none, over-broken, over-unpointed, over-pointed, over-unordered, over-done, over-stopped, Stepped, step-node, step-leaf, right-on, more, pointers-more, pass-reached, key-low, OrderFrom, order-start, order-end, order-done, order-stop, order-next}
 use Rattle.index_check.proofs.check.+over_node.{statement}
 use Rattle.index_check.proofs.check.+over_node.Tie.{close}
 use Rattle.index_check.proofs.check.over_node.Reads as over-node
 use Rattle.index_check.proofs.check.over_node.Kinds as over-node-kinds
 use Rattle.index_check.proofs.check.+over_node.Lts-over_node as over-node-lts
-use Rattle.index_check.proofs.check.node_ascends.Reads as node-ascends-reads
+use Rattle.index_check.proofs.check.is_pointed.Reads as is-pointed-reads
 use Rattle.index_check.proofs.check.over_leaf.Reads as over-leaf-reads
-use Rattle.index_check.proofs.check.pointer_right.Reads as pointer-right-reads
+use Rattle.index_check.proofs.check.stopped.Reads as stopped-reads
+use Rattle.index.proofs.layout.key_place.Reads as key-place-reads
 use Rattle.index.proofs.rules.count_at.Reads as count-at-reads
-use Rattle.index.proofs.rules.punt_at.Reads as punt-at-reads
+use Rattle.index.proofs.rules.is_node.Reads as is-node-reads
+use Rattle.index.proofs.rules.leaf_number.Reads as leaf-number-reads
+use Rattle.index.proofs.rules.record_right.Reads as record-right-reads
+use Rattle.terms.proofs.key.below_key.Reads as below-key-reads
+use Rattle.word.proofs.integer.u32_at.Reads as u32-at-reads
 
 abbrev μ-over-node : Measures 2 over-node-kinds.ps ℕ
 μ-over-node κs a = a .1 .1 .1 .1 .1 .1 .0
@@ -38,99 +45,139 @@ over-node-below t = and 2 over-node-kinds.ps (falls 2 over-node-kinds.ps _<_ μ-
 -- what the functions that it calls ask and tell
 abbrev claims : ℕ → over-node-lts.Claims
 claims t = (
-  node-ascends-reads.Asked,
-  node-ascends-reads.Learnt,
+  record-right-reads.Asked,
+  record-right-reads.Learnt,
+  is-pointed-reads.Asked,
+  is-pointed-reads.Learnt,
   count-at-reads.Asked,
   count-at-reads.Learnt,
-  pointer-right-reads.Asked,
-  pointer-right-reads.Learnt,
-  punt-at-reads.Asked,
-  punt-at-reads.Learnt,
+  key-place-reads.Asked,
+  key-place-reads.Learnt,
+  u32-at-reads.Asked,
+  u32-at-reads.Learnt,
+  is-node-reads.Asked,
+  is-node-reads.Learnt,
   over-node-below t,
   over-node.Post,
+  leaf-number-reads.Asked,
+  leaf-number-reads.Learnt,
   over-leaf-reads.Asked,
   over-leaf-reads.Learnt,
+  stopped-reads.Asked,
+  stopped-reads.Learnt,
+  below-key-reads.Asked,
+  below-key-reads.Learnt,
 )
 
 abbrev over-node-Inv-loop : over-node-lts.InvT-loop
-over-node-Inv-loop nodes leaves kind width entries items left n w s t count at₀ i₀ at i =
-    (i ≤ count) × (Reached leaves (leafShape kind width items) (progressOf at)) ×
-    (progressOf at ≡ pass nodes leaves (treeWith kind width entries items) (behindFirst (λ m. walk nodes (nodeShape kind width entries) (left - 1) m) nodes (nodeShape kind width entries) n i) (progressOf at₀)) ×
-    (pointersRight nodes leaves (treeWith kind width entries items) n i ≡ true)
+over-node-Inv-loop nodes leaves kind width entries items left n key s l count at₀ own₀ i₀ at own i =
+    (i ≤ count) × (i < count → own ≡ keyPlace (nodeShape kind width entries) n i) × (Reached leaves (leafShape kind width items) at) ×
+    (at ≡ pass nodes leaves (treeWith kind width entries items) (behindFirst (λ m. walk nodes (nodeShape kind width entries) (left - 1) m) nodes (nodeShape kind width entries) n i) at₀) ×
+    (pointersRight nodes leaves (treeWith kind width entries items) n i ≡ true) ×
+    (OrderFrom nodes (nodeShape kind width entries) n own count i)
 
 abbrev over-node-μ-loop : over-node-lts.MeasureT-loop
-over-node-μ-loop nodes leaves kind width entries items left n w s t count at₀ i₀ at i = count - i
+over-node-μ-loop nodes leaves kind width entries items left n key s l count at₀ own₀ i₀ at own i = count - i
 
 over-node-returns : (t : ℕ) → over-node-lts.Need-returns (claims t) (over-node-at t) over-node.Post over-node-Inv-loop over-node-μ-loop
 over-node-returns t c =
     let start = c .before .before .before in
     let a = start .args in
-    progress-stopped ∙ over-none _ _ (treeWith (a .kind) (a .width) (a .entries) (a .items)) _ _ _ (c .if1 .taken)
+    over-none _ _ (treeWith (a .kind) (a .width) (a .entries) (a .items)) _ _ _ (c .if1 .taken)
 
-over-node-add-t18 : (t : ℕ) → over-node-lts.Need-add-t18 (claims t) (over-node-at t) over-node.Post over-node-Inv-loop over-node-μ-loop
-over-node-add-t18 t c =
+over-node-add-t20 : (t : ℕ) → over-node-lts.Need-add-t20 (claims t) (over-node-at t) over-node.Post over-node-Inv-loop over-node-μ-loop
+over-node-add-t20 t c =
     let start = c .before .before .before in
     let a = start .args in
     omega (arith, start .pre .1 .0 .nodes-fit .width-high)
 
-over-node-node-ascends-requires : (t : ℕ) → over-node-lts.Need-node-ascends-requires (claims t) (over-node-at t) over-node.Post over-node-Inv-loop over-node-μ-loop
-over-node-node-ascends-requires t c κs =
+over-node-record-right-requires : (t : ℕ) → over-node-lts.Need-record-right-requires (claims t) (over-node-at t) over-node.Post over-node-Inv-loop over-node-μ-loop
+over-node-record-right-requires t c κs =
     c .before .before .before .pre .1 .0 .nodes-fit
 
 over-node-returns-2 : (t : ℕ) → over-node-lts.Need-returns-2 (claims t) (over-node-at t) over-node.Post over-node-Inv-loop over-node-μ-loop
 over-node-returns-2 t c =
     let start = c .before .before .before .before .before in
     let a = start .args in
-    progress-stopped ∙ over-unsound _ _ (treeWith (a .kind) (a .width) (a .entries) (a .items)) _ _ _ (c .before .before .if1 .left) _ (c .before .node-ascends .ensures) (c .if2 .taken)
+    over-broken _ _ (treeWith (a .kind) (a .width) (a .entries) (a .items)) _ _ _ (c .before .before .if1 .left) _ (c .before .record-right .ensures) (c .if2 .taken)
 
-over-node-add-t18-2 : (t : ℕ) → over-node-lts.Need-add-t18-2 (claims t) (over-node-at t) over-node.Post over-node-Inv-loop over-node-μ-loop
-over-node-add-t18-2 t c =
+over-node-is-pointed-requires : (t : ℕ) → over-node-lts.Need-is-pointed-requires (claims t) (over-node-at t) over-node.Post over-node-Inv-loop over-node-μ-loop
+over-node-is-pointed-requires t c κs =
     let start = c .before .before .before .before .before in
+    let a = start .args in
+    (start .pre .1 .0 .nodes-fit, is-right _ _ _ _ (c .before .record-right .ensures) (c .if2 .left), start .pre .1 .2)
+
+over-node-returns-3 : (t : ℕ) → over-node-lts.Need-returns-3 (claims t) (over-node-at t) over-node.Post over-node-Inv-loop over-node-μ-loop
+over-node-returns-3 t c =
+    let start = c .before .before .before .before .before .before .before in
+    let a = start .args in
+    over-unpointed _ _ (treeWith (a .kind) (a .width) (a .entries) (a .items)) _ _ _ _ _ _ _ (c .before .is-pointed .ensures) (c .if3 .taken)
+
+over-node-add-t20-2 : (t : ℕ) → over-node-lts.Need-add-t20-2 (claims t) (over-node-at t) over-node.Post over-node-Inv-loop over-node-μ-loop
+over-node-add-t20-2 t c =
+    let start = c .before .before .before .before .before .before .before in
     let a = start .args in
     omega (arith, start .pre .1 .0 .nodes-fit .width-high)
 
 over-node-count-at-requires : (t : ℕ) → over-node-lts.Need-count-at-requires (claims t) (over-node-at t) over-node.Post over-node-Inv-loop over-node-μ-loop
 over-node-count-at-requires t c κs =
-    let start = c .before .before .before .before .before in
+    let f = c in
+    let start = f .before .before .before .before .before .before .before in
     let a = start .args in
-    (start .pre .1 .0 .nodes-fit, right-facts _ _ _ (ascending-record _ _ _ _ (c .before .node-ascends .ensures) (c .if2 .left)) .there)
+    let r = is-right _ _ _ _ (f .before .before .before .record-right .ensures) (f .before .before .if2 .left) in
+    (start .pre .1 .0 .nodes-fit, right-facts _ _ _ r .there)
+
+over-node-key-place-requires : (t : ℕ) → over-node-lts.Need-key-place-requires (claims t) (over-node-at t) over-node.Post over-node-Inv-loop over-node-μ-loop
+over-node-key-place-requires t c κs =
+    let f = c .before in
+    let start = f .before .before .before .before .before .before .before in
+    let a = start .args in
+    let r = is-right _ _ _ _ (f .before .before .before .record-right .ensures) (f .before .before .if2 .left) in
+    (start .pre .1 .0 .nodes-fit, right-facts _ _ _ r .place-low, omega arith)
 
 over-node-loop-holds : (t : ℕ) → over-node-lts.Need-loop-holds (claims t) (over-node-at t) over-node.Post over-node-Inv-loop over-node-μ-loop
 unfolding pass behindFirst pointersRight
 over-node-loop-holds t c =
-    let start = c .before .before .before .before .before .before in
+    let f = c .before .before in
+    let start = f .before .before .before .before .before .before .before in
     let a = start .args in
-    (omega arith, start .pre .1 .1, refl, refl)
+    let r = is-right _ _ _ _ (f .before .before .before .record-right .ensures) (f .before .before .if2 .left) in
+    let k = c .before .count-at .ensures .0 in (
+      omega arith,
+      λ h. c .key-place .ensures,
+      start .pre .1 .3,
+      refl,
+      refl,
+      order-start _ (nodeShape (a .kind) (a .width) (a .entries)) _ _ _ (c .key-place .ensures) k (rw k (right-facts _ _ _ r .count-low)),
+    )
 
-over-node-returns-3 : (t : ℕ) → over-node-lts.Need-returns-3 (claims t) (over-node-at t) over-node.Post over-node-Inv-loop over-node-μ-loop
-over-node-returns-3 t c =
-    let o = c .before .before in
-    let start = o .before .before .before .before .before .before .before in
+over-node-add-u32-at : (t : ℕ) → over-node-lts.Need-add-u32-at (claims t) (over-node-at t) over-node.Post over-node-Inv-loop over-node-μ-loop
+over-node-add-u32-at t c =
+    let o = c .before in
+    let f = o .before .before .before in
+    let start = f .before .before .before .before .before .before .before in
     let a = start .args in
-    progress-stopped
-    ∙ over-stopped _ _ (treeWith (a .kind) (a .width) (a .entries) (a .items)) _ _ _ (o .before .before .before .before .if1 .left) _ (o .before .before .before .node-ascends .ensures) _ _ (o .before .before .if2 .left) (o .before .count-at .ensures .0) _ (c .before .loop-test .taken)
-    (ap progressOf (c .if3 .taken) ∙ progress-stopped) (o .loop .inv .2)
+    let r = is-right _ _ _ _ (f .before .before .before .record-right .ensures) (f .before .before .if2 .left) in
+    let k = o .before .before .count-at .ensures .0 in
+    let y = o .loop .inv .1 (c .loop-test .taken) in
+    let z = active-in _ _ _ (o .loop .i) r (omega (arith, k, c .loop-test .taken)) in
+    omega (arith, y, z, start .good .0 .1)
 
-over-node-pointer-right-requires : (t : ℕ) → over-node-lts.Need-pointer-right-requires (claims t) (over-node-at t) over-node.Post over-node-Inv-loop over-node-μ-loop
-over-node-pointer-right-requires t c κs =
-    let o = c .before .before in
-    let start = o .before .before .before .before .before .before .before in
+over-node-u32-at-requires : (t : ℕ) → over-node-lts.Need-u32-at-requires (claims t) (over-node-at t) over-node.Post over-node-Inv-loop over-node-μ-loop
+over-node-u32-at-requires t c κs =
+    let o = c .before in
+    let f = o .before .before .before in
+    let start = f .before .before .before .before .before .before .before in
     let a = start .args in
-    (start .pre .1 .0, ascending-record _ _ _ _ (o .before .before .before .node-ascends .ensures) (o .before .before .if2 .left), omega (arith, o .before .count-at .ensures .0, c .before .loop-test .taken))
+    let r = is-right _ _ _ _ (f .before .before .before .record-right .ensures) (f .before .before .if2 .left) in
+    let k = o .before .before .count-at .ensures .0 in
+    let y = o .loop .inv .1 (c .loop-test .taken) in
+    let z = active-in _ _ _ (o .loop .i) r (omega (arith, k, c .loop-test .taken)) in
+    omega (arith, y, z)
 
-over-node-returns-4 : (t : ℕ) → over-node-lts.Need-returns-4 (claims t) (over-node-at t) over-node.Post over-node-Inv-loop over-node-μ-loop
-over-node-returns-4 t c =
-    let o = c .before .before .before .before in
-    let start = o .before .before .before .before .before .before .before in
-    let a = start .args in
-    progress-stopped ∙ over-pointer _ _ (treeWith (a .kind) (a .width) (a .entries) (a .items)) _ _ _ (o .before .before .before .before .if1 .left) _ (o .before .before .before .node-ascends .ensures) _ _ (o .before .before .if2 .left) (o .before .count-at .ensures .0) _ (c .before .before .before .loop-test .taken) (c .before .pointer-right .ensures) (c .if4 .taken)
-
-over-node-punt-at-requires : (t : ℕ) → over-node-lts.Need-punt-at-requires (claims t) (over-node-at t) over-node.Post over-node-Inv-loop over-node-μ-loop
-over-node-punt-at-requires t c κs =
-    let o = c .before .before .before .before in
-    let start = o .before .before .before .before .before .before .before in
-    let a = start .args in
-    (start .pre .1 .0 .nodes-fit, ascending-record _ _ _ _ (o .before .before .before .node-ascends .ensures) (o .before .before .if2 .left), omega (arith, o .before .count-at .ensures .0, c .before .before .before .loop-test .taken))
+over-node-is-node-requires : (t : ℕ) → over-node-lts.Need-is-node-requires (claims t) (over-node-at t) over-node.Post over-node-Inv-loop over-node-μ-loop
+over-node-is-node-requires t c κs =
+    search needs
 
 over-node-sub-over-node : (t : ℕ) → over-node-lts.Need-sub-over-node (claims t) (over-node-at t) over-node.Post over-node-Inv-loop over-node-μ-loop
 over-node-sub-over-node t c =
@@ -138,29 +185,109 @@ over-node-sub-over-node t c =
 
 over-node-over-node-requires : (t : ℕ) → over-node-lts.Need-over-node-requires (claims t) (over-node-at t) over-node.Post over-node-Inv-loop over-node-μ-loop
 over-node-over-node-requires t c κs =
-    let o = c .before .before .before .before .before .before in
-    let start = o .before .before .before .before .before .before .before in
+    let o = c .before .before .before .before in
+    let f = o .before .before .before in
+    let start = f .before .before .before .before .before .before .before in
     let a = start .args in
-    (omega arith, (start .pre .1 .0, o .loop .inv .1))
+    let r = is-right _ _ _ _ (f .before .before .before .record-right .ensures) (f .before .before .if2 .left) in
+    let k = o .before .before .count-at .ensures .0 in
+    let y = o .loop .inv .1 (c .before .before .before .loop-test .taken) in
+    let z = active-in _ _ _ (o .loop .i) r (omega (arith, k, c .before .before .before .loop-test .taken)) in
+    (omega arith, (start .pre .1 .0, start .pre .1 .1, (λ h. omega (arith, y, z)), o .loop .inv .2))
 
-over-node-sub-over-leaf : (t : ℕ) → over-node-lts.Need-sub-over-leaf (claims t) (over-node-at t) over-node.Post over-node-Inv-loop over-node-μ-loop
-over-node-sub-over-leaf t c =
-    omega arith
-
-over-node-add-over-leaf : (t : ℕ) → over-node-lts.Need-add-over-leaf (claims t) (over-node-at t) over-node.Post over-node-Inv-loop over-node-μ-loop
-over-node-add-over-leaf t c =
-    omega arith
+over-node-leaf-number-requires : (t : ℕ) → over-node-lts.Need-leaf-number-requires (claims t) (over-node-at t) over-node.Post over-node-Inv-loop over-node-μ-loop
+over-node-leaf-number-requires t c κs =
+    sym (c .before .is-node .ensures) ∙ c .if4 .left
 
 over-node-over-leaf-requires : (t : ℕ) → over-node-lts.Need-over-leaf-requires (claims t) (over-node-at t) over-node.Post over-node-Inv-loop over-node-μ-loop
 over-node-over-leaf-requires t c κs =
-    let o = c .before .before .before .before .before .before in
-    let start = o .before .before .before .before .before .before .before in
+    let o = c .before .before .before .before .before in
+    let f = o .before .before .before in
+    let start = f .before .before .before .before .before .before .before in
     let a = start .args in
-    (start .pre .1 .0 .leaves-fit, o .loop .inv .1)
+    let r = is-right _ _ _ _ (f .before .before .before .record-right .ensures) (f .before .before .if2 .left) in
+    let k = o .before .before .count-at .ensures .0 in
+    let y = o .loop .inv .1 (c .before .before .before .before .loop-test .taken) in
+    let z = active-in _ _ _ (o .loop .i) r (omega (arith, k, c .before .before .before .before .loop-test .taken)) in
+    (start .pre .1 .0 .leaves-fit, refl, start .pre .1 .1, omega (arith, y, z), o .loop .inv .2)
+
+over-node-stopped-requires : (t : ℕ) → over-node-lts.Need-stopped-requires (claims t) (over-node-at t) over-node.Post over-node-Inv-loop over-node-μ-loop
+over-node-stopped-requires t c κs =
+    search needs
+
+-- what the walk over an entry gave, by either branch
+stepped : (t : ℕ) (c : over-node-lts.Joined4 (claims t) (over-node-at t) over-node.Post over-node-Inv-loop over-node-μ-loop)
+    → let a = c .before .before .before .before .before .before .before .before .before .before .before .before .before .before .args in
+    Stepped (a .nodes .now) (a .leaves .now) (treeWith (a .kind) (a .width) (a .entries) (a .items)) (λ m. walk (a .nodes .now) (nodeShape (a .kind) (a .width) (a .entries)) (a .left - 1) m)
+    (a .n) (c .before .before .before .before .loop .i) (c .before .before .before .before .loop .at) (c .if4 .at)
+stepped t c =
+    let o = c .before .before .before .before in
+    let f = o .before .before .before in
+    let start = f .before .before .before .before .before .before .before in
+    let a = start .args in
+    let u : Tree = treeWith (a .kind) (a .width) (a .entries) (a .items) in
+    let y = o .loop .inv .1 (c .before .before .before .loop-test .taken) in
+    let p : c .before .before .u32-at .result ≡ puntAt (a .nodes .now) (u .nodes) (a .n) (o .loop .i) = c .before .before .u32-at .ensures ∙ rw y in
+    let from : ℕ → List Met = λ m. walk (a .nodes .now) (u .nodes) (a .left - 1) m in
+    ⊎-elim
+    (λ w. step-node _ _ u from _ _ _ _ _ _ _ p y (c .before .is-node .ensures) (λ z. key-low (u .nodes) _ _ (start .pre .1 .0 .nodes-fit) (sym y ∙ z)) (w .0 .taken) (w .2 ∙ w .1 .ensures))
+    (λ w. step-leaf _ _ u from _ _ _ _ _ _ _ p y (c .before .is-node .ensures) _ (w .0 .left) (w .1 .ensures) (w .3 ∙ w .2 .ensures))
+    (c .if4 .came)
+
+over-node-returns-4 : (t : ℕ) → over-node-lts.Need-returns-4 (claims t) (over-node-at t) over-node.Post over-node-Inv-loop over-node-μ-loop
+over-node-returns-4 t c =
+    let o = c .before .before .before .before .before .before in
+    let f = o .before .before .before in
+    let start = f .before .before .before .before .before .before .before in
+    let a = start .args in
+    let u : Tree = treeWith (a .kind) (a .width) (a .entries) (a .items) in
+    let j = c .before .before in
+    over-pointed _ _ u _ (u .nodes) _ _ _ _ _ (f .before .is-pointed .ensures) _ (f .if3 .left)
+    (over-stopped _ _ u _ _ _ _ _ _ _ (f .before .before .before .before .if1 .left) (o .before .before .count-at .ensures .0) (j .before .before .before .loop-test .taken) (o .loop .inv .3) (stepped t j)
+    (sym (c .before .stopped .ensures) ∙ c .if5 .taken))
 
 over-node-add-i : (t : ℕ) → over-node-lts.Need-add-i (claims t) (over-node-at t) over-node.Post over-node-Inv-loop over-node-μ-loop
 over-node-add-i t c =
     omega arith
+
+over-node-add-next : (t : ℕ) → over-node-lts.Need-add-next (claims t) (over-node-at t) over-node.Post over-node-Inv-loop over-node-μ-loop
+over-node-add-next t c =
+    let o = c .before .before .before .before .before .before .before .before in
+    let f = o .before .before .before in
+    let start = f .before .before .before .before .before .before .before in
+    let a = start .args in
+    let u : Tree = treeWith (a .kind) (a .width) (a .entries) (a .items) in
+    let r = is-right _ _ _ _ (f .before .before .before .record-right .ensures) (f .before .before .if2 .left) in
+    let k = o .before .before .count-at .ensures .0 in
+    let y = o .loop .inv .1 (c .before .before .before .before .before .before .before .loop-test .taken) in
+    let m = place-next (u .nodes) (a .n) (o .loop .i) in
+    let z = active-in _ (u .nodes) _ (o .loop .i + 1) r (omega (arith, k, c .before .if6 .taken)) in
+    omega (arith, y, m, z, start .good .0 .1)
+
+over-node-below-key-requires : (t : ℕ) → over-node-lts.Need-below-key-requires (claims t) (over-node-at t) over-node.Post over-node-Inv-loop over-node-μ-loop
+over-node-below-key-requires t c κs =
+    let o = c .before .before .before .before .before .before .before .before in
+    let f = o .before .before .before in
+    let start = f .before .before .before .before .before .before .before in
+    let a = start .args in
+    let u : Tree = treeWith (a .kind) (a .width) (a .entries) (a .items) in
+    let r = is-right _ _ _ _ (f .before .before .before .record-right .ensures) (f .before .before .if2 .left) in
+    let k = o .before .before .count-at .ensures .0 in
+    let y = o .loop .inv .1 (c .before .before .before .before .before .before .before .loop-test .taken) in
+    let m = place-next (u .nodes) (a .n) (o .loop .i) in
+    let z = active-in _ (u .nodes) _ (o .loop .i + 1) r (omega (arith, k, c .before .if6 .taken)) in
+    (start .pre .1 .0 .nodes-fit .width-low, omega (arith, y, m, z), omega (arith, y, m, z))
+
+over-node-returns-5 : (t : ℕ) → over-node-lts.Need-returns-5 (claims t) (over-node-at t) over-node.Post over-node-Inv-loop over-node-μ-loop
+over-node-returns-5 t c =
+    let o = c .before .before .before .before .before .before .before .before .before .before in
+    let f = o .before .before .before in
+    let start = f .before .before .before .before .before .before .before in
+    let a = start .args in
+    let u : Tree = treeWith (a .kind) (a .width) (a .entries) (a .items) in
+    over-pointed _ _ u _ (u .nodes) _ _ _ _ _ (f .before .is-pointed .ensures) _ (f .if3 .left)
+    (over-unordered _ _ u _ _ _ (f .before .before .before .before .if1 .left)
+    (order-stop _ (u .nodes) _ (o .loop .own) (o .before .before .count-at .result) (o .loop .i) (o .loop .inv .5) _ (c .before .before .before .if6 .taken) (c .before .below-key .ensures) (c .if7 .taken)))
 
 over-node-loop-less : (t : ℕ) → over-node-lts.Need-loop-less (claims t) (over-node-at t) over-node.Post over-node-Inv-loop over-node-μ-loop
 over-node-loop-less t c =
@@ -168,35 +295,61 @@ over-node-loop-less t c =
 
 over-node-loop-again : (t : ℕ) → over-node-lts.Need-loop-again (claims t) (over-node-at t) over-node.Post over-node-Inv-loop over-node-μ-loop
 over-node-loop-again t c =
-    let o = c .before .before .before .before .before .before in
-    let start = o .before .before .before .before .before .before .before in
+    let o = c .before .before .before .before .before .before .before .before .before .before in
+    let f = o .before .before .before in
+    let start = f .before .before .before .before .before .before .before in
     let a = start .args in
-    let l = o .loop in
-    let p = c .before .punt-at .ensures in
-    let u : Tree = (treeWith (a .kind) (a .width) (a .entries) (a .items)) in
-    let r = pointers-more _ _ _ _ _ _ (l .inv .3) (c .before .before .before .pointer-right .ensures) (c .before .before .if4 .left) in
+    let u : Tree = treeWith (a .kind) (a .width) (a .entries) (a .items) in
+    let j = c .before .before .before .before .before .before in
+    let y = o .loop .inv .1 (j .before .before .before .loop-test .taken) in
+    let m = place-next (u .nodes) (a .n) (o .loop .i) in
+    let s = stepped t j in
+    let e = sym (c .before .before .before .before .before .stopped .ensures) ∙ c .before .before .before .before .if5 .left in
     let from : ℕ → List Met = λ m. walk (a .nodes .now) (u .nodes) (a .left - 1) m in
-    ⊎-elim
-    (λ w. (
-      omega arith,
-      rw (w .2, w .1 .ensures) (pass-reached _ _ u _ _ (l .inv .1)),
-      rw (w .2) (more-node _ _ u from _ _ _ _ _ p (l .inv .2) _ (w .0 .taken) (w .1 .ensures)),
-      r,
-    ))
-    (λ w. (
-      omega arith,
-      rw (w .2, w .1 .ensures) (leaf-reached (a .nodes .now) _ u _ _),
-      rw (w .2) (more-leaf _ _ u from _ _ _ _ _ p (l .inv .2) _ (w .0 .left) (omega arith) (w .1 .ensures)),
-      r,
-    ))
-    (c .if5 .came)
+    let q = right-on _ _ u from _ _ _ _ s e in (
+      omega (arith, c .before .before .before .if6 .taken),
+      (λ h. omega (arith, y, m)),
+      rw s (pass-reached _ _ u (start .pre .1 .0 .leaves-fit .shape) _ _ _ (o .loop .inv .2)),
+      more _ _ u from _ _ _ _ s _ (o .loop .inv .3) q,
+      pointers-more _ _ u _ _ (o .loop .inv .4) q,
+      order-next _ (u .nodes) _ (o .loop .own) (o .before .before .count-at .result) (o .loop .i) (o .loop .inv .5) _ (c .before .before .before .if6 .taken) (c .before .below-key .ensures) (c .if7 .left),
+    )
 
-over-node-returns-5 : (t : ℕ) → over-node-lts.Need-returns-5 (claims t) (over-node-at t) over-node.Post over-node-Inv-loop over-node-μ-loop
-over-node-returns-5 t c =
-    let o = c .before in
-    let start = o .before .before .before .before .before .before .before in
+over-node-loop-less-2 : (t : ℕ) → over-node-lts.Need-loop-less-2 (claims t) (over-node-at t) over-node.Post over-node-Inv-loop over-node-μ-loop
+over-node-loop-less-2 t c =
+    omega arith
+
+over-node-loop-again-2 : (t : ℕ) → over-node-lts.Need-loop-again-2 (claims t) (over-node-at t) over-node.Post over-node-Inv-loop over-node-μ-loop
+over-node-loop-again-2 t c =
+    let o = c .before .before .before .before .before .before .before in
+    let f = o .before .before .before in
+    let start = f .before .before .before .before .before .before .before in
     let a = start .args in
-    over-done _ _ (treeWith (a .kind) (a .width) (a .entries) (a .items)) _ _ _ (o .before .before .before .before .if1 .left) _ (o .before .before .before .node-ascends .ensures) _ _ (o .before .before .if2 .left) (o .before .count-at .ensures .0) _ (omega arith) (o .loop .inv .0) (o .loop .inv .3) (o .loop .inv .2)
+    let u : Tree = treeWith (a .kind) (a .width) (a .entries) (a .items) in
+    let j = c .before .before .before in
+    let s = stepped t j in
+    let e = sym (c .before .before .stopped .ensures) ∙ c .before .if5 .left in
+    let from : ℕ → List Met = λ m. walk (a .nodes .now) (u .nodes) (a .left - 1) m in
+    let q = right-on _ _ u from _ _ _ _ s e in (
+      omega (arith, j .before .before .before .loop-test .taken),
+      (λ h. absurd (omega (arith, h, c .if6 .left))),
+      rw s (pass-reached _ _ u (start .pre .1 .0 .leaves-fit .shape) _ _ _ (o .loop .inv .2)),
+      more _ _ u from _ _ _ _ s _ (o .loop .inv .3) q,
+      pointers-more _ _ u _ _ (o .loop .inv .4) q,
+      order-end _ (u .nodes) _ (o .loop .own) (o .before .before .count-at .result) (o .loop .i) (o .loop .inv .5) (omega (arith, c .if6 .left)),
+    )
+
+over-node-returns-6 : (t : ℕ) → over-node-lts.Need-returns-6 (claims t) (over-node-at t) over-node.Post over-node-Inv-loop over-node-μ-loop
+over-node-returns-6 t c =
+    let o = c .before in
+    let f = o .before .before .before in
+    let start = f .before .before .before .before .before .before .before in
+    let a = start .args in
+    let u : Tree = treeWith (a .kind) (a .width) (a .entries) (a .items) in
+    let r = is-right _ _ _ _ (f .before .before .before .record-right .ensures) (f .before .before .if2 .left) in
+    over-pointed _ _ u _ (u .nodes) _ _ _ _ _ (f .before .is-pointed .ensures) _ (f .if3 .left)
+    (over-done _ _ u _ _ _ (f .before .before .before .before .if1 .left) _ _ _ r (o .before .before .count-at .ensures .0) (omega (arith, c .loop-test .left)) (o .loop .inv .0) (o .loop .inv .4)
+    (order-done _ (u .nodes) _ (o .loop .own) (o .before .before .count-at .result) (o .loop .i) (o .loop .inv .5) (omega (arith, c .loop-test .left))) (o .loop .inv .3))
 
 pub +over-node-spec : {M : Type 1} → statement M
 +over-node-spec = close μ-over-node λ t. over-node-lts.spec (claims t)
@@ -205,22 +358,30 @@ pub +over-node-spec : {M : Type 1} → statement M
     over-node-Inv-loop
     over-node-μ-loop
     (over-node-returns t)
-    (over-node-add-t18 t)
-    (over-node-node-ascends-requires t)
+    (over-node-add-t20 t)
+    (over-node-record-right-requires t)
     (over-node-returns-2 t)
-    (over-node-add-t18-2 t)
-    (over-node-count-at-requires t)
-    (over-node-loop-holds t)
+    (over-node-is-pointed-requires t)
     (over-node-returns-3 t)
-    (over-node-pointer-right-requires t)
-    (over-node-returns-4 t)
-    (over-node-punt-at-requires t)
+    (over-node-add-t20-2 t)
+    (over-node-count-at-requires t)
+    (over-node-key-place-requires t)
+    (over-node-loop-holds t)
+    (over-node-add-u32-at t)
+    (over-node-u32-at-requires t)
+    (over-node-is-node-requires t)
     (over-node-sub-over-node t)
     (over-node-over-node-requires t)
-    (over-node-sub-over-leaf t)
-    (over-node-add-over-leaf t)
+    (over-node-leaf-number-requires t)
     (over-node-over-leaf-requires t)
+    (over-node-stopped-requires t)
+    (over-node-returns-4 t)
     (over-node-add-i t)
+    (over-node-add-next t)
+    (over-node-below-key-requires t)
+    (over-node-returns-5 t)
     (over-node-loop-less t)
     (over-node-loop-again t)
-    (over-node-returns-5 t)
+    (over-node-loop-less-2 t)
+    (over-node-loop-again-2 t)
+    (over-node-returns-6 t)

@@ -1,14 +1,15 @@
-use mathlib.Core.Path.{_∙_}
+use mathlib.Core.Path.{refl, _∙_}
 use borrow.Author.Needs.{needs}
+use Rattle.terms.proofs.Padding.{width-is}
 use Rattle.index.proofs.Records.{part-fits, numbers-fit}
 use Rattle.index.proofs.Looking.{part-numbers}
-use Rattle.index_check.proofs.Passing.{reached-start, reached-before, pass-reached, pass-whole}
+use Rattle.index_check.proofs.Passing.{reached-start, pass-whole}
 use Rattle.index_check.proofs.Checking.{tree-wrong, tree-right}
 use Rattle.index_check.proofs.check.tree_sound.Statement.{statement}
 use Rattle.index_check.proofs.check.tree_sound.Tie as tie
 
 read-part-requires : tie.Need-read-part-requires
-read-part-requires c κs = c .before .before .before .pre
+read-part-requires c κs = search needs
 
 enum-known-p : tie.Need-enum-known-p
 enum-known-p c = search needs
@@ -29,18 +30,11 @@ over-node-requires c κs =
     let g = o .before .before .p .given in
     let f = part-fits _ _ _ _ e (g .1) in
     let m = part-numbers _ _ _ _ e (g .1) in
-    (numbers-fit _ _ _ (m .0) (o .width-of .ensures .0 ∙ m .1) f, reached-before _ _)
+    let w = o .width-of .ensures .0 in
+    (numbers-fit _ _ _ (m .0) (w ∙ m .1) f, rw w (width-is (o .before .before .before .before .before .before .before .before .args .kind)), (λ h. absurd (h refl)), reached-start _ _)
 
 well-ended-requires : tie.Need-well-ended-requires
-well-ended-requires c κs =
-    let o = c .before .before .before in
-    let e = o .before .before .before .before .read-part .ensures in
-    let g = o .before .before .p .given in
-    let f = part-fits _ _ _ _ e (g .1) in
-    let m = part-numbers _ _ _ _ e (g .1) in (
-      f .leaves-fit,
-      rw (pass-whole _ _ _ f _ _ _ _ _ (m .0) (o .width-of .ensures .0 ∙ m .1) (c .over-node .ensures)) (pass-reached _ _ (g .0 .0) _ _ (reached-start _ _)),
-    )
+well-ended-requires c κs = search needs
 
 returns-2 : tie.Need-returns-2
 returns-2 c =
