@@ -3,6 +3,8 @@
 use index::layout::Part;
 use index::layout::Shape;
 use index::layout::key_place;
+use index::layout::leaf_shape;
+use index::layout::node_shape;
 use index::layout::place;
 use index::layout::read_part;
 use index::lookup::NODES_MOST;
@@ -133,26 +135,14 @@ fn over_node(
     if left == 0 {
         return Progress::Stopped;
     }
-    let s = Shape {
-        kind,
-        head: 8,
-        width,
-        step: width + 4,
-        most: entries,
-    };
+    let s = node_shape(kind, width, entries);
     if !record_right(nodes, s, n) {
         return Progress::Stopped;
     }
     if !is_pointed(nodes, s, key, n) {
         return Progress::Stopped;
     }
-    let l = Shape {
-        kind,
-        head: 12,
-        width,
-        step: width + 8,
-        most: items,
-    };
+    let l = leaf_shape(kind, width, items);
     let count = count_at(nodes, s, n);
     let mut at = w;
     let mut own = key_place(s, n, 0);

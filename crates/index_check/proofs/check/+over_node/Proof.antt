@@ -1,15 +1,18 @@
 use Prim.Native.Nat.{ℕ, _+_, _-_, _<_, _≤_}
 use native.Mathlib.Omega.{arith}
-use mathlib.Core.Path.{_≡_, refl, sym, _∙_}
+use mathlib.Core.Path.{_≡_, refl, sym, ap, _∙_}
 use mathlib.Core.Logic.{⊎-elim}
 use mathlib.Core.Bool.{true}
 use mathlib.Core.List.{List}
 use borrow.Fn.Kinds.{In}
 use borrow.Fn.PlainCycle.{Measures, is, falls, and}
 use borrow.Author.Needs.{needs}
+use Rattle.word.specs.Overwrite.{part}
+use Rattle.terms.specs.Key.{below}
 use Rattle.index.specs.Inner.{treeWith}
 use Rattle.index.specs.Layout.{nodeShape, leafShape, keyPlace, puntAt}
 use Rattle.index.specs.Reading.{Met}
+use Rattle.index.specs.declared.layout.Shape.{Shape}
 use Rattle.index.specs.declared.layout.Tree.{Tree}
 use Rattle.index.proofs.Shapes.{right-facts, active-in}
 use Rattle.index.proofs.Records.{is-right, place-next}
@@ -26,6 +29,8 @@ use Rattle.index_check.proofs.check.is_pointed.Reads as is-pointed-read
 use Rattle.index_check.proofs.check.over_leaf.Reads as over-leaf-reads
 use Rattle.index_check.proofs.check.stopped.Reads as stopped-reads
 use Rattle.index.proofs.layout.key_place.Reads as key-place-reads
+use Rattle.index.proofs.layout.leaf_shape.Reads as leaf-shape-reads
+use Rattle.index.proofs.layout.node_shape.Reads as node-shape-reads
 use Rattle.index.proofs.rules.count_at.Reads as count-at-reads
 use Rattle.index.proofs.rules.is_node.Reads as is-node-reads
 use Rattle.index.proofs.rules.leaf_number.Reads as leaf-number-reads
@@ -45,10 +50,14 @@ over-node-below t = and 2 over-node-kinds.ps (falls 2 over-node-kinds.ps _<_ μ-
 -- what the functions that it calls ask and tell
 abbrev claims : ℕ → over-node-lts.Claims
 claims t = (
+  node-shape-reads.Asked,
+  node-shape-reads.Learnt,
   record-right-reads.Asked,
   record-right-reads.Learnt,
   is-pointed-reads.Asked,
   is-pointed-reads.Learnt,
+  leaf-shape-reads.Asked,
+  leaf-shape-reads.Learnt,
   count-at-reads.Asked,
   count-at-reads.Learnt,
   key-place-reads.Asked,
@@ -85,80 +94,82 @@ over-node-returns t c =
     let a = start .args in
     over-none _ _ (treeWith (a .kind) (a .width) (a .entries) (a .items)) _ _ _ (c .if1 .taken)
 
-over-node-add-t20 : (t : ℕ) → over-node-lts.Need-add-t20 (claims t) (over-node-at t) over-node.Post over-node-Inv-loop over-node-μ-loop
-over-node-add-t20 t c =
-    let start = c .before .before .before in
-    let a = start .args in
-    omega (arith, start .pre .1 .0 .nodes-fit .width-high)
+over-node-node-shape-requires : (t : ℕ) → over-node-lts.Need-node-shape-requires (claims t) (over-node-at t) over-node.Post over-node-Inv-loop over-node-μ-loop
+over-node-node-shape-requires t c κs =
+    c .before .before .before .pre .1 .0 .nodes-fit .width-high
 
 over-node-record-right-requires : (t : ℕ) → over-node-lts.Need-record-right-requires (claims t) (over-node-at t) over-node.Post over-node-Inv-loop over-node-μ-loop
 over-node-record-right-requires t c κs =
-    c .before .before .before .pre .1 .0 .nodes-fit
+    rw (c .node-shape .ensures) (c .before .before .before .before .pre .1 .0 .nodes-fit)
 
 over-node-returns-2 : (t : ℕ) → over-node-lts.Need-returns-2 (claims t) (over-node-at t) over-node.Post over-node-Inv-loop over-node-μ-loop
 over-node-returns-2 t c =
-    let start = c .before .before .before .before .before in
+    let start = c .before .before .before .before .before .before in
     let a = start .args in
-    over-broken _ _ (treeWith (a .kind) (a .width) (a .entries) (a .items)) _ _ _ (c .before .before .if1 .left) _ (c .before .record-right .ensures) (c .if2 .taken)
+    over-broken _ _ (treeWith (a .kind) (a .width) (a .entries) (a .items)) _ _ _ (c .before .before .before .if1 .left) _ (rw (c .before .before .node-shape .ensures) at (c .before .record-right .ensures)) (c .if2 .taken)
 
 over-node-is-pointed-requires : (t : ℕ) → over-node-lts.Need-is-pointed-requires (claims t) (over-node-at t) over-node.Post over-node-Inv-loop over-node-μ-loop
 over-node-is-pointed-requires t c κs =
-    let start = c .before .before .before .before .before in
+    let start = c .before .before .before .before .before .before in
     let a = start .args in
-    (start .pre .1 .0 .nodes-fit, is-right _ _ _ _ (c .before .record-right .ensures) (c .if2 .left), start .pre .1 .2)
+    let e = c .before .before .node-shape .ensures in
+    rw e (start .pre .1 .0 .nodes-fit, rw e at (is-right _ _ _ _ (c .before .record-right .ensures) (c .if2 .left)), start .pre .1 .2)
 
 over-node-returns-3 : (t : ℕ) → over-node-lts.Need-returns-3 (claims t) (over-node-at t) over-node.Post over-node-Inv-loop over-node-μ-loop
 over-node-returns-3 t c =
-    let start = c .before .before .before .before .before .before .before in
+    let start = c .before .before .before .before .before .before .before .before in
     let a = start .args in
-    over-unpointed _ _ (treeWith (a .kind) (a .width) (a .entries) (a .items)) _ _ _ _ _ _ _ (c .before .is-pointed .ensures) (c .if3 .taken)
+    over-unpointed _ _ (treeWith (a .kind) (a .width) (a .entries) (a .items)) _ _ _ _ _ _ _ (rw (c .before .before .before .before .node-shape .ensures) at (c .before .is-pointed .ensures)) (c .if3 .taken)
 
-over-node-add-t20-2 : (t : ℕ) → over-node-lts.Need-add-t20-2 (claims t) (over-node-at t) over-node.Post over-node-Inv-loop over-node-μ-loop
-over-node-add-t20-2 t c =
-    let start = c .before .before .before .before .before .before .before in
-    let a = start .args in
-    omega (arith, start .pre .1 .0 .nodes-fit .width-high)
+over-node-leaf-shape-requires : (t : ℕ) → over-node-lts.Need-leaf-shape-requires (claims t) (over-node-at t) over-node.Post over-node-Inv-loop over-node-μ-loop
+over-node-leaf-shape-requires t c κs =
+    c .before .before .before .before .before .before .before .before .pre .1 .0 .nodes-fit .width-high
 
 over-node-count-at-requires : (t : ℕ) → over-node-lts.Need-count-at-requires (claims t) (over-node-at t) over-node.Post over-node-Inv-loop over-node-μ-loop
 over-node-count-at-requires t c κs =
-    let f = c in
-    let start = f .before .before .before .before .before .before .before in
+    let f = c .before in
+    let start = f .before .before .before .before .before .before .before .before in
+    let e = f .before .before .before .before .node-shape .ensures in
     let a = start .args in
-    let r = is-right _ _ _ _ (f .before .before .before .record-right .ensures) (f .before .before .if2 .left) in
-    (start .pre .1 .0 .nodes-fit, right-facts _ _ _ r .there)
+    let r = rw e at (is-right _ _ _ _ (f .before .before .before .record-right .ensures) (f .before .before .if2 .left)) in
+    rw e (start .pre .1 .0 .nodes-fit, right-facts _ _ _ r .there)
 
 over-node-key-place-requires : (t : ℕ) → over-node-lts.Need-key-place-requires (claims t) (over-node-at t) over-node.Post over-node-Inv-loop over-node-μ-loop
 over-node-key-place-requires t c κs =
-    let f = c .before in
-    let start = f .before .before .before .before .before .before .before in
+    let f = c .before .before in
+    let start = f .before .before .before .before .before .before .before .before in
+    let e = f .before .before .before .before .node-shape .ensures in
     let a = start .args in
-    let r = is-right _ _ _ _ (f .before .before .before .record-right .ensures) (f .before .before .if2 .left) in
-    (start .pre .1 .0 .nodes-fit, right-facts _ _ _ r .place-low, omega arith)
+    let r = rw e at (is-right _ _ _ _ (f .before .before .before .record-right .ensures) (f .before .before .if2 .left)) in
+    rw e (start .pre .1 .0 .nodes-fit, right-facts _ _ _ r .place-low, omega arith)
 
 over-node-loop-holds : (t : ℕ) → over-node-lts.Need-loop-holds (claims t) (over-node-at t) over-node.Post over-node-Inv-loop over-node-μ-loop
 unfolding pass behindFirst pointersRight
 over-node-loop-holds t c =
-    let f = c .before .before in
-    let start = f .before .before .before .before .before .before .before in
+    let f = c .before .before .before in
+    let start = f .before .before .before .before .before .before .before .before in
+    let e = f .before .before .before .before .node-shape .ensures in
     let a = start .args in
-    let r = is-right _ _ _ _ (f .before .before .before .record-right .ensures) (f .before .before .if2 .left) in
-    let k = c .before .count-at .ensures .0 in (
+    let r = rw e at (is-right _ _ _ _ (f .before .before .before .record-right .ensures) (f .before .before .if2 .left)) in
+    let k = rw e at (c .before .count-at .ensures .0) in
+    let p = rw e at (c .key-place .ensures) in (
       omega arith,
-      λ h. c .key-place .ensures,
+      λ h. p,
       start .pre .1 .3,
       refl,
       refl,
-      order-start _ (nodeShape (a .kind) (a .width) (a .entries)) _ _ _ (c .key-place .ensures) k (rw k (right-facts _ _ _ r .count-low)),
+      order-start _ (nodeShape (a .kind) (a .width) (a .entries)) _ _ _ p k (rw k (right-facts _ _ _ r .count-low)),
     )
 
 over-node-add-u32-at : (t : ℕ) → over-node-lts.Need-add-u32-at (claims t) (over-node-at t) over-node.Post over-node-Inv-loop over-node-μ-loop
 over-node-add-u32-at t c =
     let o = c .before in
-    let f = o .before .before .before in
-    let start = f .before .before .before .before .before .before .before in
+    let f = o .before .before .before .before in
+    let start = f .before .before .before .before .before .before .before .before in
+    let e = f .before .before .before .before .node-shape .ensures in
     let a = start .args in
-    let r = is-right _ _ _ _ (f .before .before .before .record-right .ensures) (f .before .before .if2 .left) in
-    let k = o .before .before .count-at .ensures .0 in
+    let r = rw e at (is-right _ _ _ _ (f .before .before .before .record-right .ensures) (f .before .before .if2 .left)) in
+    let k = rw e at (o .before .before .count-at .ensures .0) in
     let y = o .loop .inv .1 (c .loop-test .taken) in
     let z = active-in _ _ _ (o .loop .i) r (omega (arith, k, c .loop-test .taken)) in
     omega (arith, y, z, start .good .0 .1)
@@ -166,11 +177,12 @@ over-node-add-u32-at t c =
 over-node-u32-at-requires : (t : ℕ) → over-node-lts.Need-u32-at-requires (claims t) (over-node-at t) over-node.Post over-node-Inv-loop over-node-μ-loop
 over-node-u32-at-requires t c κs =
     let o = c .before in
-    let f = o .before .before .before in
-    let start = f .before .before .before .before .before .before .before in
+    let f = o .before .before .before .before in
+    let start = f .before .before .before .before .before .before .before .before in
+    let e = f .before .before .before .before .node-shape .ensures in
     let a = start .args in
-    let r = is-right _ _ _ _ (f .before .before .before .record-right .ensures) (f .before .before .if2 .left) in
-    let k = o .before .before .count-at .ensures .0 in
+    let r = rw e at (is-right _ _ _ _ (f .before .before .before .record-right .ensures) (f .before .before .if2 .left)) in
+    let k = rw e at (o .before .before .count-at .ensures .0) in
     let y = o .loop .inv .1 (c .loop-test .taken) in
     let z = active-in _ _ _ (o .loop .i) r (omega (arith, k, c .loop-test .taken)) in
     omega (arith, y, z)
@@ -186,11 +198,12 @@ over-node-sub-over-node t c =
 over-node-over-node-requires : (t : ℕ) → over-node-lts.Need-over-node-requires (claims t) (over-node-at t) over-node.Post over-node-Inv-loop over-node-μ-loop
 over-node-over-node-requires t c κs =
     let o = c .before .before .before .before in
-    let f = o .before .before .before in
-    let start = f .before .before .before .before .before .before .before in
+    let f = o .before .before .before .before in
+    let start = f .before .before .before .before .before .before .before .before in
+    let e = f .before .before .before .before .node-shape .ensures in
     let a = start .args in
-    let r = is-right _ _ _ _ (f .before .before .before .record-right .ensures) (f .before .before .if2 .left) in
-    let k = o .before .before .count-at .ensures .0 in
+    let r = rw e at (is-right _ _ _ _ (f .before .before .before .record-right .ensures) (f .before .before .if2 .left)) in
+    let k = rw e at (o .before .before .count-at .ensures .0) in
     let y = o .loop .inv .1 (c .before .before .before .loop-test .taken) in
     let z = active-in _ _ _ (o .loop .i) r (omega (arith, k, c .before .before .before .loop-test .taken)) in
     (omega arith, (start .pre .1 .0, start .pre .1 .1, (λ h. omega (arith, y, z)), o .loop .inv .2))
@@ -202,14 +215,15 @@ over-node-leaf-number-requires t c κs =
 over-node-over-leaf-requires : (t : ℕ) → over-node-lts.Need-over-leaf-requires (claims t) (over-node-at t) over-node.Post over-node-Inv-loop over-node-μ-loop
 over-node-over-leaf-requires t c κs =
     let o = c .before .before .before .before .before in
-    let f = o .before .before .before in
-    let start = f .before .before .before .before .before .before .before in
+    let f = o .before .before .before .before in
+    let start = f .before .before .before .before .before .before .before .before in
+    let e = f .before .before .before .before .node-shape .ensures in
     let a = start .args in
-    let r = is-right _ _ _ _ (f .before .before .before .record-right .ensures) (f .before .before .if2 .left) in
-    let k = o .before .before .count-at .ensures .0 in
+    let r = rw e at (is-right _ _ _ _ (f .before .before .before .record-right .ensures) (f .before .before .if2 .left)) in
+    let k = rw e at (o .before .before .count-at .ensures .0) in
     let y = o .loop .inv .1 (c .before .before .before .before .loop-test .taken) in
     let z = active-in _ _ _ (o .loop .i) r (omega (arith, k, c .before .before .before .before .loop-test .taken)) in
-    (start .pre .1 .0 .leaves-fit, refl, start .pre .1 .1, omega (arith, y, z), o .loop .inv .2)
+    rw (o .before .before .before .leaf-shape .ensures) (start .pre .1 .0 .leaves-fit, refl, start .pre .1 .1, omega (arith, y, z), o .loop .inv .2)
 
 over-node-stopped-requires : (t : ℕ) → over-node-lts.Need-stopped-requires (claims t) (over-node-at t) over-node.Post over-node-Inv-loop over-node-μ-loop
 over-node-stopped-requires t c κs =
@@ -217,13 +231,14 @@ over-node-stopped-requires t c κs =
 
 -- what the walk over an entry gave, by either branch
 stepped : (t : ℕ) (c : over-node-lts.Joined4 (claims t) (over-node-at t) over-node.Post over-node-Inv-loop over-node-μ-loop)
-    → let a = c .before .before .before .before .before .before .before .before .before .before .before .before .before .before .args in
+    → let a = c .before .before .before .before .before .before .before .before .before .before .before .before .before .before .before .before .args in
     Stepped (a .nodes .now) (a .leaves .now) (treeWith (a .kind) (a .width) (a .entries) (a .items)) (λ m. walk (a .nodes .now) (nodeShape (a .kind) (a .width) (a .entries)) (a .left - 1) m)
     (a .n) (c .before .before .before .before .loop .i) (c .before .before .before .before .loop .at) (c .if4 .at)
 stepped t c =
     let o = c .before .before .before .before in
-    let f = o .before .before .before in
-    let start = f .before .before .before .before .before .before .before in
+    let f = o .before .before .before .before in
+    let start = f .before .before .before .before .before .before .before .before in
+    let e = f .before .before .before .before .node-shape .ensures in
     let a = start .args in
     let u : Tree = treeWith (a .kind) (a .width) (a .entries) (a .items) in
     let y = o .loop .inv .1 (c .before .before .before .loop-test .taken) in
@@ -231,19 +246,20 @@ stepped t c =
     let from : ℕ → List Met = λ m. walk (a .nodes .now) (u .nodes) (a .left - 1) m in
     ⊎-elim
     (λ w. step-node _ _ u from _ _ _ _ _ _ _ p y (c .before .is-node .ensures) (λ z. key-low (u .nodes) _ _ (start .pre .1 .0 .nodes-fit) (sym y ∙ z)) (w .0 .taken) (w .2 ∙ w .1 .ensures))
-    (λ w. step-leaf _ _ u from _ _ _ _ _ _ _ p y (c .before .is-node .ensures) _ (w .0 .left) (w .1 .ensures) (w .3 ∙ w .2 .ensures))
+    (λ w. step-leaf _ _ u from _ _ _ _ _ _ _ p y (c .before .is-node .ensures) _ (w .0 .left) (w .1 .ensures) (rw (o .before .before .before .leaf-shape .ensures) at (w .3 ∙ w .2 .ensures)))
     (c .if4 .came)
 
 over-node-returns-4 : (t : ℕ) → over-node-lts.Need-returns-4 (claims t) (over-node-at t) over-node.Post over-node-Inv-loop over-node-μ-loop
 over-node-returns-4 t c =
     let o = c .before .before .before .before .before .before in
-    let f = o .before .before .before in
-    let start = f .before .before .before .before .before .before .before in
+    let f = o .before .before .before .before in
+    let start = f .before .before .before .before .before .before .before .before in
+    let e = f .before .before .before .before .node-shape .ensures in
     let a = start .args in
     let u : Tree = treeWith (a .kind) (a .width) (a .entries) (a .items) in
     let j = c .before .before in
-    over-pointed _ _ u _ (u .nodes) _ _ _ _ _ (f .before .is-pointed .ensures) _ (f .if3 .left)
-    (over-stopped _ _ u _ _ _ _ _ _ _ (f .before .before .before .before .if1 .left) (o .before .before .count-at .ensures .0) (j .before .before .before .loop-test .taken) (o .loop .inv .3) (stepped t j)
+    over-pointed _ _ u _ (u .nodes) _ _ _ _ _ (rw e at (f .before .is-pointed .ensures)) _ (f .if3 .left)
+    (over-stopped _ _ u _ _ _ _ _ _ _ (f .before .before .before .before .before .if1 .left) (rw e at (o .before .before .count-at .ensures .0)) (j .before .before .before .loop-test .taken) (o .loop .inv .3) (stepped t j)
     (sym (c .before .stopped .ensures) ∙ c .if5 .taken))
 
 over-node-add-i : (t : ℕ) → over-node-lts.Need-add-i (claims t) (over-node-at t) over-node.Post over-node-Inv-loop over-node-μ-loop
@@ -253,41 +269,48 @@ over-node-add-i t c =
 over-node-add-next : (t : ℕ) → over-node-lts.Need-add-next (claims t) (over-node-at t) over-node.Post over-node-Inv-loop over-node-μ-loop
 over-node-add-next t c =
     let o = c .before .before .before .before .before .before .before .before in
-    let f = o .before .before .before in
-    let start = f .before .before .before .before .before .before .before in
+    let f = o .before .before .before .before in
+    let start = f .before .before .before .before .before .before .before .before in
+    let e = f .before .before .before .before .node-shape .ensures in
     let a = start .args in
     let u : Tree = treeWith (a .kind) (a .width) (a .entries) (a .items) in
-    let r = is-right _ _ _ _ (f .before .before .before .record-right .ensures) (f .before .before .if2 .left) in
-    let k = o .before .before .count-at .ensures .0 in
+    let r = rw e at (is-right _ _ _ _ (f .before .before .before .record-right .ensures) (f .before .before .if2 .left)) in
+    let k = rw e at (o .before .before .count-at .ensures .0) in
     let y = o .loop .inv .1 (c .before .before .before .before .before .before .before .loop-test .taken) in
     let m = place-next (u .nodes) (a .n) (o .loop .i) in
+    let v = ap (λ (s : Shape). s .step) e in
     let z = active-in _ (u .nodes) _ (o .loop .i + 1) r (omega (arith, k, c .before .if6 .taken)) in
-    omega (arith, y, m, z, start .good .0 .1)
+    omega (arith, y, m, z, v, start .good .0 .1)
 
 over-node-below-key-requires : (t : ℕ) → over-node-lts.Need-below-key-requires (claims t) (over-node-at t) over-node.Post over-node-Inv-loop over-node-μ-loop
 over-node-below-key-requires t c κs =
     let o = c .before .before .before .before .before .before .before .before in
-    let f = o .before .before .before in
-    let start = f .before .before .before .before .before .before .before in
+    let f = o .before .before .before .before in
+    let start = f .before .before .before .before .before .before .before .before in
+    let e = f .before .before .before .before .node-shape .ensures in
     let a = start .args in
     let u : Tree = treeWith (a .kind) (a .width) (a .entries) (a .items) in
-    let r = is-right _ _ _ _ (f .before .before .before .record-right .ensures) (f .before .before .if2 .left) in
-    let k = o .before .before .count-at .ensures .0 in
+    let r = rw e at (is-right _ _ _ _ (f .before .before .before .record-right .ensures) (f .before .before .if2 .left)) in
+    let k = rw e at (o .before .before .count-at .ensures .0) in
     let y = o .loop .inv .1 (c .before .before .before .before .before .before .before .loop-test .taken) in
     let m = place-next (u .nodes) (a .n) (o .loop .i) in
+    let v = ap (λ (s : Shape). s .step) e in
     let z = active-in _ (u .nodes) _ (o .loop .i + 1) r (omega (arith, k, c .before .if6 .taken)) in
-    (start .pre .1 .0 .nodes-fit .width-low, omega (arith, y, m, z), omega (arith, y, m, z))
+    (start .pre .1 .0 .nodes-fit .width-low, omega (arith, y, m, z), omega (arith, y, m, z, v))
 
 over-node-returns-5 : (t : ℕ) → over-node-lts.Need-returns-5 (claims t) (over-node-at t) over-node.Post over-node-Inv-loop over-node-μ-loop
 over-node-returns-5 t c =
     let o = c .before .before .before .before .before .before .before .before .before .before in
-    let f = o .before .before .before in
-    let start = f .before .before .before .before .before .before .before in
+    let f = o .before .before .before .before in
+    let start = f .before .before .before .before .before .before .before .before in
+    let e = f .before .before .before .before .node-shape .ensures in
     let a = start .args in
     let u : Tree = treeWith (a .kind) (a .width) (a .entries) (a .items) in
-    over-pointed _ _ u _ (u .nodes) _ _ _ _ _ (f .before .is-pointed .ensures) _ (f .if3 .left)
-    (over-unordered _ _ u _ _ _ (f .before .before .before .before .if1 .left)
-    (order-stop _ (u .nodes) _ (o .loop .own) (o .before .before .count-at .result) (o .loop .i) (o .loop .inv .5) _ (c .before .before .before .if6 .taken) (c .before .below-key .ensures) (c .if7 .taken)))
+    let d : c .before .below-key .result ≡ below (part (a .nodes .now) (o .loop .own) (a .width)) (part (a .nodes .now) (o .loop .own + (a .width + 4)) (a .width)) =
+    c .before .below-key .ensures ∙ ap (λ (x : ℕ). below (part (a .nodes .now) (o .loop .own) (a .width)) (part (a .nodes .now) (o .loop .own + x) (a .width))) (ap (λ (s : Shape). s .step) e) in
+    over-pointed _ _ u _ (u .nodes) _ _ _ _ _ (rw e at (f .before .is-pointed .ensures)) _ (f .if3 .left)
+    (over-unordered _ _ u _ _ _ (f .before .before .before .before .before .if1 .left)
+    (order-stop _ (u .nodes) _ (o .loop .own) (o .before .before .count-at .result) (o .loop .i) (o .loop .inv .5) _ (c .before .before .before .if6 .taken) d (c .if7 .taken)))
 
 over-node-loop-less : (t : ℕ) → over-node-lts.Need-loop-less (claims t) (over-node-at t) over-node.Post over-node-Inv-loop over-node-μ-loop
 over-node-loop-less t c =
@@ -296,23 +319,27 @@ over-node-loop-less t c =
 over-node-loop-again : (t : ℕ) → over-node-lts.Need-loop-again (claims t) (over-node-at t) over-node.Post over-node-Inv-loop over-node-μ-loop
 over-node-loop-again t c =
     let o = c .before .before .before .before .before .before .before .before .before .before in
-    let f = o .before .before .before in
-    let start = f .before .before .before .before .before .before .before in
+    let f = o .before .before .before .before in
+    let start = f .before .before .before .before .before .before .before .before in
+    let e = f .before .before .before .before .node-shape .ensures in
     let a = start .args in
     let u : Tree = treeWith (a .kind) (a .width) (a .entries) (a .items) in
     let j = c .before .before .before .before .before .before in
     let y = o .loop .inv .1 (j .before .before .before .loop-test .taken) in
     let m = place-next (u .nodes) (a .n) (o .loop .i) in
+    let v = ap (λ (s : Shape). s .step) e in
+    let d : c .before .below-key .result ≡ below (part (a .nodes .now) (o .loop .own) (a .width)) (part (a .nodes .now) (o .loop .own + (a .width + 4)) (a .width)) =
+    c .before .below-key .ensures ∙ ap (λ (x : ℕ). below (part (a .nodes .now) (o .loop .own) (a .width)) (part (a .nodes .now) (o .loop .own + x) (a .width))) v in
     let s = stepped t j in
-    let e = sym (c .before .before .before .before .before .stopped .ensures) ∙ c .before .before .before .before .if5 .left in
+    let g = sym (c .before .before .before .before .before .stopped .ensures) ∙ c .before .before .before .before .if5 .left in
     let from : ℕ → List Met = λ m. walk (a .nodes .now) (u .nodes) (a .left - 1) m in
-    let q = right-on _ _ u from _ _ _ _ s e in (
+    let q = right-on _ _ u from _ _ _ _ s g in (
       omega (arith, c .before .before .before .if6 .taken),
-      (λ h. omega (arith, y, m)),
+      (λ h. omega (arith, y, m, v)),
       rw s (pass-reached _ _ u (start .pre .1 .0 .leaves-fit .shape) _ _ _ (o .loop .inv .2)),
       more _ _ u from _ _ _ _ s _ (o .loop .inv .3) q,
       pointers-more _ _ u _ _ (o .loop .inv .4) q,
-      order-next _ (u .nodes) _ (o .loop .own) (o .before .before .count-at .result) (o .loop .i) (o .loop .inv .5) _ (c .before .before .before .if6 .taken) (c .before .below-key .ensures) (c .if7 .left),
+      rw v (order-next _ (u .nodes) _ (o .loop .own) (o .before .before .count-at .result) (o .loop .i) (o .loop .inv .5) _ (c .before .before .before .if6 .taken) d (c .if7 .left)),
     )
 
 over-node-loop-less-2 : (t : ℕ) → over-node-lts.Need-loop-less-2 (claims t) (over-node-at t) over-node.Post over-node-Inv-loop over-node-μ-loop
@@ -322,15 +349,16 @@ over-node-loop-less-2 t c =
 over-node-loop-again-2 : (t : ℕ) → over-node-lts.Need-loop-again-2 (claims t) (over-node-at t) over-node.Post over-node-Inv-loop over-node-μ-loop
 over-node-loop-again-2 t c =
     let o = c .before .before .before .before .before .before .before in
-    let f = o .before .before .before in
-    let start = f .before .before .before .before .before .before .before in
+    let f = o .before .before .before .before in
+    let start = f .before .before .before .before .before .before .before .before in
+    let e = f .before .before .before .before .node-shape .ensures in
     let a = start .args in
     let u : Tree = treeWith (a .kind) (a .width) (a .entries) (a .items) in
     let j = c .before .before .before in
     let s = stepped t j in
-    let e = sym (c .before .before .stopped .ensures) ∙ c .before .if5 .left in
+    let g = sym (c .before .before .stopped .ensures) ∙ c .before .if5 .left in
     let from : ℕ → List Met = λ m. walk (a .nodes .now) (u .nodes) (a .left - 1) m in
-    let q = right-on _ _ u from _ _ _ _ s e in (
+    let q = right-on _ _ u from _ _ _ _ s g in (
       omega (arith, j .before .before .before .loop-test .taken),
       (λ h. absurd (omega (arith, h, c .if6 .left))),
       rw s (pass-reached _ _ u (start .pre .1 .0 .leaves-fit .shape) _ _ _ (o .loop .inv .2)),
@@ -342,13 +370,14 @@ over-node-loop-again-2 t c =
 over-node-returns-6 : (t : ℕ) → over-node-lts.Need-returns-6 (claims t) (over-node-at t) over-node.Post over-node-Inv-loop over-node-μ-loop
 over-node-returns-6 t c =
     let o = c .before in
-    let f = o .before .before .before in
-    let start = f .before .before .before .before .before .before .before in
+    let f = o .before .before .before .before in
+    let start = f .before .before .before .before .before .before .before .before in
+    let e = f .before .before .before .before .node-shape .ensures in
     let a = start .args in
     let u : Tree = treeWith (a .kind) (a .width) (a .entries) (a .items) in
-    let r = is-right _ _ _ _ (f .before .before .before .record-right .ensures) (f .before .before .if2 .left) in
-    over-pointed _ _ u _ (u .nodes) _ _ _ _ _ (f .before .is-pointed .ensures) _ (f .if3 .left)
-    (over-done _ _ u _ _ _ (f .before .before .before .before .if1 .left) _ _ _ r (o .before .before .count-at .ensures .0) (omega (arith, c .loop-test .left)) (o .loop .inv .0) (o .loop .inv .4)
+    let r = rw e at (is-right _ _ _ _ (f .before .before .before .record-right .ensures) (f .before .before .if2 .left)) in
+    over-pointed _ _ u _ (u .nodes) _ _ _ _ _ (rw e at (f .before .is-pointed .ensures)) _ (f .if3 .left)
+    (over-done _ _ u _ _ _ (f .before .before .before .before .before .if1 .left) _ _ _ r (rw e at (o .before .before .count-at .ensures .0)) (omega (arith, c .loop-test .left)) (o .loop .inv .0) (o .loop .inv .4)
     (order-done _ (u .nodes) _ (o .loop .own) (o .before .before .count-at .result) (o .loop .i) (o .loop .inv .5) (omega (arith, c .loop-test .left))) (o .loop .inv .3))
 
 pub +over-node-spec : {M : Type 1} → statement M
@@ -358,12 +387,12 @@ pub +over-node-spec : {M : Type 1} → statement M
     over-node-Inv-loop
     over-node-μ-loop
     (over-node-returns t)
-    (over-node-add-t20 t)
+    (over-node-node-shape-requires t)
     (over-node-record-right-requires t)
     (over-node-returns-2 t)
     (over-node-is-pointed-requires t)
     (over-node-returns-3 t)
-    (over-node-add-t20-2 t)
+    (over-node-leaf-shape-requires t)
     (over-node-count-at-requires t)
     (over-node-key-place-requires t)
     (over-node-loop-holds t)
