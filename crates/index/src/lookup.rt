@@ -158,7 +158,9 @@ fn leaf_for(
         return NO_TERM;
     }
     if is_node(punt) {
-        return leaf_for(nodes, key, width, entries, left - 1, punt, kind);
+        // Handed on as a part, since a slice that is handed on as it came is copied at every level, and the next one waits for the copy.
+        let all = nodes.len();
+        return leaf_for(&nodes[..all], key, width, entries, left - 1, punt, kind);
     }
     punt
 }

@@ -1,6 +1,7 @@
 use Prim.Native.Nat.{ℕ, _<_}
 use native.Mathlib.Omega.{arith}
 use mathlib.Core.Path.{sym, subst}
+use lib.Seq.{take-length, length-take-le}
 use borrow.Author.Needs.{needs}
 use borrow.Fn.Kinds.{In}
 use borrow.Fn.PlainCycle.{Measures, is, falls, and}
@@ -73,18 +74,22 @@ leaf-for-is-node-requires : (t : ℕ) → leaf-for-lts.Need-is-node-requires (cl
 leaf-for-is-node-requires t c κs =
     search needs
 
+leaf-for-slice-aggregate-leaf-for : (t : ℕ) → leaf-for-lts.Need-slice-aggregate-leaf-for (claims t) (leaf-for-at t) leaf-for.Post
+leaf-for-slice-aggregate-leaf-for t c =
+    sym (length-take-le _ _ (omega arith))
+
 leaf-for-sub-leaf-for : (t : ℕ) → leaf-for-lts.Need-sub-leaf-for (claims t) (leaf-for-at t) leaf-for.Post
 leaf-for-sub-leaf-for t c =
     omega arith
 
 leaf-for-leaf-for-requires : (t : ℕ) → leaf-for-lts.Need-leaf-for-requires (claims t) (leaf-for-at t) leaf-for.Post
 leaf-for-leaf-for-requires t c κs =
-    (omega arith, c .before .before .before .before .before .before .before .before .before .before .pre .1)
+    (omega arith, c .before .before .before .before .before .before .before .before .before .before .before .pre .1)
 
 leaf-for-returns-4 : (t : ℕ) → leaf-for-lts.Need-returns-4 (claims t) (leaf-for-at t) leaf-for.Post
 leaf-for-returns-4 t c =
-    let s = c .before .before .before .before .before .before .before .before .node-shape .ensures in
-    way-node _ _ _ _ _ _ (c .before .before .before .before .before .before .before .before .before .if1 .left) (rw s at (c .before .before .before .before .before .before .before .node-right .ensures)) _ (c .before .before .before .before .before .before .if2 .left) (rw s at (c .before .before .before .before .last-punt .ensures)) _ (c .before .before .before .if3 .left) (c .before .before .is-node .ensures) _ (c .before .if4 .taken) (c .leaf-for .ensures)
+    let s = c .before .before .before .before .before .before .before .before .before .node-shape .ensures in
+    way-node _ _ _ _ _ _ (c .before .before .before .before .before .before .before .before .before .before .if1 .left) (rw s at (c .before .before .before .before .before .before .before .before .node-right .ensures)) _ (c .before .before .before .before .before .before .before .if2 .left) (rw s at (c .before .before .before .before .before .last-punt .ensures)) _ (c .before .before .before .before .if3 .left) (c .before .before .before .is-node .ensures) _ (c .before .before .if4 .taken) (rw take-length at (c .leaf-for .ensures))
 
 leaf-for-returns-5 : (t : ℕ) → leaf-for-lts.Need-returns-5 (claims t) (leaf-for-at t) leaf-for.Post
 leaf-for-returns-5 t c =
@@ -102,6 +107,7 @@ pub +leaf-for-spec : {M : Type 1} → statement M
     (leaf-for-last-punt-requires t)
     (leaf-for-returns-3 t)
     (leaf-for-is-node-requires t)
+    (leaf-for-slice-aggregate-leaf-for t)
     (leaf-for-sub-leaf-for t)
     (leaf-for-leaf-for-requires t)
     (leaf-for-returns-4 t)
