@@ -2,15 +2,17 @@
 use Prim.Native.Nat.{ℕ, zero, suc, _+_, _-_, _<_, _≤_}
 use native.Mathlib.Nat.{sub-zero}
 use native.Mathlib.Omega.{arith}
-use mathlib.Core.Path.{_≡_, refl, sym, ap, _∙_}
+use mathlib.Core.Path.{_≡_, refl, ap, _∙_}
 use mathlib.Core.Bool.{Bool, true, false, not, cond}
 use mathlib.Core.List.{List}
-use borrow.Author.Tests.{eq-eqb, ne-eqb, lt-ltb, le-ltb, not-true, not-false}
+use lib.Dec.{eqb}
+use borrow.Author.Tests.{eq-eqb, ne-eqb, ltb-false, not-true, not-false}
 use Rattle.terms.specs.Key.{same, below}
-use Rattle.index.specs.Inner.{TreeFits, treeWith}
+use Rattle.terms.proofs.Order.{by-cases}
+use Rattle.index.specs.Inner.{wayOn, wayEnd}
 use Rattle.index.specs.Layout.{ockAt, keyAt, puntAt, blockAt, wordAt}
 use Rattle.index.specs.Rules.{recordRight, nodeRight}
-use Rattle.index.specs.Lookup.{entriesFrom, entriesOf, firstEqual, leafAnswer, lastPunt, puntFor, onward, descend}
+use Rattle.index.specs.Lookup.{entriesFrom, entriesOf, firstEqual, leafAnswer, lastPunt, puntFor, isNode, leafNumber, onward, descend}
 use Rattle.index.specs.declared.layout.Shape.{Shape}
 use Rattle.index.specs.declared.layout.Tree.{Tree}
 use Rattle.index.specs.declared.lookup.Found.{Found}
@@ -66,58 +68,78 @@ module _ (f : List ℕ) (s : Shape) (key : List ℕ) (n r i : ℕ) (inv : r ≡ 
     pub last-more : not b ≡ false → r ≡ lastPunt f s key n (i - 1)
     last-more q = rw (last-step h, ← e, not-false b q)
 
--- ---- the way down
+-- ---- the way down, as a number
 
-module _ (nodes leaves : List ℕ) (t : Tree) (key : List ℕ) (left n : ℕ) where
-  pub down-none : left ≡ 0 → BadIndex ≡ descend nodes leaves t key left n
-  unfolding descend
-  down-none h = rw h
+module _ (f : List ℕ) (s : Shape) (key : List ℕ) (left n : ℕ) where
+  pub way-none : left ≡ 0 → 1 ≡ wayEnd f s key left n
+  unfolding wayEnd
+  way-none h = rw h
 
-  down-step : (left ≡ 0 → ⊥)
-      → descend nodes leaves t key left n
-      ≡ cond (nodeRight nodes (t .nodes) n)
-      (onward (λ m. descend nodes leaves t key (left - 1) m) (leafAnswer leaves (t .leaves) key)
-      (lastPunt nodes (t .nodes) key n (ockAt nodes (t .nodes) n)))
-      BadIndex
-  unfolding descend
-  down-step h = let e : left ≡ suc (left - 1) = omega arith in ap (λ (k : ℕ). descend nodes leaves t key k n) e
+  way-step : (left ≡ 0 → ⊥)
+      → wayEnd f s key left n ≡ cond (nodeRight f s n) (wayOn (λ m. wayEnd f s key (left - 1) m) (lastPunt f s key n (ockAt f s n))) 1
+  unfolding wayEnd
+  way-step h = let e : left ≡ suc (left - 1) = omega arith in ap (λ (k : ℕ). wayEnd f s key k n) e
 
-  module _ (b : Bool) (h : left ≡ 0 → ⊥) (e : b ≡ nodeRight nodes (t .nodes) n) where
-    pub down-broken : not b ≡ true → BadIndex ≡ descend nodes leaves t key left n
-    down-broken q = rw (down-step h, ← e, not-true b q)
+  module _ (b : Bool) (h : left ≡ 0 → ⊥) (e : b ≡ nodeRight f s n) where
+    pub way-broken : not b ≡ true → 1 ≡ wayEnd f s key left n
+    way-broken q = rw (way-step h, ← e, not-true b q)
 
-    module _ (punt : ℕ) (q : not b ≡ false) (p : punt ≡ lastPunt nodes (t .nodes) key n (ockAt nodes (t .nodes) n)) where
-      pub down-absent : punt ≡ 0 → NoTerm ≡ descend nodes leaves t key left n
-      unfolding onward
-      down-absent z = rw (down-step h, ← e, not-false b q, ← p, eq-eqb _ _ z)
+    module _ (punt : ℕ) (q : not b ≡ false) (p : punt ≡ lastPunt f s key n (ockAt f s n)) where
+      pub way-absent : punt ≡ 0 → 0 ≡ wayEnd f s key left n
+      unfolding wayOn
+      way-absent z = rw (way-step h, ← e, not-false b q, ← p, eq-eqb _ _ z)
 
-      module _ (r : Found) (z : punt ≡ 0 → ⊥) where
-        pub down-node : punt < 2147483648 → r ≡ descend nodes leaves t key (left - 1) punt → r ≡ descend nodes leaves t key left n
-        unfolding onward
-        down-node l d = rw (down-step h, ← e, not-false b q, ← p, ne-eqb _ _ z, lt-ltb _ _ l, d)
+      module _ (a : Bool) (z : punt ≡ 0 → ⊥) (i : a ≡ isNode punt) where
+        pub way-node : (r : ℕ) → a ≡ true → r ≡ wayEnd f s key (left - 1) punt → r ≡ wayEnd f s key left n
+        unfolding wayOn
+        way-node r y d = rw (way-step h, ← e, not-false b q, ← p, ne-eqb _ _ z, ← i, y, d)
 
-        pub down-leaf : 2147483648 ≤ punt → punt < 4294967296 → r ≡ leafAnswer leaves (t .leaves) key (4294967295 - punt + 1) → r ≡ descend nodes leaves t key left n
-        unfolding onward
-        down-leaf l m d =
-            let k : 4294967295 - punt + 1 ≡ 4294967296 - punt = omega arith in
-            rw (down-step h, ← e, not-false b q, ← p, ne-eqb _ _ z, le-ltb _ _ l, d, k)
+        pub way-leaf : a ≡ false → punt ≡ wayEnd f s key left n
+        unfolding wayOn
+        way-leaf y = rw (way-step h, ← e, not-false b q, ← p, ne-eqb _ _ z, ← i, y)
 
--- the root is of no account to the way from a node
+-- ---- what the number says
+
+-- an end that is neither of the two is a leaf's
+abbrev pub EndsRight : ℕ → Type 0
+EndsRight end = (end ≡ 0 → ⊥) → (end ≡ 1 → ⊥) → isNode end ≡ false
+
+-- the answer that it leads to
+unfoldable pub endAnswer : List ℕ → Shape → List ℕ → ℕ → Found
+endAnswer leaves s key end = cond (eqb end 0) NoTerm (cond (eqb end 1) BadIndex (leafAnswer leaves s key (leafNumber end)))
+
+ends-on : (node : ℕ → ℕ) (punt : ℕ) → ((m : ℕ) → EndsRight (node m)) → EndsRight (wayOn node punt)
+unfolding wayOn
+ends-on node punt known =
+    by-cases (eqb punt 0)
+    (λ z. rw z (λ h k. absurd (h refl)))
+    (λ z. by-cases (isNode punt) (λ y. rw (z, y) (known punt)) (λ y. rw (z, y) (λ h k. y)))
+
+module _ (f : List ℕ) (s : Shape) (key : List ℕ) where
+  pub ends-right : (left n : ℕ) → EndsRight (wayEnd f s key left n)
+  unfolding wayEnd
+  ends-right zero n = λ h k. absurd (k refl)
+  ends-right (suc left) n =
+      by-cases (nodeRight f s n)
+      (λ e. rw e (ends-on (λ m. wayEnd f s key left m) (puntFor f s key n) (ends-right left)))
+      (λ e. rw e (λ h k. absurd (k refl)))
+
 module _ (nodes leaves : List ℕ) (t : Tree) (key : List ℕ) where
-  abbrev rootless : Tree
-  rootless = record { nodes = t .nodes; leaves = t .leaves; root = 0 }
+  answer-on : (node : ℕ → ℕ) (down : ℕ → Found) (punt : ℕ) → ((m : ℕ) → down m ≡ endAnswer leaves (t .leaves) key (node m))
+      → onward down (leafAnswer leaves (t .leaves) key) punt ≡ endAnswer leaves (t .leaves) key (wayOn node punt)
+  unfolding wayOn onward endAnswer
+  answer-on node down punt known =
+      by-cases (eqb punt 0)
+      (λ z. rw z)
+      (λ z. by-cases (isNode punt)
+      (λ y. rw (z, y) (known punt))
+      (λ y. let h : 2147483648 ≤ punt = ltb-false punt 2147483648 y in rw (z, y, z, ne-eqb punt 1 (λ e. omega arith))))
 
-  pub down-rootless : (left n : ℕ) → descend nodes leaves t key left n ≡ descend nodes leaves rootless key left n
-  unfolding descend onward
-  down-rootless zero n = refl
-  down-rootless (suc left) n = rw (down-rootless left (puntFor nodes (t .nodes) key n))
-
-  -- so it goes by the tree's numbers
-  pub down-numbers : TreeFits t → (left n : ℕ)
-      → descend nodes leaves (treeWith (t .nodes .kind) (t .nodes .width) (t .nodes .most) (t .leaves .most)) key left n ≡ descend nodes leaves t key left n
-  down-numbers f left n =
-      let z : treeWith (t .nodes .kind) (t .nodes .width) (t .nodes .most) (t .leaves .most) ≡ rootless = same (f .nodes-are) (f .leaves-are) in
-      ap (λ (u : Tree). descend nodes leaves u key left n) z ∙ sym (down-rootless left n)
-    where
-      same : {x y z w : Shape} → y ≡ x → w ≡ z → _≡_ {A = Tree} (record { nodes = x; leaves = z; root = 0 }) (record { nodes = y; leaves = w; root = 0 })
-      same p q = rw (p, q)
+  -- the way down answers what its end says
+  pub down-ends : (left n : ℕ) → descend nodes leaves t key left n ≡ endAnswer leaves (t .leaves) key (wayEnd nodes (t .nodes) key left n)
+  unfolding descend wayEnd endAnswer
+  down-ends zero n = refl
+  down-ends (suc left) n =
+      by-cases (nodeRight nodes (t .nodes) n)
+      (λ e. rw e (answer-on (λ m. wayEnd nodes (t .nodes) key left m) (λ m. descend nodes leaves t key left m) (puntFor nodes (t .nodes) key n) (down-ends left)))
+      (λ e. rw e)

@@ -33,9 +33,6 @@ module _ (n : ℕ) where
   pub order-rest : 1 ≤ n → leb n 16 ≡ orderRight n
   order-rest h = rw (le-leb _ _ h)
 
-  pub order-high : (b : Bool) → b ≡ orderRight n → not b ≡ false → n ≤ 16
-  order-high b e h = let q = simp tests at (sym e ∙ not-false b h) in q .1
-
 module _ (cnt : List ℕ) (kind : ℕ) where
   pub part-length : (length cnt ≡ 52 → ⊥) → Wrong ≡ partOf cnt kind
   unfolding partOf partRight

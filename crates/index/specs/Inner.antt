@@ -1,11 +1,13 @@
 -- Inner: serves functions of this crate and of the check, no part of what is promised.
-use Prim.Native.Nat.{ℕ, _+_, _≤_}
+use Prim.Native.Nat.{ℕ, zero, suc, _+_, _≤_}
 use mathlib.Core.Path.{_≡_}
-use mathlib.Core.Bool.{Bool, _&&_}
+use mathlib.Core.Bool.{Bool, _&&_, cond}
 use mathlib.Core.List.{List}
+use lib.Dec.{eqb}
 use Rattle.terms.specs.Key.{ascending}
 use Rattle.index.specs.Layout.{nodeShape, leafShape, keysOf}
-use Rattle.index.specs.Rules.{recordRight}
+use Rattle.index.specs.Rules.{recordRight, nodeRight}
+use Rattle.index.specs.Lookup.{puntFor, isNode}
 use Rattle.index.specs.declared.layout.Shape.{Shape}
 use Rattle.index.specs.declared.layout.Tree.{Tree}
 
@@ -44,3 +46,14 @@ pub record TreeFits (t : Tree) : Type 0 where
 -- the tree of which recursive functions are given the numbers; its root is of no account to them
 abbrev pub treeWith : ℕ → ℕ → ℕ → ℕ → Tree
 treeWith kind width nodes leaves = record { nodes = nodeShape kind width nodes; leaves = leafShape kind width leaves; root = 0 }
+
+-- ---- how a way down ends, as a number: the PUNT of a leaf, or 0 where no key of a node is at or below the term, or 1 where a rule is broken
+
+-- one level down by a PUNT: by `node` where it is a node; a leaf's, and 0, end the way
+unfoldable pub wayOn : (ℕ → ℕ) → ℕ → ℕ
+wayOn node punt = cond (eqb punt 0) 0 (cond (isNode punt) (node punt) punt)
+
+-- from node n on, with so many nodes left on the way
+unfoldable pub wayEnd : List ℕ → Shape → List ℕ → ℕ → ℕ → ℕ
+wayEnd f s key zero n = 1
+wayEnd f s key (suc left) n = cond (nodeRight f s n) (wayOn (λ m. wayEnd f s key left m) (puntFor f s key n)) 1

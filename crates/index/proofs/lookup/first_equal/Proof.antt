@@ -10,8 +10,8 @@ use Rattle.index.proofs.lookup.first_equal.Tie as tie
 
 abbrev Inv-loop : tie.InvT-loop
 Inv-loop file s key n count i₀ i =
-    (i ≤ count) ×
-    (firstEqual (part key 0 (s .width)) (entriesOf file s n) ≡ firstEqual (part key 0 (s .width)) (entriesFrom file s n (count - i) i))
+    (firstEqual (part key 0 (s .width)) (entriesOf file s n) ≡ firstEqual (part key 0 (s .width)) (entriesFrom file s n (count - i) i)) ×
+    (i ≤ count)
 
 abbrev μ-loop : tie.MeasureT-loop
 μ-loop file s key n count i₀ i = count - i
@@ -20,7 +20,7 @@ count-at-requires : tie.Need-count-at-requires Inv-loop μ-loop
 count-at-requires c κs = (c .before .before .pre .0 .shape, right-facts _ _ _ (c .before .before .pre .1) .there)
 
 loop-holds : tie.Need-loop-holds Inv-loop μ-loop
-loop-holds c = (omega arith, equal-start _ _ _ _ _ (c .count-at .ensures .0))
+loop-holds c = (equal-start _ _ _ _ _ (c .count-at .ensures .0), omega arith)
 
 key-place-requires : tie.Need-key-place-requires Inv-loop μ-loop
 key-place-requires c κs = (
@@ -80,7 +80,7 @@ returns c =
     let c6 = c5 .before in
     let c7 = c6 .before in
     let c8 = c7 .before in
-    equal-here _ _ _ _ _ _ _ (c8 .loop .inv .1) _ (c7 .loop-test .taken) (rw (c6 .key-place .ensures) at (c5 .same-key .ensures)) _ _
+    equal-here _ _ _ _ _ _ _ (c8 .loop .inv .0) _ (c7 .loop-test .taken) (rw (c6 .key-place .ensures) at (c5 .same-key .ensures)) _ _
     (c4 .if1 .taken) (rw (c6 .key-place .ensures) at (c .before .before .u32-at .ensures)) (rw (c6 .key-place .ensures) at (c .u32-at2 .ensures))
 
 add-i : tie.Need-add-i Inv-loop μ-loop
@@ -101,13 +101,13 @@ loop-less c =
 
 loop-again : tie.Need-loop-again Inv-loop μ-loop
 loop-again c = (
-  omega arith,
-  equal-more _ _ _ _ _ _ _ (c .before .before .before .before .loop .inv .1) _ (c .before .before .before .loop-test .taken)
+  equal-more _ _ _ _ _ _ _ (c .before .before .before .before .loop .inv .0) _ (c .before .before .before .loop-test .taken)
       (rw (c .before .before .key-place .ensures) at (c .before .same-key .ensures)) (c .if1 .left),
+  omega arith,
 )
 
 returns-2 : tie.Need-returns-2 Inv-loop μ-loop
-returns-2 c = equal-done _ _ _ _ _ _ _ (c .before .loop .inv .1) (omega arith)
+returns-2 c = equal-done _ _ _ _ _ _ _ (c .before .loop .inv .0) (omega arith)
 
 pub first-equal-spec : {M : Type 1} → statement M
 first-equal-spec =
