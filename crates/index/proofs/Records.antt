@@ -14,7 +14,7 @@ use Rattle.terms.specs.Key.{ascending}
 use Rattle.terms.specs.Inner.{keysRun}
 use Rattle.terms.specs.Term.{widthOf}
 use Rattle.terms.proofs.Padding.{width-low, width-high}
-use Rattle.index.specs.Inner.{ShapeFits, LeafFits, TreeFits, treeWith, recordAscends}
+use Rattle.index.specs.Inner.{ShapeFits, LeafFits, TreeFits, treeWith}
 use Rattle.index.specs.Layout.{sizeOf, placeOf, ockAt, puntAt, keyPlace, keysFrom, keysOf, partPlace, treeOf, nodeShape, leafShape}
 use Rattle.index.specs.Rules.{orderRight, partRight, partOf, recordThere, recordRight, puntsRight, nodeRight}
 use Rattle.index.specs.declared.layout.Shape.{Shape}
@@ -159,20 +159,6 @@ module _ (f : List ℕ) (s : Shape) (n at count : ℕ) (e : at ≡ keyPlace s n 
 
   pub run-keys : (b : Bool) → b ≡ ascending (keysRun f at (s .step) (s .width) count) → b ≡ ascending (keysOf f s n)
   run-keys b d = d ∙ rw (e, k) (ap ascending (keys-run f s n (ockAt f s n) 0))
-
-module _ (f : List ℕ) (s : Shape) (n : ℕ) (a : Bool) where
-  module _ (e : a ≡ recordRight f s n) where
-    pub ascends-not : not a ≡ true → false ≡ recordAscends f s n
-    unfolding recordAscends
-    ascends-not q = rw (← e, not-true a q)
-
-    pub ascends-rest : (b : Bool) → not a ≡ false → b ≡ ascending (keysOf f s n) → b ≡ recordAscends f s n
-    unfolding recordAscends
-    ascends-rest b q d = rw (← e, not-false a q, d)
-
-  pub ascends-right : a ≡ recordAscends f s n → not a ≡ false → recordRight f s n ≡ true
-  unfolding recordAscends
-  ascends-right e q = and-left _ _ (sym e ∙ not-false a q)
 
 -- a right node is a right record
 pub node-record : (f : List ℕ) (s : Shape) (n : ℕ) (b : Bool) → b ≡ nodeRight f s n → not b ≡ false → recordRight f s n ≡ true

@@ -41,7 +41,6 @@ before (suc n) size h = let e : suc n - 1 ≡ n = omega arith in rw (e, suc-mul)
 
 pub record ThereFacts (f : List ℕ) (s : Shape) (n : ℕ) : Type 0 where
   pub number-low : 1 ≤ n
-  pub number-high : n < 2147483648
   pub inside : placeOf s n + sizeOf s ≤ length f
 
 pub there-facts : (f : List ℕ) (s : Shape) (n : ℕ) → recordThere f s n ≡ true → ThereFacts f s n
@@ -49,7 +48,7 @@ unfolding recordThere placeOf
 there-facts f s n e =
     let q = simp tests at e in
     let b = before n (sizeOf s) (q .0 .0) in
-    record { number-low = q .0 .0; number-high = q .0 .1; inside = omega arith }
+    record { number-low = q .0 .0; inside = omega arith }
 
 -- entry i lies in the record
 pub entry-in : (s : Shape) (n i : ℕ) → i < s .most → keyPlace s n i + s .step ≤ placeOf s n + sizeOf s

@@ -1,23 +1,14 @@
 -- Inner: serves functions of this crate and of the check, no part of what is promised.
 use Prim.Native.Nat.{ℕ, zero, suc, _+_, _≤_}
 use mathlib.Core.Path.{_≡_}
-use mathlib.Core.Bool.{Bool, _&&_, cond}
+use mathlib.Core.Bool.{cond}
 use mathlib.Core.List.{List}
 use lib.Dec.{eqb}
-use Rattle.terms.specs.Key.{ascending}
-use Rattle.index.specs.Layout.{nodeShape, leafShape, keysOf}
-use Rattle.index.specs.Rules.{recordRight, nodeRight}
+use Rattle.index.specs.Layout.{nodeShape, leafShape}
+use Rattle.index.specs.Rules.{nodeRight}
 use Rattle.index.specs.Lookup.{puntFor, isNode}
 use Rattle.index.specs.declared.layout.Shape.{Shape}
 use Rattle.index.specs.declared.layout.Tree.{Tree}
-
--- a record keeps the rules of every record, and its keys ascend
-unfoldable pub recordAscends : List ℕ → Shape → ℕ → Bool
-recordAscends f s n = recordRight f s n && ascending (keysOf f s n)
-
--- the records of which a function is given the numbers
-abbrev pub shapeWith : ℕ → ℕ → ℕ → ℕ → ℕ → Shape
-shapeWith kind head width step most = record { kind = kind; head = head; width = width; step = step; most = most }
 
 -- what functions ask of the records of a file: the bounds that CNT's rules give
 pub record ShapeFits (s : Shape) : Type 0 where

@@ -3,13 +3,12 @@ use crate::layout::Shape;
 use crate::layout::key_place;
 use crate::layout::place;
 use crate::layout::size;
-use terms::key::keys_ascend;
 use word::integer::u16_at;
 use word::integer::u32_at;
 ghost use mathlib.Core.Path.{_≡_};
 ghost use mathlib.Core.Bool.{true, false};
 ghost use Prim.Native.Nat.{_+_, _*_, _<_};
-ghost use Rattle.index.specs.Inner.{ShapeFits, shapeWith, recordAscends};
+ghost use Rattle.index.specs.Inner.{ShapeFits};
 ghost use Rattle.index.specs.Layout.{ockAt, puntAt};
 ghost use Rattle.index.specs.Lookup.{isNode, leafNumber};
 ghost use Rattle.index.specs.Rules.{recordThere, recordRight, puntsRight, nodeRight};
@@ -106,33 +105,4 @@ pub fn node_right(file: &[u8], s: Shape, n: u32) -> bool
         return false;
     }
     punts_right(file, s, n)
-}
-
-// Whether record `n` keeps the rules for every record, and its active keys ascend strictly. It is the one function that both files' records go through, and
-// no small one, so it is called and not inlined: the shape comes as its numbers.
-pub fn record_ascends(
-    file: &[u8],
-    kind: u16,
-    head: usize,
-    width: usize,
-    step: usize,
-    most: usize,
-    n: u32,
-) -> bool
-    requires { ⌜ ShapeFits (shapeWith kind head width step most) ⌝ }
-    ensures { λ r. ⌜ r ≡ recordAscends (now (file .entry)) (shapeWith kind head width step most) n ⌝ }
-{
-    let s = Shape {
-        kind,
-        head,
-        width,
-        step,
-        most,
-    };
-    if !record_right(file, s, n) {
-        return false;
-    }
-    let count = count_at(file, s, n);
-    let at = key_place(s, n, 0);
-    keys_ascend(file, at, step, width, count)
 }

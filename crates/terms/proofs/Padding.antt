@@ -6,7 +6,7 @@ use mathlib.Core.Logic.{_⊎_, inl, inr, ⊎-elim}
 use mathlib.Core.Bool.{Bool, true, false, cond}
 use mathlib.Core.List.{List, _∷_, _++_}
 use lib.Dec.{eqb, leb}
-use lib.ListN.{length, take, drop, replicate, length-append, length-replicate}
+use lib.ListN.{length, take, drop, replicate}
 use lib.Seq.{take-append-add}
 use borrow.Author.Tests.{leb-true}
 use Rattle.word.specs.Overwrite.{overwrite, part}
@@ -72,9 +72,6 @@ module _ (term key : List ℕ) (h : length term ≤ 30) (k : key ≡ overwrite (
   key-is =
       let z : 0 + length term ≡ length term = omega arith in
       k ∙ rw (z, drop-replicate (length term) 30 32)
-
-  pub key-length : length key ≡ 30
-  key-length = ap length key-is ∙ simp (length-append, length-replicate) (omega arith)
 
   pub key-padded : (width : ℕ) → length term ≤ width → width ≤ 30 → part key 0 width ≡ padded width term
   unfolding padded

@@ -1,6 +1,5 @@
 use Prim.Native.Nat.{_+_, _-_, _≤_}
 use native.Mathlib.Omega.{arith}
-use mathlib.Core.Path.{_≡_}
 use Rattle.terms.proofs.Chunks.{Agree, agree-more, eight-at, decided-here, decided-last}
 use Rattle.terms.proofs.key.decided_at.Statement.{statement}
 use Rattle.terms.proofs.key.decided_at.Tie as tie
