@@ -371,8 +371,8 @@ module _ (nodes leaves : List ℕ) (t : Tree) (key : List ℕ) where
 
   module _ (n left : ℕ) (e : nodeRight nodes (t .nodes) n ≡ true) where
     walk-is : walk nodes (t .nodes) (suc left) n ≡ Node n ∷ behindFirst (λ m. walk nodes (t .nodes) left m) nodes (t .nodes) n (ockAt nodes (t .nodes) n)
-    unfolding walk
-    walk-is = rw e
+    unfolding walk nodeRight
+    walk-is = rw (both (recordRight nodes (t .nodes) n) (puntsRight nodes (t .nodes) n (ockAt nodes (t .nodes) n)) e .0)
 
     held-walk : held (walk nodes (t .nodes) (suc left) n) ≡ held (behindFirst (λ m. walk nodes (t .nodes) left m) nodes (t .nodes) n (ockAt nodes (t .nodes) n))
     unfolding leavesAmong

@@ -1,4 +1,4 @@
--- How many nodes are met before a rule breaks (specs/Theorems, `MeetsFew`). A node that keeps its rules has an entry, so it leads to a leaf or to a broken rule;
+-- How many nodes are met before a record that cannot be read (specs/Theorems, `MeetsFew`). A node that can has an entry, so it leads to a leaf or to one that cannot;
 -- and between two leaves a way goes up and down over at most 16 nodes.
 use Prim.Native.Nat.{ℕ, zero, suc, _+_, _*_, _≤_}
 use native.Mathlib.Nat.{mul-add, suc-mul}
@@ -8,15 +8,15 @@ use mathlib.Core.Bool.{Bool, true, false, _&&_, cond}
 use mathlib.Core.List.{List, [], _∷_, _++_}
 use lib.ListN.{length, length-append}
 use Rattle.index.specs.Layout.{ockAt, puntAt}
-use Rattle.index.specs.Rules.{recordRight, puntsRight, nodeRight}
+use Rattle.index.specs.Rules.{recordRight}
 use Rattle.index.specs.Lookup.{isNode, leafNumber}
 use Rattle.index.specs.Reading.{Met, Node, Leaf, TooDeep, nodesAmong, leavesAmong}
 use Rattle.index.specs.declared.layout.Tree.{Tree}
 use Rattle.index.proofs.Shapes.{right-facts}
 use Rattle.word.proofs.Tests.{and-iff, false-true}
 use Rattle.index_check.specs.Walk.{behind, behindFirst, walk}
-use Rattle.index_check.specs.Sound.{all, keepsRules}
-use Rattle.index_check.specs.Theorems.{unbroken, MeetsFew}
+use Rattle.index_check.specs.Sound.{all}
+use Rattle.index_check.specs.Theorems.{readable, unbroken, MeetsFew}
 use Rattle.index_check.proofs.Held.{leaves-append, all-append}
 
 -- ---- counting
@@ -87,7 +87,7 @@ module _ (p : Met → Bool) (left : ℕ) where
 
 module _ (nodes leaves : List ℕ) (t : Tree) where
   abbrev keeps : Met → Bool
-  keeps = keepsRules nodes leaves t
+  keeps = readable nodes leaves t
 
   -- behind the first k entries of a node, at least one leaf where none breaks
   module _ (left : ℕ) (from : ℕ → List Met) (known : (m : ℕ) → FewMet keeps left (from m)) (some : (m : ℕ) → all keeps (from m) ≡ true → 1 ≤ leafCount (from m)) where
@@ -116,31 +116,26 @@ module _ (nodes leaves : List ℕ) (t : Tree) where
         omega (arith, l, some-behind (puntAt nodes (t .nodes) n i) (isNode (puntAt nodes (t .nodes) n i)) refl (q .1))
 
     -- a node and what is behind it
-    node-count : (n : ℕ) → nodeRight nodes (t .nodes) n ≡ true → 1 ≤ ockAt nodes (t .nodes) n
-    unfolding nodeRight
-    node-count n e =
-        right-facts nodes (t .nodes) n (and-iff (recordRight nodes (t .nodes) n) (puntsRight nodes (t .nodes) n (ockAt nodes (t .nodes) n)) .0 e .0) .count-low
-
-    some-node : (n : ℕ) (b : Bool) → nodeRight nodes (t .nodes) n ≡ b
+    some-node : (n : ℕ) (b : Bool) → recordRight nodes (t .nodes) n ≡ b
         → all keeps (Node n ∷ cond b (behindFirst from nodes (t .nodes) n (ockAt nodes (t .nodes) n)) []) ≡ true
         → 1 ≤ leafCount (Node n ∷ cond b (behindFirst from nodes (t .nodes) n (ockAt nodes (t .nodes) n)) [])
     unfolding all leavesAmong
     some-node n true e a =
-        some-first n (ockAt nodes (t .nodes) n) (node-count n e) (and-iff (nodeRight nodes (t .nodes) n) (all keeps (behindFirst from nodes (t .nodes) n (ockAt nodes (t .nodes) n))) .0 a .1)
-    some-node n false e a = absurd (false-true (sym e ∙ and-iff (nodeRight nodes (t .nodes) n) true .0 a .0))
+        some-first n (ockAt nodes (t .nodes) n) (right-facts nodes (t .nodes) n e .count-low) (and-iff (recordRight nodes (t .nodes) n) (all keeps (behindFirst from nodes (t .nodes) n (ockAt nodes (t .nodes) n))) .0 a .1)
+    some-node n false e a = absurd (false-true (sym e ∙ and-iff (recordRight nodes (t .nodes) n) true .0 a .0))
 
-    few-node : (n : ℕ) (b : Bool) → nodeRight nodes (t .nodes) n ≡ b
+    few-node : (n : ℕ) (b : Bool) → recordRight nodes (t .nodes) n ≡ b
         → FewMet keeps (suc left) (Node n ∷ cond b (behindFirst from nodes (t .nodes) n (ockAt nodes (t .nodes) n)) [])
     unfolding unbroken nodesAmong leavesAmong all
-    few-node n false e = record { front = rw e (omega arith); whole = λ a. absurd (false-true (sym e ∙ and-iff (nodeRight nodes (t .nodes) n) true .0 a .0)) }
+    few-node n false e = record { front = rw e (omega arith); whole = λ a. absurd (false-true (sym e ∙ and-iff (recordRight nodes (t .nodes) n) true .0 a .0)) }
     few-node n true e =
         let ms : List Met = behindFirst from nodes (t .nodes) n (ockAt nodes (t .nodes) n) in
         let f = few-first n (ockAt nodes (t .nodes) n) in
         record {
           front = rw e (omega (arith, f .front, suc-mul left (leafCount (unbroken keeps ms) + 1)));
           whole = λ a.
-              let q = and-iff (nodeRight nodes (t .nodes) n) (all keeps ms) .0 a in
-              omega (arith, f .whole (q .1), some-first n (ockAt nodes (t .nodes) n) (node-count n e) (q .1), suc-mul left (leafCount ms));
+              let q = and-iff (recordRight nodes (t .nodes) n) (all keeps ms) .0 a in
+              omega (arith, f .whole (q .1), some-first n (ockAt nodes (t .nodes) n) (right-facts nodes (t .nodes) n e .count-low) (q .1), suc-mul left (leafCount ms));
         }
 
   too-deep : (n : ℕ) → FewMet keeps 0 (TooDeep ∷ [])
@@ -154,7 +149,7 @@ module _ (nodes leaves : List ℕ) (t : Tree) where
       let from : ℕ → List Met = λ m. walk nodes (t .nodes) left m in
       let known : (m : ℕ) → FewMet keeps left (from m) = λ m. met-few left m .0 in
       let some : (m : ℕ) → all keeps (from m) ≡ true → 1 ≤ leafCount (from m) = λ m. met-few left m .1 in
-      (few-node left from known some n (nodeRight nodes (t .nodes) n) refl, some-node left from known some n (nodeRight nodes (t .nodes) n) refl)
+      (few-node left from known some n (recordRight nodes (t .nodes) n) refl, some-node left from known some n (recordRight nodes (t .nodes) n) refl)
 
 pub meets-few : MeetsFew
 unfolding MeetsFew

@@ -259,6 +259,10 @@ module _ (nodes leaves : List ℕ) (t : Tree) where
     pub over-pointed : (r : Progress) → not b ≡ false → r ≡ pass nodes leaves t ms w → r ≡ pass nodes leaves t ms (led (pointed f s key n) w)
     over-pointed r q d = d ∙ ap (pass nodes leaves t ms) (sym (led-on (pointed f s key n) w (sym e ∙ not-false b q)))
 
+  sound-record : (n : ℕ) → nodeSound nodes leaves t n ≡ true → recordRight nodes (t .nodes) n ≡ true
+  unfolding nodeSound nodeRight
+  sound-record n e = and-left _ _ (and-left _ _ (and-left _ _ e))
+
   module _ (left n : ℕ) (w : Progress) where
     pub over-none : left ≡ 0 → Stopped ≡ pass nodes leaves t (walk nodes (t .nodes) left n) w
     unfolding pass walk passOne
@@ -268,7 +272,7 @@ module _ (nodes leaves : List ℕ) (t : Tree) where
       over-step :
           pass nodes leaves t (walk nodes (t .nodes) left n) w
           ≡ pass nodes leaves t
-          (cond (nodeRight nodes (t .nodes) n) (behindFirst (λ m. walk nodes (t .nodes) (left - 1) m) nodes (t .nodes) n (ockAt nodes (t .nodes) n)) [])
+          (cond (recordRight nodes (t .nodes) n) (behindFirst (λ m. walk nodes (t .nodes) (left - 1) m) nodes (t .nodes) n (ockAt nodes (t .nodes) n)) [])
           (cond (nodeSound nodes leaves t n) w Stopped)
       unfolding pass walk passOne
       over-step =
@@ -281,11 +285,7 @@ module _ (nodes leaves : List ℕ) (t : Tree) where
       sound : nodeSound nodes leaves t n ≡ true
           → pass nodes leaves t (walk nodes (t .nodes) left n) w
           ≡ pass nodes leaves t (behindFirst (λ m. walk nodes (t .nodes) (left - 1) m) nodes (t .nodes) n (ockAt nodes (t .nodes) n)) w
-      unfolding nodeSound
-      sound e = over-step ∙ rw (e, right e)
-        where
-          right : nodeSound nodes leaves t n ≡ true → nodeRight nodes (t .nodes) n ≡ true
-          right e = and-left _ _ (and-left _ _ e)
+      sound e = over-step ∙ rw (sound-record n e, e)
 
       -- a record that breaks a rule
       pub over-broken : (a : Bool) → a ≡ recordRight nodes (t .nodes) n → not a ≡ true → Stopped ≡ pass nodes leaves t (walk nodes (t .nodes) left n) w

@@ -2,16 +2,16 @@
 use Prim.Native.Nat.{ℕ, _+_, _*_, _≤_}
 use mathlib.Core.Path.{_≡_}
 use mathlib.Core.Logic.{_⊎_, _↔_}
-use mathlib.Core.Bool.{Bool, true, cond}
+use mathlib.Core.Bool.{Bool, true, false, cond}
 use mathlib.Core.List.{List, [], _∷_}
 use lib.ListN.{length}
 use Rattle.terms.specs.Key.{ascending}
 use Rattle.terms.specs.Term.{termRight, kindFor, widthOf, padded}
 use Rattle.index.specs.Files.{Index, nodesIn, leavesIn}
 use Rattle.index.specs.Layout.{nodesMost}
-use Rattle.index.specs.Rules.{partOf}
+use Rattle.index.specs.Rules.{recordRight, partOf}
 use Rattle.index.specs.Lookup.{Entry, entriesOf, lookupOf}
-use Rattle.index.specs.Reading.{Met, nodesAmong, leavesAmong}
+use Rattle.index.specs.Reading.{Met, Node, Leaf, TooDeep, nodesAmong, leavesAmong}
 use Rattle.index.specs.declared.layout.Shape.{Shape}
 use Rattle.index.specs.declared.layout.Tree.{Tree}
 use Rattle.index.specs.declared.layout.Part.{Part}
@@ -64,14 +64,20 @@ AscentMeetsOnce =
 
 -- ---- what the check goes over
 
+-- a record that can be read: it keeps the rules of every record
+abbrev pub readable : List ℕ → List ℕ → Tree → Met → Bool
+readable nodes leaves t (Node n) = recordRight nodes (t .nodes) n
+readable nodes leaves t (Leaf n) = recordRight leaves (t .leaves) n
+readable nodes leaves t TooDeep = false
+
 -- the longest beginning of what is met in which each keeps a sentence
 unfoldable pub unbroken : (Met → Bool) → List Met → List Met
 unbroken p [] = []
 unbroken p (m ∷ ms) = cond (p m) (m ∷ unbroken p ms) []
 
--- up to the first broken rule no more than 16 nodes are met for each leaf, and 16 besides. The check stops at the first broken rule, and no leaf is met
--- twice while keys ascend along the leaves, so that it meets no more nodes than 16 for each leaf of the file and 17 besides
+-- up to the first record that cannot be read no more than 16 nodes are met for each leaf, and 16 besides. The check stops there at the latest, and no leaf is
+-- met twice while keys ascend along the leaves, so that it meets no more nodes than 16 for each leaf of the file and 17 besides
 unfoldable pub MeetsFew : Type 0
 MeetsFew =
     (nodes leaves : List ℕ) (t : Tree)
-    → nodesAmong (unbroken (keepsRules nodes leaves t) (met nodes t)) ≤ nodesMost * (length (leavesAmong (unbroken (keepsRules nodes leaves t) (met nodes t))) + 1)
+    → nodesAmong (unbroken (readable nodes leaves t) (met nodes t)) ≤ nodesMost * (length (leavesAmong (unbroken (readable nodes leaves t) (met nodes t))) + 1)

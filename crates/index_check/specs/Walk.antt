@@ -3,7 +3,7 @@ use Prim.Native.Nat.{ℕ, zero, suc}
 use mathlib.Core.Bool.{cond}
 use mathlib.Core.List.{List, [], _∷_, _++_}
 use Rattle.index.specs.Layout.{nodesMost, ockAt, puntAt, keysOf}
-use Rattle.index.specs.Rules.{nodeRight}
+use Rattle.index.specs.Rules.{recordRight}
 use Rattle.index.specs.Lookup.{isNode, leafNumber}
 use Rattle.index.specs.Reading.{Met, Node, Leaf, TooDeep}
 use Rattle.index.specs.declared.layout.Shape.{Shape}
@@ -18,10 +18,10 @@ unfoldable pub behindFirst : (ℕ → List Met) → List ℕ → Shape → ℕ �
 behindFirst from f s n zero = []
 behindFirst from f s n (suc i) = behindFirst from f s n i ++ behind from (puntAt f s n i)
 
--- from node n, with so many nodes left on the way: the node, and what is met behind its active entries; a node that breaks a rule is read no further
+-- from node n, with so many nodes left on the way: the node, and what is met behind its active entries; where it breaks a rule of every record it has none to read
 unfoldable pub walk : List ℕ → Shape → ℕ → ℕ → List Met
 walk f s zero n = TooDeep ∷ []
-walk f s (suc left) n = Node n ∷ cond (nodeRight f s n) (behindFirst (λ m. walk f s left m) f s n (ockAt f s n)) []
+walk f s (suc left) n = Node n ∷ cond (recordRight f s n) (behindFirst (λ m. walk f s left m) f s n (ockAt f s n)) []
 
 -- from a tree's root
 abbrev pub met : List ℕ → Tree → List Met
