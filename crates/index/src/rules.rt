@@ -14,7 +14,7 @@ ghost use Rattle.index.specs.Lookup.{isNode, leafNumber};
 ghost use Rattle.index.specs.Rules.{recordThere, recordRight, puntsRight, nodeRight};
 
 // Whether all bytes of record `n` are in the file. Its number is compared before it is multiplied.
-pub fn record_there(file: &[u8], s: Shape, n: u32) -> bool
+fn record_there(file: &[u8], s: Shape, n: u32) -> bool
     requires { ⌜ ShapeFits s ⌝ }
     ensures { λ r. ⌜ r ≡ recordThere (now (file .entry)) s n ⌝ }
 {
@@ -81,7 +81,7 @@ pub fn leaf_number(punt: u32) -> u32
 }
 
 // Whether no active PUNT of node `n` is 0.
-pub fn punts_right(file: &[u8], s: Shape, n: u32) -> bool
+fn punts_right(file: &[u8], s: Shape, n: u32) -> bool
     requires { ⌜ (ShapeFits s) × (recordRight (now file) s n ≡ true) ⌝ }
     ensures { λ r. ⌜ r ≡ puntsRight (now (file .entry)) s n (ockAt (now (file .entry)) s n) ⌝ }
 {

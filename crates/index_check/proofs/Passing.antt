@@ -259,7 +259,7 @@ module _ (nodes leaves : List ℕ) (t : Tree) where
     pub over-pointed : (r : Progress) → not b ≡ false → r ≡ pass nodes leaves t ms w → r ≡ pass nodes leaves t ms (led (pointed f s key n) w)
     over-pointed r q d = d ∙ ap (pass nodes leaves t ms) (sym (led-on (pointed f s key n) w (sym e ∙ not-false b q)))
 
-  sound-record : (n : ℕ) → nodeSound nodes leaves t n ≡ true → recordRight nodes (t .nodes) n ≡ true
+  pub sound-record : (n : ℕ) → nodeSound nodes leaves t n ≡ true → recordRight nodes (t .nodes) n ≡ true
   unfolding nodeSound nodeRight
   sound-record n e = and-left _ _ (and-left _ _ (and-left _ _ e))
 

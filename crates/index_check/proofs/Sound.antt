@@ -20,10 +20,11 @@ use Rattle.terms.proofs.Order.{by-cases, never, below-irrefl, above, above-righ
 use Rattle.word.proofs.Tests.{and-iff, false-true}
 use Rattle.index_check.specs.Walk.{keysAlong}
 use Rattle.index_check.specs.Sound.{all, keepsRules, nodeAscends, pointsToFirst, pointersRight, notIn, noneTwice, successorsAfter, successorsRight, metSound}
+use Rattle.index_check.specs.Theorems.{readable}
 use Rattle.index_check.specs.Passes.{nodeSound, lastPlace, follows, leafSound, leafStep, ended, passOne, pass}
 use Rattle.index_check.specs.declared.check.Progress.{Progress}
 use Rattle.index_check.specs.declared.check.Progress.the-variants.{Stopped, Before, After}
-use Rattle.index_check.proofs.Passing.{pass-stopped}
+use Rattle.index_check.proofs.Passing.{pass-stopped, sound-record}
 
 -- ---- the keys of a record: the first, and the last
 
@@ -109,11 +110,16 @@ module _ (nodes leaves : List ℕ) (t : Tree) where
       tidy false b = refl
   keeps-all (TooDeep ∷ ms) = refl
 
-  pub keeps-rules : (ms : List Met) → all keeps ms ≡ true → all (keepsRules nodes leaves t) ms ≡ true
-  keeps-rules ms a =
-      let q = and-iff (all (keepsRules nodes leaves t) ms && all (nodeAscends nodes leaves t) ms) (all (pointsToFirst nodes leaves t) ms) .0 (keeps-all ms ∙ a) in
-      let r = and-iff (all (keepsRules nodes leaves t) ms) (all (nodeAscends nodes leaves t) ms) .0 (q .0) in
-      r .0
+  keeps-readable : (ms : List Met) → all keeps ms ≡ true → all (readable nodes leaves t) ms ≡ true
+  unfolding all
+  keeps-readable [] a = refl
+  keeps-readable (Node n ∷ ms) a =
+      let q = and-iff (nodeSound nodes leaves t n) (all keeps ms) .0 a in
+      and-iff _ _ .1 (sound-record nodes leaves t n (q .0), keeps-readable ms (q .1))
+  keeps-readable (Leaf n ∷ ms) a =
+      let q = and-iff (recordRight leaves (t .leaves) n) (all keeps ms) .0 a in
+      and-iff _ _ .1 (q .0, keeps-readable ms (q .1))
+  keeps-readable (TooDeep ∷ ms) a = absurd (false-true a)
 
   -- ---- the pass
 
@@ -222,14 +228,14 @@ module _ (nodes leaves : List ℕ) (t : Tree) where
 
   -- ---- no leaf twice
 
-  pub not-among : (n : ℕ) (ms : List Met) → all (keepsRules nodes leaves t) ms ≡ true → above (keyAt leaves (t .leaves) n 0) (keysAlong leaves (t .leaves) (leavesAmong ms)) ≡ true
+  pub not-among : (n : ℕ) (ms : List Met) → all (readable nodes leaves t) ms ≡ true → above (keyAt leaves (t .leaves) n 0) (keysAlong leaves (t .leaves) (leavesAmong ms)) ≡ true
       → notIn n (leavesAmong ms) ≡ true
   unfolding all leavesAmong notIn keysAlong above
   not-among n [] a k = refl
-  not-among n (Node m ∷ ms) a k = let q = and-iff (nodeRight nodes (t .nodes) m) (all (keepsRules nodes leaves t) ms) .0 a in not-among n ms (q .1) k
+  not-among n (Node m ∷ ms) a k = let q = and-iff (recordRight nodes (t .nodes) m) (all (readable nodes leaves t) ms) .0 a in not-among n ms (q .1) k
   not-among n (TooDeep ∷ ms) a k = absurd (false-true a)
   not-among n (Leaf m ∷ ms) a k =
-      let q = and-iff (recordRight leaves (t .leaves) m) (all (keepsRules nodes leaves t) ms) .0 a in
+      let q = and-iff (recordRight leaves (t .leaves) m) (all (readable nodes leaves t) ms) .0 a in
       let rest : notIn n (leavesAmong ms) ≡ true = not-among n ms (q .1) (above-right (keyAt leaves (t .leaves) n 0) (keysOf leaves (t .leaves) m) (keysAlong leaves (t .leaves) (leavesAmong ms)) k) in
       let other : not (eqb n m) ≡ true =
       differ n m (keysFrom leaves (t .leaves) m (ockAt leaves (t .leaves) m - 1) 1) (keysAlong leaves (t .leaves) (leavesAmong ms)) (rw (keys-cons leaves (t .leaves) m (q .0)) at k) in
@@ -254,13 +260,13 @@ module _ (nodes leaves : List ℕ) (t : Tree) where
       tail [] e = refl
       tail (k ∷ ks) e = let f = and-iff (below (lastKey leaves (t .leaves) n) k) (ascendingAfter k ks) .0 e in f .1
 
-  pub ascent-once : (ms : List Met) → all (keepsRules nodes leaves t) ms ≡ true → ascending (keysAlong leaves (t .leaves) (leavesAmong ms)) ≡ true → noneTwice (leavesAmong ms) ≡ true
+  pub ascent-once : (ms : List Met) → all (readable nodes leaves t) ms ≡ true → ascending (keysAlong leaves (t .leaves) (leavesAmong ms)) ≡ true → noneTwice (leavesAmong ms) ≡ true
   unfolding all leavesAmong noneTwice keysAlong
   ascent-once [] a k = refl
-  ascent-once (Node m ∷ ms) a k = let q = and-iff (nodeRight nodes (t .nodes) m) (all (keepsRules nodes leaves t) ms) .0 a in ascent-once ms (q .1) k
+  ascent-once (Node m ∷ ms) a k = let q = and-iff (recordRight nodes (t .nodes) m) (all (readable nodes leaves t) ms) .0 a in ascent-once ms (q .1) k
   ascent-once (TooDeep ∷ ms) a k = absurd (false-true a)
   ascent-once (Leaf n ∷ ms) a k =
-      let q = and-iff (recordRight leaves (t .leaves) n) (all (keepsRules nodes leaves t) ms) .0 a in
+      let q = and-iff (recordRight leaves (t .leaves) n) (all (readable nodes leaves t) ms) .0 a in
       let later : above (keyAt leaves (t .leaves) n 0) (keysAlong leaves (t .leaves) (leavesAmong ms)) ≡ true =
       ascent-first n (keysFrom leaves (t .leaves) n (ockAt leaves (t .leaves) n - 1) 1) (keysAlong leaves (t .leaves) (leavesAmong ms)) (rw (keys-cons leaves (t .leaves) n (q .0)) at k) in
       let here : notIn n (leavesAmong ms) ≡ true = not-among n ms (q .1) later in
@@ -276,4 +282,4 @@ module _ (nodes leaves : List ℕ) (t : Tree) where
 
   pub pass-sound : (ms : List Met) → ended (pass nodes leaves t ms Before) ≡ metSound nodes leaves t ms
   unfolding metSound
-  pass-sound ms = pass-is ms Before ∙ rw (keeps-all ms) (absorb (all keeps ms) _ _ _ (λ a. ascent-once ms (keeps-rules ms a)))
+  pass-sound ms = pass-is ms Before ∙ rw (keeps-all ms) (absorb (all keeps ms) _ _ _ (λ a. ascent-once ms (keeps-readable ms a)))

@@ -22,6 +22,7 @@ use Rattle.index_check.specs.declared.check.Progress.the-variants.{Stopp
 abbrev pub KeyWidth : ℕ → Type 0
 KeyWidth width = (width ≡ 10) ⊎ (width ≡ 30)
 
+-- a rule was broken
 unfoldable pub isStopped : Progress → Bool
 isStopped Stopped = true
 isStopped Before = false

@@ -18,7 +18,7 @@ use Rattle.index.specs.declared.layout.Part.{Part}
 use Rattle.index.specs.declared.layout.Part.the-variants.{Right, Wrong}
 use Rattle.index.specs.declared.lookup.Found.the-variants.{At, NoTerm}
 use Rattle.index_check.specs.Walk.{met, keysAlong}
-use Rattle.index_check.specs.Sound.{all, keepsRules, noneTwice, soundOf}
+use Rattle.index_check.specs.Sound.{all, noneTwice, soundOf}
 
 -- ---- what the leaves hold
 
@@ -56,12 +56,6 @@ AbsentOtherwise =
     (x : Index) (term : List ℕ) → soundOf x ≡ true → termRight term ≡ true
     → ((block word : ℕ) → Held x term block word → ⊥) → lookupOf x term ≡ NoTerm
 
--- strict ascent along the leaves makes a leaf met twice impossible, where the leaves keep their rules
-unfoldable pub AscentMeetsOnce : Type 0
-AscentMeetsOnce =
-    (nodes leaves : List ℕ) (t : Tree) (ms : List Met) → all (keepsRules nodes leaves t) ms ≡ true
-    → ascending (keysAlong leaves (t .leaves) (leavesAmong ms)) ≡ true → noneTwice (leavesAmong ms) ≡ true
-
 -- ---- what the check goes over
 
 -- a record that can be read: it keeps the rules of every record
@@ -69,6 +63,12 @@ abbrev pub readable : List ℕ → List ℕ → Tree → Met → Bool
 readable nodes leaves t (Node n) = recordRight nodes (t .nodes) n
 readable nodes leaves t (Leaf n) = recordRight leaves (t .leaves) n
 readable nodes leaves t TooDeep = false
+
+-- strict ascent along the leaves makes a leaf met twice impossible, where what is met can be read
+unfoldable pub AscentMeetsOnce : Type 0
+AscentMeetsOnce =
+    (nodes leaves : List ℕ) (t : Tree) (ms : List Met) → all (readable nodes leaves t) ms ≡ true
+    → ascending (keysAlong leaves (t .leaves) (leavesAmong ms)) ≡ true → noneTwice (leavesAmong ms) ≡ true
 
 -- the longest beginning of what is met in which each keeps a sentence
 unfoldable pub unbroken : (Met → Bool) → List Met → List Met

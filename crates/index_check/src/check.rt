@@ -33,12 +33,13 @@ ghost use Rattle.index_check.specs.Sound.{begins, treeSound, indexAnswer
 ghost use Rattle.index_check.specs.Passes.{KeyWidth, isStopped, follows, leafStep, led, pointed, pass, ended, Reached};
 
 // How far a walk is: stopped at a broken rule, before the first leaf, or after a leaf, whose last key is at `key` and whose successor is `next`.
-pub enum Progress {
+enum Progress {
     Stopped,
     Before,
     After { key: usize, next: u32 },
 }
 
+// Whether it is stopped.
 fn stopped(w: Progress) -> bool
     ensures { λ r. ⌜ r ≡ isStopped w ⌝ }
 {
