@@ -7,6 +7,7 @@ use mathlib.Core.List.{List}
 use borrow.Fn.Kinds.{In}
 use borrow.Fn.PlainCycle.{Measures, is, falls, and}
 use borrow.Author.Needs.{needs}
+use lib.ListN.{length}
 use Rattle.word.specs.Overwrite.{part}
 use Rattle.terms.specs.Key.{below}
 use Rattle.index.specs.Inner.{treeWith}
@@ -161,31 +162,27 @@ over-node-loop-holds t c =
       order-start _ (nodeShape (a .kind) (a .width) (a .entries)) _ _ _ p k (rw k (right-facts _ _ _ r .count-low)),
     )
 
-over-node-add-u32-at : (t : ℕ) → over-node-lts.Need-add-u32-at (claims t) (over-node-at t) over-node.Post over-node-Inv-loop over-node-μ-loop
-over-node-add-u32-at t c =
+-- the entry lies in the file
+own-in : (t : ℕ) (c : over-node-lts.In-loop (claims t) (over-node-at t) over-node.Post over-node-Inv-loop over-node-μ-loop)
+    → let a = c .before .before .before .before .before .before .before .before .before .before .before .before .before .args in
+    c .before .loop .own + (a .width + 4) ≤ length (a .nodes .now)
+own-in t c =
     let o = c .before in
     let f = o .before .before .before .before in
-    let start = f .before .before .before .before .before .before .before .before in
     let e = f .before .before .before .before .node-shape .ensures in
-    let a = start .args in
-    let r = rw e at (is-right _ _ _ _ (f .before .before .before .record-right .ensures) (f .before .before .if2 .left)) in
-    let k = rw e at (o .before .before .count-at .ensures .0) in
-    let y = o .loop .inv .1 (c .loop-test .taken) in
-    let z = active-in _ _ _ (o .loop .i) r (omega (arith, k, c .loop-test .taken)) in
-    omega (arith, y, z, start .good .0 .1)
-
-over-node-u32-at-requires : (t : ℕ) → over-node-lts.Need-u32-at-requires (claims t) (over-node-at t) over-node.Post over-node-Inv-loop over-node-μ-loop
-over-node-u32-at-requires t c κs =
-    let o = c .before in
-    let f = o .before .before .before .before in
-    let start = f .before .before .before .before .before .before .before .before in
-    let e = f .before .before .before .before .node-shape .ensures in
-    let a = start .args in
     let r = rw e at (is-right _ _ _ _ (f .before .before .before .record-right .ensures) (f .before .before .if2 .left)) in
     let k = rw e at (o .before .before .count-at .ensures .0) in
     let y = o .loop .inv .1 (c .loop-test .taken) in
     let z = active-in _ _ _ (o .loop .i) r (omega (arith, k, c .loop-test .taken)) in
     omega (arith, y, z)
+
+over-node-add-u32-at : (t : ℕ) → over-node-lts.Need-add-u32-at (claims t) (over-node-at t) over-node.Post over-node-Inv-loop over-node-μ-loop
+over-node-add-u32-at t c =
+    omega (arith, own-in t c, c .before .before .before .before .before .before .before .before .before .before .before .before .before .good .0 .1)
+
+over-node-u32-at-requires : (t : ℕ) → over-node-lts.Need-u32-at-requires (claims t) (over-node-at t) over-node.Post over-node-Inv-loop over-node-μ-loop
+over-node-u32-at-requires t c κs =
+    omega (arith, own-in t c)
 
 over-node-is-node-requires : (t : ℕ) → over-node-lts.Need-is-node-requires (claims t) (over-node-at t) over-node.Post over-node-Inv-loop over-node-μ-loop
 over-node-is-node-requires t c κs =
@@ -198,15 +195,9 @@ over-node-sub-over-node t c =
 over-node-over-node-requires : (t : ℕ) → over-node-lts.Need-over-node-requires (claims t) (over-node-at t) over-node.Post over-node-Inv-loop over-node-μ-loop
 over-node-over-node-requires t c κs =
     let o = c .before .before .before .before in
-    let f = o .before .before .before .before in
-    let start = f .before .before .before .before .before .before .before .before in
-    let e = f .before .before .before .before .node-shape .ensures in
-    let a = start .args in
-    let r = rw e at (is-right _ _ _ _ (f .before .before .before .record-right .ensures) (f .before .before .if2 .left)) in
-    let k = rw e at (o .before .before .count-at .ensures .0) in
-    let y = o .loop .inv .1 (c .before .before .before .loop-test .taken) in
-    let z = active-in _ _ _ (o .loop .i) r (omega (arith, k, c .before .before .before .loop-test .taken)) in
-    (omega arith, (start .pre .1 .0, start .pre .1 .1, (λ h. omega (arith, y, z)), o .loop .inv .2))
+    let start = o .before .before .before .before .before .before .before .before .before .before .before .before in
+    let y = own-in t (c .before .before .before) in
+    (omega (arith, start .pre .0, o .before .before .before .before .before .before .before .before .before .if1 .left), (start .pre .1 .0, start .pre .1 .1, (λ h. omega (arith, y)), o .loop .inv .2))
 
 over-node-leaf-number-requires : (t : ℕ) → over-node-lts.Need-leaf-number-requires (claims t) (over-node-at t) over-node.Post over-node-Inv-loop over-node-μ-loop
 over-node-leaf-number-requires t c κs =
@@ -215,15 +206,9 @@ over-node-leaf-number-requires t c κs =
 over-node-over-leaf-requires : (t : ℕ) → over-node-lts.Need-over-leaf-requires (claims t) (over-node-at t) over-node.Post over-node-Inv-loop over-node-μ-loop
 over-node-over-leaf-requires t c κs =
     let o = c .before .before .before .before .before in
-    let f = o .before .before .before .before in
-    let start = f .before .before .before .before .before .before .before .before in
-    let e = f .before .before .before .before .node-shape .ensures in
-    let a = start .args in
-    let r = rw e at (is-right _ _ _ _ (f .before .before .before .record-right .ensures) (f .before .before .if2 .left)) in
-    let k = rw e at (o .before .before .count-at .ensures .0) in
-    let y = o .loop .inv .1 (c .before .before .before .before .loop-test .taken) in
-    let z = active-in _ _ _ (o .loop .i) r (omega (arith, k, c .before .before .before .before .loop-test .taken)) in
-    rw (o .before .before .before .leaf-shape .ensures) (start .pre .1 .0 .leaves-fit, refl, start .pre .1 .1, omega (arith, y, z), o .loop .inv .2)
+    let start = o .before .before .before .before .before .before .before .before .before .before .before .before in
+    let y = own-in t (c .before .before .before .before) in
+    rw (o .before .before .before .leaf-shape .ensures) (start .pre .1 .0 .leaves-fit, refl, start .pre .1 .1, omega (arith, y), o .loop .inv .2)
 
 over-node-stopped-requires : (t : ℕ) → over-node-lts.Need-stopped-requires (claims t) (over-node-at t) over-node.Post over-node-Inv-loop over-node-μ-loop
 over-node-stopped-requires t c κs =
@@ -266,37 +251,43 @@ over-node-add-i : (t : ℕ) → over-node-lts.Need-add-i (claims t) (over-node-a
 over-node-add-i t c =
     omega arith
 
-over-node-add-next : (t : ℕ) → over-node-lts.Need-add-next (claims t) (over-node-at t) over-node.Post over-node-Inv-loop over-node-μ-loop
-over-node-add-next t c =
+-- and so does the next one
+next-in : (t : ℕ) (c : over-node-lts.After-struct-known (claims t) (over-node-at t) over-node.Post over-node-Inv-loop over-node-μ-loop)
+    → let a = c .before .before .before .before .before .before .before .before .before .before .before .before .before .before .before .before .before .before .before .before .args in
+    c .before .before .before .before .before .before .before .before .loop .own + c .before .before .before .before .before .before .before .before .before .before .before .before .before .before .before .before .node-shape .result .step + (a .width + 4) ≤ length (a .nodes .now)
+next-in t c =
     let o = c .before .before .before .before .before .before .before .before in
     let f = o .before .before .before .before in
-    let start = f .before .before .before .before .before .before .before .before in
-    let e = f .before .before .before .before .node-shape .ensures in
-    let a = start .args in
+    let a = f .before .before .before .before .before .before .before .before .args in
     let u : Tree = treeWith (a .kind) (a .width) (a .entries) (a .items) in
+    let e = f .before .before .before .before .node-shape .ensures in
     let r = rw e at (is-right _ _ _ _ (f .before .before .before .record-right .ensures) (f .before .before .if2 .left)) in
     let k = rw e at (o .before .before .count-at .ensures .0) in
     let y = o .loop .inv .1 (c .before .before .before .before .before .before .before .loop-test .taken) in
     let m = place-next (u .nodes) (a .n) (o .loop .i) in
     let v = ap (λ (s : Shape). s .step) e in
     let z = active-in _ (u .nodes) _ (o .loop .i + 1) r (omega (arith, k, c .before .if6 .taken)) in
-    omega (arith, y, m, z, v, start .good .0 .1)
+    omega (arith, y, m, z, v)
+
+over-node-add-next : (t : ℕ) → over-node-lts.Need-add-next (claims t) (over-node-at t) over-node.Post over-node-Inv-loop over-node-μ-loop
+over-node-add-next t c =
+    omega (arith, next-in t c, c .before .before .before .before .before .before .before .before .before .before .before .before .before .before .before .before .before .before .before .before .good .0 .1)
 
 over-node-below-key-requires : (t : ℕ) → over-node-lts.Need-below-key-requires (claims t) (over-node-at t) over-node.Post over-node-Inv-loop over-node-μ-loop
 over-node-below-key-requires t c κs =
-    let o = c .before .before .before .before .before .before .before .before in
-    let f = o .before .before .before .before in
-    let start = f .before .before .before .before .before .before .before .before in
-    let e = f .before .before .before .before .node-shape .ensures in
-    let a = start .args in
-    let u : Tree = treeWith (a .kind) (a .width) (a .entries) (a .items) in
-    let r = rw e at (is-right _ _ _ _ (f .before .before .before .record-right .ensures) (f .before .before .if2 .left)) in
-    let k = rw e at (o .before .before .count-at .ensures .0) in
-    let y = o .loop .inv .1 (c .before .before .before .before .before .before .before .loop-test .taken) in
-    let m = place-next (u .nodes) (a .n) (o .loop .i) in
-    let v = ap (λ (s : Shape). s .step) e in
-    let z = active-in _ (u .nodes) _ (o .loop .i + 1) r (omega (arith, k, c .before .if6 .taken)) in
-    (start .pre .1 .0 .nodes-fit .width-low, omega (arith, y, m, z), omega (arith, y, m, z, v))
+    let y = next-in t c in
+    (c .before .before .before .before .before .before .before .before .before .before .before .before .before .before .before .before .before .before .before .before .pre .1 .0 .nodes-fit .width-low, omega (arith, y), omega (arith, y))
+
+-- whether the two ascend
+ordered : (t : ℕ) (c : over-node-lts.After-below-key (claims t) (over-node-at t) over-node.Post over-node-Inv-loop over-node-μ-loop)
+    → let a = c .before .before .before .before .before .before .before .before .before .before .before .before .before .before .before .before .before .before .before .before .before .args in
+    let own = c .before .before .before .before .before .before .before .before .before .loop .own in
+    c .below-key .result ≡ below (part (a .nodes .now) own (a .width)) (part (a .nodes .now) (own + (a .width + 4)) (a .width))
+ordered t c =
+    let a = c .before .before .before .before .before .before .before .before .before .before .before .before .before .before .before .before .before .before .before .before .before .args in
+    let own = c .before .before .before .before .before .before .before .before .before .loop .own in
+    let e = c .before .before .before .before .before .before .before .before .before .before .before .before .before .before .before .before .before .node-shape .ensures in
+    c .below-key .ensures ∙ ap (λ (x : ℕ). below (part (a .nodes .now) own (a .width)) (part (a .nodes .now) (own + x) (a .width))) (ap (λ (s : Shape). s .step) e)
 
 over-node-returns-5 : (t : ℕ) → over-node-lts.Need-returns-5 (claims t) (over-node-at t) over-node.Post over-node-Inv-loop over-node-μ-loop
 over-node-returns-5 t c =
@@ -306,11 +297,9 @@ over-node-returns-5 t c =
     let e = f .before .before .before .before .node-shape .ensures in
     let a = start .args in
     let u : Tree = treeWith (a .kind) (a .width) (a .entries) (a .items) in
-    let d : c .before .below-key .result ≡ below (part (a .nodes .now) (o .loop .own) (a .width)) (part (a .nodes .now) (o .loop .own + (a .width + 4)) (a .width)) =
-    c .before .below-key .ensures ∙ ap (λ (x : ℕ). below (part (a .nodes .now) (o .loop .own) (a .width)) (part (a .nodes .now) (o .loop .own + x) (a .width))) (ap (λ (s : Shape). s .step) e) in
     over-pointed _ _ u _ (u .nodes) _ _ _ _ _ (rw e at (f .before .is-pointed .ensures)) _ (f .if3 .left)
     (over-unordered _ _ u _ _ _ (f .before .before .before .before .before .if1 .left)
-    (order-stop _ (u .nodes) _ (o .loop .own) (o .before .before .count-at .result) (o .loop .i) (o .loop .inv .5) _ (c .before .before .before .if6 .taken) d (c .if7 .taken)))
+    (order-stop _ (u .nodes) _ (o .loop .own) (o .before .before .count-at .result) (o .loop .i) (o .loop .inv .5) _ (c .before .before .before .if6 .taken) (ordered t (c .before)) (c .if7 .taken)))
 
 over-node-loop-less : (t : ℕ) → over-node-lts.Need-loop-less (claims t) (over-node-at t) over-node.Post over-node-Inv-loop over-node-μ-loop
 over-node-loop-less t c =
@@ -328,8 +317,6 @@ over-node-loop-again t c =
     let y = o .loop .inv .1 (j .before .before .before .loop-test .taken) in
     let m = place-next (u .nodes) (a .n) (o .loop .i) in
     let v = ap (λ (s : Shape). s .step) e in
-    let d : c .before .below-key .result ≡ below (part (a .nodes .now) (o .loop .own) (a .width)) (part (a .nodes .now) (o .loop .own + (a .width + 4)) (a .width)) =
-    c .before .below-key .ensures ∙ ap (λ (x : ℕ). below (part (a .nodes .now) (o .loop .own) (a .width)) (part (a .nodes .now) (o .loop .own + x) (a .width))) v in
     let s = stepped t j in
     let g = sym (c .before .before .before .before .before .stopped .ensures) ∙ c .before .before .before .before .if5 .left in
     let from : ℕ → List Met = λ m. walk (a .nodes .now) (u .nodes) (a .left - 1) m in
@@ -339,7 +326,7 @@ over-node-loop-again t c =
       rw s (pass-reached _ _ u (start .pre .1 .0 .leaves-fit .shape) _ _ _ (o .loop .inv .2)),
       more _ _ u from _ _ _ _ s _ (o .loop .inv .3) q,
       pointers-more _ _ u _ _ (o .loop .inv .4) q,
-      rw v (order-next _ (u .nodes) _ (o .loop .own) (o .before .before .count-at .result) (o .loop .i) (o .loop .inv .5) _ (c .before .before .before .if6 .taken) d (c .if7 .left)),
+      rw v (order-next _ (u .nodes) _ (o .loop .own) (o .before .before .count-at .result) (o .loop .i) (o .loop .inv .5) _ (c .before .before .before .if6 .taken) (ordered t (c .before)) (c .if7 .left)),
     )
 
 over-node-loop-less-2 : (t : ℕ) → over-node-lts.Need-loop-less-2 (claims t) (over-node-at t) over-node.Post over-node-Inv-loop over-node-μ-loop
