@@ -10,6 +10,12 @@
  * been brought up to date. While a change of a settled record is pending, the
  * settled version can still be read, and revert makes it current again.
  *
+ * The MST begins with the control record, which says where the next record goes,
+ * the end: its block, and in bytes 12 and 13 its offset in the block plus 1
+ * (NXTMFP), as desktop programs write it. Cards written before isis.h 2.0 have the
+ * offset itself there; isis_migrate makes them cards of today, and until then every
+ * other function but isis_format answers 2 to them.
+ *
  * Every function may be called on any bytes with any arguments; it stays inside
  * what it is lent and always ends. C's own rules are all that is asked for:
  *   - every pointer is valid for its length, counted in elements;
@@ -48,8 +54,8 @@ extern "C" {
 #endif
 
 /* The interface. The first number rises when a function that was here changes, the second when something is added. */
-#define ISIS_VERSION_MAJOR 1
-#define ISIS_VERSION_MINOR 2
+#define ISIS_VERSION_MAJOR 2
+#define ISIS_VERSION_MINOR 0
 
 /* The format. */
 #define ISIS_BLOCK           512     /* bytes of a block, of either file */
@@ -88,7 +94,8 @@ typedef char isis_size_has_64_bits[sizeof(isis_size) == 8 && (isis_size)-1 > 0 ?
 enum isis_answer {
     ISIS_DONE            = 0,  /* done */
     ISIS_BAD_LENGTH      = 1,  /* a buffer is not 1 to 1048575 (MST) or 1 to 4096 (XRF) blocks of 512 bytes */
-    ISIS_BAD_CONTROL     = 2,  /* the control record (MST bytes 0 to 15) is not right */
+    ISIS_BAD_CONTROL     = 2,  /* the control record (MST bytes 0 to 15) is not right; isis_migrate: not right by the
+                                  rule before isis.h 2.0 */
     ISIS_BAD_DRAFT       = 3,  /* the draft is not right, see isis_create */
     ISIS_NO_MFN          = 4,  /* the MFN is 0 or was never given out */
     ISIS_NO_SLOT         = 5,  /* create: every MFN of the XRF is given out */
@@ -239,6 +246,17 @@ uint32_t isis_settle(uint8_t *mst, isis_size mst_len, uint8_t *xrf, isis_size xr
  * Touches the four bytes of the entry in the XRF, and nothing of the MST.
  */
 uint32_t isis_revert(uint8_t *mst, isis_size mst_len, uint8_t *xrf, isis_size xrf_len, uint32_t mfn);
+
+/*
+ * Makes a card written before isis.h 2.0 one of today: NXTMFP becomes the number
+ * that stands there plus 1. Answers 0, 1 or 2, the last where the control record is
+ * not right by the rule of that time, under which NXTMFP is the end's offset, even
+ * and at most 498. A card of today is not right by it, so a second call answers 2
+ * and changes nothing. Afterwards the card holds what it held: the same end, the
+ * same records and fields, and it is sound exactly if it was.
+ * Touches bytes 12 and 13 of the MST, and nothing of the XRF.
+ */
+uint32_t isis_migrate(uint8_t *mst, isis_size mst_len, uint8_t *xrf, isis_size xrf_len);
 
 /*
  * Checks the whole store: 0 exactly if it is sound, otherwise 1, 2 or 14.

@@ -20,7 +20,7 @@ use Rattle.word.specs.Signed.{signedOf, bitsOf}
 use Rattle.word.proofs.TwosComplement.{back-of}
 use Rattle.layout.specs.Sizes.{mstBlocks, offsetMost, mstPermitted, xrfPermitted, addressOf, blockAt, offsetAt}
 use Rattle.layout.specs.Entry.{entryOf, encodeOf}
-use Rattle.files.specs.Control.{offsetsFrom, storedOffset, readOffset, nextOf, endOf, numbersRight, endRight, controlRight, withNext, withEnd, formattedMst}
+use Rattle.files.specs.Control.{offsetsFrom, storedOffset, readOffset, nextOf, endFrom, endOf, numbersRight, endRightFrom, controlRightFrom, controlRight, oldControlRight, withNext, withEnd, formattedMst, migratedMst}
 use Rattle.files.specs.CrossReference.{xrfBlock, slotAt, headBits, headRight, slotFree, entryAt, withEntry, withHeads, formattedXrf}
 use Rattle.files.specs.Inner.{controlOf}
 use Rattle.files.specs.declared.control.Control.the-variants.{Right, Wrong}
@@ -29,7 +29,7 @@ use Rattle.layout.specs.declared.entry.Entry.{Entry}
 use Rattle.layout.specs.declared.entry.Entry.the-variants.{Malformed}
 use Rattle.word.proofs.Tests.{tests, and-false}
 use Rattle.layout.proofs.Facts.{blocks-facts}
-use Rattle.files.proofs.ControlRecord.{next-length}
+use Rattle.files.proofs.ControlRecord.{end-stored, next-length}
 use Rattle.files.proofs.CrossReference.{heads-more}
 
 -- ---- the control record
@@ -60,67 +60,92 @@ module _ (mst : List ℕ) (capacity : ℕ) where
     unfolding numbersRight nextOf
     next-rest n t p h q i k = rw (← p, ← q, ← e, eq-eqb n 0 h, eq-eqb t 0 i, le-leb 1 next k) (less-one next capacity k)
 
-module _ (mst : List ℕ) where
+-- where offsets are counted from a number
+module _ (from : ℕ) (mst : List ℕ) where
   module _ (b : ℕ) (e : b ≡ u32At mst 8) where
-    pub end-no-block : b < 1 → false ≡ endRight mst
-    unfolding endRight
+    pub end-no-block : b < 1 → false ≡ endRightFrom from mst
+    unfolding endRightFrom
     end-no-block h = rw (← e, lt-leb 1 b h)
 
-    pub end-is : (p r : ℕ) → p ≡ u16At mst 12 → r ≡ addressOf b (readOffset p) → r ≡ endOf mst
-    unfolding endOf
+    pub end-is : (p r : ℕ) → p ≡ u16At mst 12 → r ≡ addressOf b (readOffset from p) → r ≡ endFrom from mst
+    unfolding endFrom
     end-is p r f s = rw (s, e, f)
 
   module _ (p : ℕ) (e : p ≡ u16At mst 12) where
-    pub end-odd : (p % 2 ≡ storedOffset 0 % 2 → ⊥) → false ≡ endRight mst
-    unfolding endRight
-    end-odd h = rw (← e, ne-eqb _ _ h, and-false)
+    pub end-uneven : (p % 2 ≡ from % 2 → ⊥) → false ≡ endRightFrom from mst
+    unfolding endRightFrom
+    end-uneven h = rw (← e, ne-eqb _ _ h, and-false)
 
-    pub end-late : storedOffset offsetMost < p → false ≡ endRight mst
-    unfolding endRight
-    end-late h = rw (← e, lt-leb p (storedOffset offsetMost) h, and-false)
+    pub end-late : storedOffset from offsetMost < p → false ≡ endRightFrom from mst
+    unfolding endRightFrom
+    end-late h = rw (← e, lt-leb p (storedOffset from offsetMost) h, and-false)
 
-    pub end-low : (r : ℕ) → r ≡ endOf mst → r < 64 → false ≡ endRight mst
-    unfolding endRight
+    pub end-counted : from ≤ 1 → p % 2 ≡ from % 2 → from ≤ u16At mst 12
+    end-counted h i = omega arith
+
+    pub end-low : (r : ℕ) → r ≡ endFrom from mst → r < 64 → false ≡ endRightFrom from mst
+    unfolding endRightFrom
     end-low r f h = rw (← f, lt-leb 64 r h, and-false)
 
-    pub end-rest : (b r : ℕ) → b ≡ u32At mst 8 → 1 ≤ b → p % 2 ≡ storedOffset 0 % 2 → p ≤ storedOffset offsetMost → r ≡ endOf mst → 64 ≤ r → leb r (length mst) ≡ endRight mst
-    unfolding endRight
-    end-rest b r f h i j g k = rw (← f, ← e, ← g, le-leb 1 b h, eq-eqb _ _ i, le-leb p (storedOffset offsetMost) j, le-leb 64 r k)
+    pub end-rest : (b r : ℕ) → b ≡ u32At mst 8 → 1 ≤ b → p % 2 ≡ from % 2 → p ≤ storedOffset from offsetMost → r ≡ endFrom from mst → 64 ≤ r
+        → leb r (length mst) ≡ endRightFrom from mst
+    unfolding endRightFrom
+    end-rest b r f h i j g k = rw (← f, ← e, ← g, le-leb 1 b h, eq-eqb _ _ i, le-leb p (storedOffset from offsetMost) j, le-leb 64 r k)
 
-  end-long : (t : Bool) → endRight mst ≡ t → length mst < 64 → endRight mst ≡ false
-  unfolding endRight
+  end-long : (t : Bool) → endRightFrom from mst ≡ t → length mst < 64 → endRightFrom from mst ≡ false
+  unfolding endRightFrom
   end-long true e h = let q = simp tests at e in absurd (omega arith)
   end-long false e h = e
 
   module _ (capacity : ℕ) where
-    pub control-short : length mst < 64 → Wrong ≡ controlOf mst capacity
-    unfolding controlOf controlRight
-    control-short h = rw (end-long (endRight mst) refl h, and-false)
+    pub control-short : length mst < 64 → false ≡ controlRightFrom from mst capacity
+    unfolding controlRightFrom
+    control-short h = rw (end-long (endRightFrom from mst) refl h, and-false)
 
     module _ (numbers : Bool) (e : numbers ≡ numbersRight mst capacity) where
-      pub control-numbers : not numbers ≡ true → Wrong ≡ controlOf mst capacity
-      unfolding controlOf controlRight
+      pub control-numbers : not numbers ≡ true → false ≡ controlRightFrom from mst capacity
+      unfolding controlRightFrom
       control-numbers h = rw (← e, not-true numbers h)
 
-      module _ (end : Bool) (f : end ≡ endRight mst) where
-        pub control-end : not end ≡ true → Wrong ≡ controlOf mst capacity
-        unfolding controlOf controlRight
-        control-end h = rw (← f, not-true end h, and-false)
-
-        pub control-block : not end ≡ false → 1 ≤ u32At mst 8
-        unfolding endRight
-        control-block h = let q = simp tests at (sym f ∙ not-false end h) in q .0 .0 .0 .0
-
-        pub control-offset : not end ≡ false → offsetsFrom ≤ u16At mst 12
-        unfolding endRight
-        control-offset h = let q = simp tests at (sym f ∙ not-false end h) in omega arith
-
-        pub control-right : (n r : ℕ) → not numbers ≡ false → not end ≡ false → n ≡ u32At mst 4 → r ≡ endOf mst → Right (record { 0 = n }) r ≡ controlOf mst capacity
-        unfolding controlOf controlRight nextOf
-        control-right n r h i p q = rw (← e, ← f, not-false numbers h, not-false end i, p, q)
+      pub control-end : (end : Bool) → not numbers ≡ false → end ≡ endRightFrom from mst → end ≡ controlRightFrom from mst capacity
+      unfolding controlRightFrom
+      control-end end h f = rw (← e, not-false numbers h, f)
 
 pub ruleset control-answers =
-    (number-wrong, type-wrong, next-none, next-rest, end-no-block, end-is, end-odd, end-late, end-low, end-rest, control-short, control-numbers, control-end, control-block, control-offset, control-right, arith)
+    (number-wrong, type-wrong, next-none, next-rest, end-no-block, end-is, end-uneven, end-late, end-counted, end-low, end-rest, control-short, control-numbers, control-end, arith)
+
+-- what is read by the rule of today
+module _ (mst : List ℕ) (capacity : ℕ) where
+  is-wrong : false ≡ controlRight mst capacity → Wrong ≡ controlOf mst capacity
+  unfolding controlOf
+  is-wrong e = rw (← e)
+
+  pub read-short : length mst < 64 → Wrong ≡ controlOf mst capacity
+  read-short h = is-wrong (control-short offsetsFrom mst capacity h)
+
+  module _ (numbers : Bool) (e : numbers ≡ numbersRight mst capacity) where
+    pub read-numbers : not numbers ≡ true → Wrong ≡ controlOf mst capacity
+    read-numbers h = is-wrong (control-numbers offsetsFrom mst capacity numbers e h)
+
+    module _ (h : not numbers ≡ false) (end : Bool) (f : end ≡ endRightFrom offsetsFrom mst) where
+      pub read-end : not end ≡ true → Wrong ≡ controlOf mst capacity
+      read-end i = is-wrong (sym (not-true end i) ∙ control-end offsetsFrom mst capacity numbers e end h f)
+
+      module _ (i : not end ≡ false) where
+        is-right : controlRight mst capacity ≡ true
+        is-right = sym (control-end offsetsFrom mst capacity numbers e end h f) ∙ not-false end i
+
+        pub read-block : 1 ≤ u32At mst 8
+        read-block = end-stored offsetsFrom mst capacity is-right .block
+
+        pub read-offset : offsetsFrom ≤ u16At mst 12
+        read-offset = let s = end-stored offsetsFrom mst capacity is-right .even in omega arith
+
+        pub read-right : (n r : ℕ) → n ≡ u32At mst 4 → r ≡ endOf mst → Right (record { 0 = n }) r ≡ controlOf mst capacity
+        unfolding controlOf nextOf
+        read-right n r p q = rw (is-right, p, q)
+
+pub ruleset read-answers = (read-short, read-numbers, read-end, read-block, read-offset, read-right, arith)
 
 -- ---- the cross-reference file
 
@@ -181,10 +206,14 @@ module _ (mst out : List ℕ) where
   unfolding withNext
   next-put n e = e
 
-  pub end-put : (b p e : ℕ) (half : List ℕ) → half ≡ overwrite mst 8 (le 4 b) → b ≡ blockAt e → out ≡ overwrite half 12 (le 2 (storedOffset p)) → p ≡ offsetAt e
+  pub end-put : (b p e : ℕ) (half : List ℕ) → half ≡ overwrite mst 8 (le 4 b) → b ≡ blockAt e → out ≡ overwrite half 12 (le 2 (storedOffset offsetsFrom p)) → p ≡ offsetAt e
       → 64 ≤ length mst → out ≡ withEnd mst e
   unfolding withEnd
-  end-put b p e half h i j k long = rw (j, h, i, k) (overwrite-next mst 8 (le 4 (blockAt e)) (le 2 (storedOffset (offsetAt e))) (omega arith))
+  end-put b p e half h i j k long = rw (j, h, i, k) (overwrite-next mst 8 (le 4 (blockAt e)) (le 2 (storedOffset offsetsFrom (offsetAt e))) (omega arith))
+
+  pub count-put : (p : ℕ) → p ≡ u16At mst 12 → out ≡ overwrite mst 12 (le 2 (p + 1)) → out ≡ migratedMst mst
+  unfolding migratedMst
+  count-put p e f = rw (f, e)
 
   pub mst-put : (zero next : List ℕ) → zero ≡ overwrite mst 0 (replicate (length mst) 0) → next ≡ withNext zero 1 → out ≡ withEnd next 64 → out ≡ formattedMst (length mst)
   unfolding formattedMst
@@ -201,4 +230,4 @@ module _ (xrf zero : List ℕ) (h : xrfPermitted (length xrf) ≡ true) (e : zer
   unfolding formattedXrf
   xrf-put out i = rw (i, zero-is, length-replicate)
 
-pub ruleset write-answers = (zero-permitted, xrf-put, long-zero, next-put, end-put, mst-put, arith)
+pub ruleset write-answers = (zero-permitted, xrf-put, long-zero, next-put, end-put, count-put, mst-put, arith)

@@ -8,11 +8,11 @@ use mathlib.Core.Logic.{_⊎_, inl, inr, ⊎-elim}
 use mathlib.Core.Bool.{true}
 use mathlib.Core.List.{List}
 use lib.ListN.{length, getD}
-use Rattle.word.specs.Integer.{le}
+use Rattle.word.specs.Integer.{u16At, le}
 use Rattle.word.proofs.Overwrite.{lt-or-ge, overwrite-other}
 use Rattle.layout.specs.Sizes.{mstMost, addressLimit}
-use Rattle.files.specs.Control.{endBytes, nextOf, endOf, controlRight, withNext, withEnd}
-use Rattle.files.specs.NamedBytes.{Within, NextByte, EndByte, ControlByte, next-mfn, the-end}
+use Rattle.files.specs.Control.{endBytes, nextOf, endOf, controlRight, oldControlRight, withNext, withEnd, migratedMst}
+use Rattle.files.specs.NamedBytes.{Within, NextByte, EndByte, OffsetByte, ControlByte, next-mfn, the-end}
 use Rattle.files.proofs.ControlRecord.{next-length, next-of-next, end-of-next, control-right-next, end-length, next-of-end, end-of-end, control-right-end}
 
 -- ---- bytes in and out of a range
@@ -35,6 +35,11 @@ next-kept mst n long i off = overwrite-other mst 4 (le 4 n) i (omega arith) (out
 pub end-kept : (mst : List ℕ) (e : ℕ) → 64 ≤ length mst → (i : ℕ) → (EndByte i → ⊥) → getD (withEnd mst e) i 0 ≡ getD mst i 0
 unfolding withEnd EndByte
 end-kept mst e long i off = overwrite-other mst 8 (endBytes e) i (omega arith) (out-of 8 6 i off)
+
+-- a migration writes NXTMFP alone
+pub migrated-kept : (mst : List ℕ) → 64 ≤ length mst → (i : ℕ) → (OffsetByte i → ⊥) → getD (migratedMst mst) i 0 ≡ getD mst i 0
+unfolding migratedMst OffsetByte
+migrated-kept mst long i off = overwrite-other mst 12 (le 2 (u16At mst 12 + 1)) i (omega arith) (out-of 12 2 i off)
 
 -- ---- what a call writes
 

@@ -1,10 +1,10 @@
--- The control record, from MST byte 0. Document 01, "Control record".
+-- The control record, from MST byte 0. Document 01, "Control record"; request C-12 for NXTMFP.
 --
 --   byte   field     rule
 --   0      CTLMFN*   0
 --   4      NXTMFN*   1 to capacity + 1
 --   8      NXTMFB*   the end's block
---   12     NXTMFP    the end's offset, even, at most 498
+--   12     NXTMFP    the end's offset plus 1, odd, at most 499; by the old rule the offset itself, even, at most 498
 --   14     MFTYPE    0
 --   16-63  ignored and kept
 use Prim.Native.Nat.{ℕ, _+_, _-_, _%_}
@@ -22,44 +22,64 @@ controlRead = 16
 
 -- ---- how the end is stored: its block as it is, its offset counted from a number
 
--- NXTMFP counts the end's offset from here
+-- NXTMFP counts the end's offset from 1, and counted it from 0 by the old rule
 abbrev pub offsetsFrom : ℕ
-offsetsFrom = 0
+offsetsFrom = 1
+
+abbrev pub oldOffsetsFrom : ℕ
+oldOffsetsFrom = 0
 
 -- what is stored of an offset, and the offset that is read of it
-abbrev pub storedOffset : ℕ → ℕ
-storedOffset p = p + offsetsFrom
+abbrev pub storedOffset : ℕ → ℕ → ℕ
+storedOffset from p = p + from
 
-abbrev pub readOffset : ℕ → ℕ
-readOffset n = n - offsetsFrom
+abbrev pub readOffset : ℕ → ℕ → ℕ
+readOffset from n = n - from
 
--- ---- what the control record says
+-- ---- what the control record says, where offsets are counted from a number
 
 -- NXTMFN
 unfoldable pub nextOf : List ℕ → ℕ
 nextOf mst = u32At mst 4
 
 -- the end: the offset, counted from 0, where the next record goes
-unfoldable pub endOf : List ℕ → ℕ
-endOf mst = addressOf (u32At mst 8) (readOffset (u16At mst 12))
+unfoldable pub endFrom : ℕ → List ℕ → ℕ
+endFrom from mst = addressOf (u32At mst 8) (readOffset from (u16At mst 12))
 
 -- CTLMFN and MFTYPE are 0, and NXTMFN lies in 1 to capacity + 1
 unfoldable pub numbersRight : List ℕ → ℕ → Bool
 numbersRight mst capacity =
     eqb (u32At mst 0) 0 && eqb (u16At mst 14) 0 && leb 1 (nextOf mst) && leb (nextOf mst) (capacity + 1)
 
--- the end is at least 64 and at most the MST length, and its offset is even and at most 498. Blocks count from 1
-unfoldable pub endRight : List ℕ → Bool
-endRight mst =
+-- the end is at least 64 and at most the MST length, and its offset is even and at most 498: what is stored is even or odd as the number that it is
+-- counted from. Blocks count from 1
+unfoldable pub endRightFrom : ℕ → List ℕ → Bool
+endRightFrom from mst =
     leb 1 (u32At mst 8)
-    && eqb (u16At mst 12 % 2) (storedOffset 0 % 2)
-    && leb (u16At mst 12) (storedOffset offsetMost)
-    && leb 64 (endOf mst)
-    && leb (endOf mst) (length mst)
+    && eqb (u16At mst 12 % 2) (from % 2)
+    && leb (u16At mst 12) (storedOffset from offsetMost)
+    && leb 64 (endFrom from mst)
+    && leb (endFrom from mst) (length mst)
 
 -- the control record is right, for a capacity
-unfoldable pub controlRight : List ℕ → ℕ → Bool
-controlRight mst capacity = numbersRight mst capacity && endRight mst
+unfoldable pub controlRightFrom : ℕ → List ℕ → ℕ → Bool
+controlRightFrom from mst capacity = numbersRight mst capacity && endRightFrom from mst
+
+-- ---- by the rule of today, which every call reads and writes by
+
+abbrev pub endOf : List ℕ → ℕ
+endOf mst = endFrom offsetsFrom mst
+
+abbrev pub controlRight : List ℕ → ℕ → Bool
+controlRight mst capacity = controlRightFrom offsetsFrom mst capacity
+
+-- ---- by the old rule, which a migration alone reads by
+
+abbrev pub oldEndOf : List ℕ → ℕ
+oldEndOf mst = endFrom oldOffsetsFrom mst
+
+abbrev pub oldControlRight : List ℕ → ℕ → Bool
+oldControlRight mst capacity = controlRightFrom oldOffsetsFrom mst capacity
 
 -- ---- what is written of it
 
@@ -69,7 +89,7 @@ withNext mst n = overwrite mst 4 (le 4 n)
 
 -- NXTMFB and NXTMFP of an end
 abbrev pub endBytes : ℕ → List ℕ
-endBytes e = le 4 (blockAt e) ++ le 2 (storedOffset (offsetAt e))
+endBytes e = le 4 (blockAt e) ++ le 2 (storedOffset offsetsFrom (offsetAt e))
 
 -- the MST with another end
 unfoldable pub withEnd : List ℕ → ℕ → List ℕ
@@ -78,3 +98,7 @@ withEnd mst e = overwrite mst 8 (endBytes e)
 -- what format leaves in an MST of n bytes: zero, but for NXTMFN 1 and the end 64
 unfoldable pub formattedMst : ℕ → List ℕ
 formattedMst n = withEnd (withNext (replicate n 0) 1) 64
+
+-- what a migration leaves of an MST: NXTMFP plus 1, and no other byte changed
+unfoldable pub migratedMst : List ℕ → List ℕ
+migratedMst mst = overwrite mst 12 (le 2 (u16At mst 12 + 1))

@@ -18,6 +18,10 @@ NextByte i = Within 4 4 i
 unfoldable pub EndByte : ℕ → Type 0
 EndByte i = Within 8 6 i
 
+-- NXTMFP
+unfoldable pub OffsetByte : ℕ → Type 0
+OffsetByte i = Within 12 2 i
+
 -- the control integers that a call may change
 pub data ControlByte (i : ℕ) : Type 0 where
   next-mfn : NextByte i → ControlByte i

@@ -9,12 +9,15 @@ ghost use mathlib.Core.Bool.{true};
 ghost use Prim.Native.Nat.{_+_, _≤_, _<_};
 ghost use lib.ListN.{length};
 ghost use Rattle.word.specs.Integer.{u16At, u32At};
-ghost use Rattle.layout.specs.Sizes.{addressLimit, mstPermitted};
+ghost use Rattle.layout.specs.Sizes.{offsetMost, addressLimit, mstPermitted};
 ghost use Rattle.files.specs.Inner.{controlOf};
-ghost use Rattle.files.specs.Control.{offsetsFrom, endOf, numbersRight, endRight, withNext, withEnd, formattedMst};
+ghost use Rattle.files.specs.Control.{endFrom, numbersRight, endRightFrom, oldControlRight, withNext, withEnd, formattedMst, migratedMst};
 
 // NXTMFP counts the end's offset from here.
-const OFFSETS_FROM: u16 = 0;
+const OFFSETS_FROM: u16 = 1;
+
+// By the old rule it counted it from there.
+const OLD_OFFSETS_FROM: u16 = 0;
 
 // What the control record says, where it is right.
 pub enum Control {
@@ -39,29 +42,29 @@ fn numbers_right(mst: &[u8], capacity: usize) -> bool
     next as usize - 1 <= capacity
 }
 
-// The end that the control record gives; its block counts from 1.
-fn end_of(mst: &[u8]) -> usize
-    requires { ⌜ (64 ≤ length (now mst)) × (1 ≤ u32At (now mst) 8) × (offsetsFrom ≤ u16At (now mst) 12) ⌝ }
-    ensures { λ r. ⌜ r ≡ endOf (now (mst .entry)) ⌝ }
+// The end that the control record gives, its offset counted from a number; its block counts from 1.
+fn end_of(mst: &[u8], from: u16) -> usize
+    requires { ⌜ (64 ≤ length (now mst)) × (1 ≤ u32At (now mst) 8) × (from ≤ u16At (now mst) 12) ⌝ }
+    ensures { λ r. ⌜ r ≡ endFrom from (now (mst .entry)) ⌝ }
 {
-    layout::sizes::address(Block(u32_at(mst, 8)), u16_at(mst, 12) - OFFSETS_FROM)
+    layout::sizes::address(Block(u32_at(mst, 8)), u16_at(mst, 12) - from)
 }
 
-fn end_right(mst: &[u8]) -> bool
-    requires { ⌜ 64 ≤ length (now mst) ⌝ }
-    ensures { λ r. ⌜ r ≡ endRight (now (mst .entry)) ⌝ }
+fn end_right(mst: &[u8], from: u16) -> bool
+    requires { ⌜ (64 ≤ length (now mst)) × (from ≤ 1) ⌝ }
+    ensures { λ r. ⌜ r ≡ endRightFrom from (now (mst .entry)) ⌝ }
 {
     if u32_at(mst, 8) < 1 {
         return false;
     }
     let stored = u16_at(mst, 12);
-    if stored % 2 != OFFSETS_FROM % 2 {
+    if stored % 2 != from % 2 {
         return false;
     }
-    if OFFSET_MOST + OFFSETS_FROM < stored {
+    if OFFSET_MOST + from < stored {
         return false;
     }
-    let end = end_of(mst);
+    let end = end_of(mst, from);
     if end < 64 {
         return false;
     }
@@ -78,13 +81,26 @@ pub fn read_control(mst: &[u8], capacity: usize) -> Control
     if !numbers_right(mst, capacity) {
         return Control::Wrong;
     }
-    if !end_right(mst) {
+    if !end_right(mst, OFFSETS_FROM) {
         return Control::Wrong;
     }
     Control::Right {
         next: Mfn(u32_at(mst, 4)),
-        end: end_of(mst),
+        end: end_of(mst, OFFSETS_FROM),
     }
+}
+
+// Whether the control record is right by the old rule.
+pub fn old_control_right(mst: &[u8], capacity: usize) -> bool
+    ensures { λ r. ⌜ r ≡ oldControlRight (now (mst .entry)) capacity ⌝ }
+{
+    if mst.len() < 64 {
+        return false;
+    }
+    if !numbers_right(mst, capacity) {
+        return false;
+    }
+    end_right(mst, OLD_OFFSETS_FROM)
 }
 
 // Writes NXTMFN.
@@ -114,4 +130,13 @@ pub fn format_mst(mst: &mut [u8])
     word::bytes::fill(mst, 0, n, 0);
     put_next(mst, Mfn(1));
     put_end(mst, 64);
+}
+
+// Counts the offset of an end that is right by the old rule from one.
+pub fn migrate_end(mst: &mut [u8])
+    requires { ⌜ (64 ≤ length (now mst)) × (u16At (now mst) 12 ≤ offsetMost) ⌝ }
+    ensures { λ _. ⌜ now (mst .exit) ≡ migratedMst (now (mst .entry)) ⌝ }
+{
+    let stored = u16_at(mst, 12);
+    word::integer::put_u16(mst, 12, stored + 1)
 }

@@ -11,6 +11,7 @@ ghost use Rattle.views.specs.Fields.{fieldOf, settledFieldOf};
 ghost use Rattle.asking.specs.Listing.{lists, allFieldsOf, allFieldsLeaves, settledAllFieldsOf, settledAllFieldsLeaves};
 ghost use Rattle.asking.specs.State.{nextFreeOf, stateOf, markNumber, deletedNumber};
 ghost use Rattle.soundness.specs.Sound.{checkAnswer};
+ghost use Rattle.migrating.specs.Migrate.{migrateAnswer, migrateLeaves};
 ghost use Rattle.index.specs.Files.{index};
 ghost use Rattle.index.specs.Lookup.{answerOf, blockOf, wordOf, lookupOf};
 ghost use Rattle.index_check.specs.Sound.{indexAnswer};
@@ -256,6 +257,15 @@ pub extern "C" fn isis_revert(mst: &mut [u8], xrf: &mut [u8], mfn: u32) -> u32
     ensures left { λ _. ⌜ store (now (mst .exit)) (now (xrf .exit)) ≡ revertLeaves (store (now (mst .entry)) (now (xrf .entry))) mfn ⌝ }
 {
     number(writing::settling::revert(mst, xrf, Mfn(mfn)))
+}
+
+// Counts the end of an old card from one.
+#[no_mangle]
+pub extern "C" fn isis_migrate(mst: &mut [u8], xrf: &mut [u8]) -> u32
+    ensures answers { λ r. ⌜ r ≡ numberOf (migrateAnswer (store (now (mst .entry)) (now (xrf .entry)))) ⌝ }
+    ensures left { λ _. ⌜ store (now (mst .exit)) (now (xrf .exit)) ≡ migrateLeaves (store (now (mst .entry)) (now (xrf .entry))) ⌝ }
+{
+    number(migrating::migrate::migrate(mst, xrf))
 }
 
 // Checks the whole store.

@@ -1,6 +1,7 @@
 -- On a sound store each call's answer is the ledger's. Row by row the two tables ask the same: 2, 6 and 8 never apply, and the other rows
 -- read the same of the bytes and of the ledger.
 use Prim.Native.Nat.{ℕ, _+_}
+use native.Mathlib.Omega.{arith}
 use mathlib.Core.Path.{_≡_, refl, ap, _∙_}
 use mathlib.Core.Bool.{Bool, true, false, not, _&&_, _||_, cond}
 use mathlib.Core.List.{List}
@@ -17,15 +18,19 @@ use Rattle.record.specs.Fields.{fieldsOf}
 use Rattle.drafts.specs.Bytes.{needFor}
 use Rattle.store.specs.Reading.{mfnInRange, entryFor, isMalformed, isGone, isSettled, isChanged, isNew, recordAt, leaderAt, recordFine, settledRecord, versionFine, shownSettled, currentFields}
 use Rattle.store.specs.Refusals.{fine, bothFine}
+use Rattle.store.specs.Answer.{numberOf}
+use Rattle.store.proofs.Gates.{after-refused}
 use Rattle.store.specs.declared.answer.Answer.{Answer}
 use Rattle.writing.specs.Refusals.{exceeds, formatAnswer, createAnswer, updateAnswer, deleteAnswer, settleAnswer, revertAnswer}
 use Rattle.versions.specs.Written.{updateAppends}
 use Rattle.views.specs.Views.{viewAnswer, settledViewAnswer}
-use Rattle.store.specs.declared.answer.Answer.the-variants.{Done, BadDraft, NoMfn, NoSlot, BadEntry, Gone as GoneAnswer, BadRecord, NoRoom}
+use Rattle.store.specs.declared.answer.Answer.the-variants.{Done, BadControl, BadDraft, NoMfn, NoSlot, BadEntry, Gone as GoneAnswer, BadRecord, NoRoom}
 use Rattle.soundness.specs.Sound.{bodySound, checkAnswer}
+use Rattle.migrating.specs.Migrate.{migrateAnswer, migrateLeaves}
+use Rattle.migrating.proofs.Theorems.{today-refused}
 use Rattle.store.specs.Store.{Store}
 use Rattle.drafts.specs.Draft.{Draft, isRight, fieldsIn}
-use Rattle.ledger.specs.Call.{format, view, viewSettled, create, update, delete, settle, revert, check}
+use Rattle.ledger.specs.Call.{format, view, viewSettled, create, update, delete, settle, revert, check, migrate}
 use Rattle.ledger.specs.Ledger.{gone, held, mfnIn, itemOf, isGoneItem, isSettledMark, isNewMark, settledOr}
 use Rattle.ledger.specs.LedgerAnswers.{overfull, appends, refusalsL, numberL, replyL}
 use Rattle.ledger.specs.LedgerOf.{markingAt, itemFor, ledgerOf}
@@ -168,3 +173,15 @@ module _ (s : Store) (o : Opened s) where
   pub check-answer : bodySound s ≡ true → checkAnswer s ≡ numberL (ledgerOf s) check
   unfolding checkAnswer numberL refusalsL replyL
   check-answer b = rw (o .lengths, o .control, lengths-are s o, b)
+
+  -- a store of today is not migrated
+  pub migrate-refuses : migrateAnswer s ≡ BadControl
+  migrate-refuses = today-refused s (o .lengths) (o .control)
+
+  pub migrate-answer : migrateAnswer s ≡ numberL (ledgerOf s) migrate
+  unfolding numberL refusalsL replyL
+  migrate-answer = rw (migrate-refuses, lengths-are s o)
+
+  pub migrate-left : migrateLeaves s ≡ s
+  unfolding migrateLeaves numberOf
+  migrate-left = after-refused (migrateAnswer s) _ s (λ z. let n : numberOf (migrateAnswer s) ≡ 2 = ap numberOf migrate-refuses in omega arith)

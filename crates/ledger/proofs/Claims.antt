@@ -1,10 +1,24 @@
 -- THE CLAIMS of specs/History hold of every sound store.
+use mathlib.Core.Path.{_≡_, ap}
 use Rattle.store.specs.Store.{Store}
+use Rattle.store.specs.declared.answer.Answer.the-variants.{BadControl}
+use Rattle.ledger.specs.Call.{migrate, plain}
+use Rattle.ledger.specs.StoreRun.{answerS, nextS, resultS}
 use Rattle.ledger.specs.LedgerOf.{SoundStore}
 use Rattle.ledger.specs.History.{Claims}
 use Rattle.ledger.proofs.History.{settled-version, never-settled}
 use Rattle.ledger.proofs.Others.{other-views}
 use Rattle.ledger.proofs.Room.{create-room, update-room, delete-room}
+use Rattle.ledger.proofs.Answering.{migrate-refuses, migrate-left}
+use Rattle.ledger.proofs.Theorem.{opened}
+
+migrate-refused : (s : Store) → SoundStore s → answerS s migrate ≡ plain BadControl
+unfolding answerS resultS
+migrate-refused s h = ap plain (migrate-refuses s (opened s h))
+
+migrate-nothing : (s : Store) → SoundStore s → nextS s migrate ≡ s
+unfolding nextS resultS
+migrate-nothing s h = migrate-left s (opened s h)
 
 pub claims : (s : Store) → SoundStore s → Claims s
 claims s h =
@@ -15,4 +29,6 @@ claims s h =
       create-room = create-room s h;
       update-room = update-room s h;
       delete-room = delete-room s h;
+      migrate-refused = migrate-refused s h;
+      migrate-nothing = migrate-nothing s h;
     }

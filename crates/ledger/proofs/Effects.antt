@@ -19,7 +19,7 @@ use Rattle.store.proofs.Gates.{number-done, after-done, after-refused}
 use Rattle.store.proofs.Lowest.{Applies}
 use Rattle.store.specs.Store.{store}
 use Rattle.drafts.specs.Draft.{Draft, fieldsIn}
-use Rattle.ledger.specs.Call.{Call, format, view, viewSettled, create, update, delete, settle, revert, check}
+use Rattle.ledger.specs.Call.{Call, format, view, viewSettled, create, update, delete, settle, revert, check, migrate}
 use Rattle.ledger.specs.Ledger.{new, Item, gone, held, Ledger, nextMfn, lengthsFine, mfnIn, itemOf, keptMark, isSettledMark, isNewMark}
 use Rattle.ledger.specs.LedgerAnswers.{appends, refusalsL, numberL, replyL}
 use Rattle.ledger.specs.LedgerSteps.{Effect, stays, emptied, itemSet, itemAdded, applied, version, settledAs, effectOf, nextL}
@@ -90,6 +90,7 @@ does L (revert m) d =
     reverts m (known L (revert m) d m (λ e. inl (refl, e)) (λ e. inr (inl (refl, e)))) refl
     (row L (revert m) d NeverSettled (isNewMark (keptMark (itemOf L m))) (λ e. inr (inr (inr (inr (inl (refl, e))))))) _
 does L check d = reads
+does L migrate d = reads
 
 -- what holds where the call is refused, and after what it does where it is done, holds after it
 pub after-call : (P : Ledger → Type 0) (L : Ledger) (c : Call) → P L → (Does L c (effectOf L c) → P (applied L (effectOf L c))) → P (nextL L c)

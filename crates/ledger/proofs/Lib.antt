@@ -21,3 +21,4 @@ pub mod Room
 pub mod SettledView
 pub mod Touched
 pub mod Claims
+pub mod EvenCount

@@ -1,5 +1,5 @@
 -- In a list of calls from format, 1, 2, 6, 7, 8 and 14 never come from document 01's own calls: the lengths stay right, and nothing makes a record
--- gone.
+-- gone. From a migration nothing but 2 comes.
 use Prim.Native.Nat.{ℕ, _+_, _-_, _≤_, _<_}
 use native.Mathlib.Omega.{arith}
 use native.Mathlib.Decide.{ℕ-discrete}
@@ -15,7 +15,7 @@ use Rattle.store.specs.Reading.{lengthsPermitted}
 use Rattle.store.specs.declared.answer.Answer.{Answer}
 use Rattle.store.specs.declared.answer.Answer.the-variants.{Done, NoMfn}
 use Rattle.store.specs.Store.{store}
-use Rattle.ledger.specs.Call.{Call, format, view, viewSettled, create, update, delete, settle, revert, check, Outcome}
+use Rattle.ledger.specs.Call.{Call, format, view, viewSettled, create, update, delete, settle, revert, check, migrate, Outcome}
 use Rattle.ledger.specs.Ledger.{new, Item, gone, held, Ledger, nextMfn, empty, lengthsFine, mfnIn, itemOf, isGoneItem}
 use Rattle.ledger.specs.LedgerAnswers.{measured, named, refusalsL, numberL, answerL, replyL}
 use Rattle.ledger.specs.LedgerSteps.{Effect, itemSet, itemAdded, applied, effectOf, nextL, answersL}
@@ -76,6 +76,7 @@ module _ (L : Ledger) (w : Whole L) where
   rows-may (settle m) = no-length (no-gone m refl (may refl (no-row refl)))
   rows-may (revert m) = no-length (no-gone m refl (may refl (may refl (no-row refl))))
   rows-may check = no-length (no-row refl)
+  rows-may migrate = no-length (row (λ e. refl) (λ e. absurd (false-true (sym e))))
 
   answer-may : (c : Call) → MayCome c (answerL L c .answer)
   unfolding numberL
@@ -128,7 +129,7 @@ permitted : (mst xrf : List ℕ) → lengthsPermitted (store mst xrf) ≡ true �
 unfolding lengthsPermitted lengthsFine empty
 permitted mst xrf h = h
 
--- IN A LIST FROM FORMAT, 1, 2, 6, 7, 8 AND 14 NEVER COME: the library's own answers
+-- IN A LIST FROM FORMAT, 1, 2, 6, 7, 8 AND 14 NEVER COME from document 01's own calls: the library's own answers
 pub never-come : (mst xrf : List ℕ) → lengthsPermitted (store mst xrf) ≡ true → NeverCome mst xrf
 never-come mst xrf h cs =
     rw (demand-3 mst xrf h cs .answers)

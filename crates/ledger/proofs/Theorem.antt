@@ -21,7 +21,7 @@ use Rattle.soundness.proofs.SoundEntries.{Sound, stands, body-sound, EntryStand
 use Rattle.soundness.proofs.Asked.{create-asked, update-asked, delete-asked, settle-asked, revert-asked}
 use Rattle.store.specs.Store.{Store, store}
 use Rattle.drafts.specs.Draft.{Draft}
-use Rattle.ledger.specs.Call.{Call, format, view, viewSettled, create, update, delete, settle, revert, check, outcome, plain}
+use Rattle.ledger.specs.Call.{Call, format, view, viewSettled, create, update, delete, settle, revert, check, migrate, outcome, plain}
 use Rattle.ledger.specs.Ledger.{Ledger, nextMfn, empty}
 use Rattle.ledger.specs.LedgerAnswers.{numberL, givesL, outcomeOf, answerL, replyL}
 use Rattle.ledger.specs.LedgerSteps.{stays, applied, effectOf, nextL, answersL, afterL}
@@ -29,7 +29,7 @@ use Rattle.ledger.specs.StoreRun.{answerS, nextS, answersS, afterS, resu
 use Rattle.ledger.specs.LedgerOf.{ledgerOf, SoundStore}
 use Rattle.ledger.specs.Demand3.{Kept, Agree, FromSound, Demand3}
 use Rattle.ledger.proofs.Reading.{Opened, Seen, absent, physically, present, next-is}
-use Rattle.ledger.proofs.Answering.{format-answer, create-answer, update-answer, delete-answer, settle-answer, revert-answer, check-answer}
+use Rattle.ledger.proofs.Answering.{format-answer, create-answer, update-answer, delete-answer, settle-answer, revert-answer, check-answer, migrate-answer, migrate-left}
 use Rattle.ledger.proofs.Viewing.{view-outcome, settled-view-outcome}
 use Rattle.ledger.proofs.Formatting.{formatted, formatted-sound, formatted-ledger, format-leaves}
 use Rattle.ledger.proofs.Creating.{create-left}
@@ -109,6 +109,7 @@ module _ (t : Store) (h : SoundStore t) where
       written (revert m) (revertAnswer t m) _ (revert-answer t opened m (see m)) refl refl
       (λ e. let a = revert-asked s m e in revert-left (t .mst) (t .xrf) s m opened (a .here) (a .changed))
   step check = asked check (ap plain (check-answer t opened (body-sound (t .mst) (t .xrf) s))) refl refl
+  step migrate = asked migrate (ap plain (migrate-answer t opened)) (migrate-left t opened) refl
 
   -- what the control record says
   end-is : endOf (t .mst) ≡ ledgerOf t .end

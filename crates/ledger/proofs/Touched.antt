@@ -13,11 +13,12 @@ use Rattle.writing.specs.Refusals.{createAnswer, updateAnswer, deleteAnswer, se
 use Rattle.writing.specs.Calls.{createLeaves, updateLeaves, deleteLeaves, settleLeaves, revertLeaves}
 use Rattle.soundness.specs.Touching.{MayChange, TouchesOnly}
 use Rattle.soundness.proofs.Touching.{calls-touch-only, nothing-touched}
-use Rattle.ledger.specs.Call.{format, view, viewSettled, create, update, delete, settle, revert, check}
+use Rattle.ledger.specs.Call.{format, view, viewSettled, create, update, delete, settle, revert, check, migrate}
 use Rattle.ledger.specs.StoreRun.{nextS, resultS}
 use Rattle.ledger.specs.LedgerSteps.{effectOf}
 use Rattle.ledger.specs.Touched.{Touches}
 use Rattle.ledger.proofs.Reading.{next-is}
+use Rattle.ledger.proofs.Answering.{migrate-left}
 use Rattle.ledger.proofs.Theorem.{opened}
 
 same-touched : (s s′ : Store) (m : ℕ) → s′ ≡ s → TouchesOnly s s′ m
@@ -38,3 +39,4 @@ touches s (delete m) sound other = either s _ (deleteAnswer s m) m (calls-touch-
 touches s (settle m) sound other = either s _ (settleAnswer s m) m (calls-touch-only s sound .settle m)
 touches s (revert m) sound other = either s _ (revertAnswer s m) m (calls-touch-only s sound .revert m)
 touches s check sound other = same-touched s s 0 refl
+touches s migrate sound other = same-touched s _ 0 (migrate-left s (opened s sound))

@@ -15,6 +15,8 @@ pub data Call : Type 0 where
   settle : ℕ → Call
   revert : ℕ → Call
   check : Call
+  -- request C-12
+  migrate : Call
 
 -- what a call answers
 pub record Outcome : Type 0 where

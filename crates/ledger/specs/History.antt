@@ -12,10 +12,10 @@ use Rattle.drafts.specs.Bytes.{needFor}
 use Rattle.store.specs.Answer.{numberOf, Refusal}
 use Rattle.store.specs.Reading.{mfnInRange, entryFor, placeFor}
 use Rattle.store.specs.declared.answer.Answer.{Answer}
-use Rattle.store.specs.declared.answer.Answer.the-variants.{Done, NeverSettled, NoRoom}
+use Rattle.store.specs.declared.answer.Answer.the-variants.{Done, BadControl, NeverSettled, NoRoom}
 use Rattle.store.specs.Store.{Store, store}
 use Rattle.drafts.specs.Draft.{Draft, fieldsIn}
-use Rattle.ledger.specs.Call.{Call, format, view, viewSettled, create, update, delete, settle, revert, check, Outcome, plain}
+use Rattle.ledger.specs.Call.{Call, format, view, viewSettled, create, update, delete, settle, revert, check, migrate, Outcome, plain}
 use Rattle.ledger.specs.Ledger.{itemOf, keptFields, keptMark, isSettledMark}
 use Rattle.ledger.specs.LedgerAnswers.{appends, refusalsL}
 use Rattle.ledger.specs.LedgerSteps.{touches, effectOf}
@@ -105,6 +105,10 @@ RoomOf s c atEnd need = RoomRule (answerS s c .answer) (refusalsL (ledgerOf s) c
 abbrev pub neverOwn : List ℕ
 neverOwn = 1 ∷ 2 ∷ 6 ∷ 7 ∷ 8 ∷ 14 ∷ []
 
+-- and for a migration, every number but 2
+abbrev pub neverMigrating : List ℕ
+neverMigrating = 0 ∷ 1 ∷ 3 ∷ 4 ∷ 5 ∷ 6 ∷ 7 ∷ 8 ∷ 9 ∷ 10 ∷ 11 ∷ 12 ∷ 13 ∷ 14 ∷ 17 ∷ []
+
 abbrev pub neverFrom : Call → List ℕ
 neverFrom format = neverOwn
 neverFrom (view m tag occ) = neverOwn
@@ -115,6 +119,7 @@ neverFrom (delete m) = neverOwn
 neverFrom (settle m) = neverOwn
 neverFrom (revert m) = neverOwn
 neverFrom check = neverOwn
+neverFrom migrate = neverMigrating
 
 abbrev pub among : ℕ → List ℕ → Bool
 among n [] = false
@@ -149,3 +154,6 @@ pub record Claims (s : Store) : Type 0 where
   pub create-room : (d : Draft) → RoomOf s (create d) true (needFor (fieldsIn d))
   pub update-room : (m : ℕ) (d : Draft) → RoomOf s (update m d) (appends (keptMark (itemOf (ledgerOf s) m)) (needFor (fieldsIn d))) (needFor (fieldsIn d))
   pub delete-room : (m : ℕ) → RoomOf s (delete m) (isSettledMark (keptMark (itemOf (ledgerOf s) m))) (needFor (keptFields (itemOf (ledgerOf s) m)))
+  -- a migration answers 2 and changes nothing
+  pub migrate-refused : answerS s migrate ≡ plain BadControl
+  pub migrate-nothing : nextS s migrate ≡ s

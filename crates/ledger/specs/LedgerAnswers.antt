@@ -11,9 +11,9 @@ use Rattle.record.specs.Fields.{fieldNamed}
 use Rattle.drafts.specs.Bytes.{needFor}
 use Rattle.store.specs.Answer.{Refusal, refuse, lowest, after}
 use Rattle.store.specs.declared.answer.Answer.{Answer}
-use Rattle.store.specs.declared.answer.Answer.the-variants.{BadLength, BadDraft, NoMfn, NoSlot, Gone, Deleted, NotPending, NeverSettled, NoField, NoRoom}
+use Rattle.store.specs.declared.answer.Answer.the-variants.{BadLength, BadControl, BadDraft, NoMfn, NoSlot, Gone, Deleted, NotPending, NeverSettled, NoField, NoRoom}
 use Rattle.drafts.specs.Draft.{isRight, fieldsIn}
-use Rattle.ledger.specs.Call.{Call, format, view, viewSettled, create, update, delete, settle, revert, check, Outcome, outcome, plain}
+use Rattle.ledger.specs.Call.{Call, format, view, viewSettled, create, update, delete, settle, revert, check, migrate, Outcome, outcome, plain}
 use Rattle.ledger.specs.Ledger.{Marking, Ledger, nextMfn, lengthsFine, mfnIn, itemOf, isGoneItem, keptFields, keptDeleted, keptMark, isSettledMark, isNewMark, keptLength, settledFields}
 
 -- ---- the rows that calls share
@@ -115,6 +115,8 @@ replyL L (revert m) =
     ∷ [])))
     nothing
 replyL L check = reply (measured L []) nothing
+-- every store of the list is one of today
+replyL L migrate = reply (measured L (refuse BadControl true ∷ [])) nothing
 
 unfoldable pub refusalsL : Ledger → Call → List Refusal
 refusalsL L c = replyL L c .refusals

@@ -10,7 +10,7 @@ use Rattle.record.specs.Fields.{Field}
 use Rattle.drafts.specs.Bytes.{needFor}
 use Rattle.store.specs.Answer.{after}
 use Rattle.drafts.specs.Draft.{fieldsIn}
-use Rattle.ledger.specs.Call.{Call, format, view, viewSettled, create, update, delete, settle, revert, check, Outcome}
+use Rattle.ledger.specs.Call.{Call, format, view, viewSettled, create, update, delete, settle, revert, check, migrate, Outcome}
 use Rattle.ledger.specs.Ledger.{Marking, settled, new, changed, Item, held, Ledger, nextMfn, empty, itemOf, keptFields, keptDeleted, keptMark, isSettledMark, keptLength, settledFields}
 use Rattle.ledger.specs.LedgerAnswers.{appends, numberL, answerL}
 
@@ -88,6 +88,7 @@ effectOf L (settle m) = settledAs L m (keptFields (itemOf L m)) (keptDeleted (it
 -- the settled fields become current, live, mark settled
 effectOf L (revert m) = settledAs L m (settledFields (itemOf L m)) false
 effectOf L check = stays
+effectOf L migrate = stays
 
 -- a refused call changes nothing
 unfoldable pub nextL : Ledger → Call → Ledger

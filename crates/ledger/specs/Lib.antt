@@ -7,3 +7,4 @@ pub mod LedgerOf
 pub mod Demand3
 pub mod History
 pub mod Touched
+pub mod EvenCount

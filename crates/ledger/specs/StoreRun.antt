@@ -8,8 +8,9 @@ use Rattle.views.specs.Views.{viewOf, settledViewOf, shownBytes}
 use Rattle.writing.specs.declared.create.Created.{Created}
 use Rattle.views.specs.declared.views.Shown.{Shown}
 use Rattle.soundness.specs.Sound.{checkAnswer}
+use Rattle.migrating.specs.Migrate.{migrateAnswer, migrateLeaves}
 use Rattle.store.specs.Store.{Store}
-use Rattle.ledger.specs.Call.{Call, format, view, viewSettled, create, update, delete, settle, revert, check, Outcome, outcome, plain}
+use Rattle.ledger.specs.Call.{Call, format, view, viewSettled, create, update, delete, settle, revert, check, migrate, Outcome, outcome, plain}
 
 -- what a view shows, and what a create returns
 abbrev pub shownOutcome : List ℕ → Shown → Outcome
@@ -36,6 +37,7 @@ resultS s (delete m) = result (plain (deleteAnswer s m)) (deleteLeaves s m)
 resultS s (settle m) = result (plain (settleAnswer s m)) (settleLeaves s m)
 resultS s (revert m) = result (plain (revertAnswer s m)) (revertLeaves s m)
 resultS s check = result (plain (checkAnswer s)) s
+resultS s migrate = result (plain (migrateAnswer s)) (migrateLeaves s)
 
 unfoldable pub answerS : Store → Call → Outcome
 answerS s c = resultS s c .outcome

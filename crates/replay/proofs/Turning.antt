@@ -29,6 +29,7 @@ use Rattle.layout.specs.declared.sizes.Mfn.{Mfn}
 use Rattle.layout.specs.declared.sizes.Tag.{Tag}
 use Rattle.record.specs.declared.fields.Found.{Found}
 use Rattle.soundness.specs.Sound.{checkAnswer}
+use Rattle.migrating.specs.Migrate.{migrateAnswer, migrateLeaves}
 use Rattle.store.specs.Store.{Store, store}
 use Rattle.ledger.specs.Call.{Call, Outcome}
 use Rattle.ledger.specs.StoreRun.{shownOutcome, answerS, nextS, resultS}
@@ -42,7 +43,7 @@ use Rattle.script.specs.declared.calls.Counts.{Counts}
 use Rattle.script.specs.declared.calls.Reading.{Reading}
 use Rattle.script.specs.declared.calls.Reading.the-variants.{View, Settled, Check}
 use Rattle.script.specs.declared.calls.Writing.{Writing}
-use Rattle.script.specs.declared.calls.Writing.the-variants.{Format, Create, Update, Delete, Settle, Revert}
+use Rattle.script.specs.declared.calls.Writing.the-variants.{Format, Create, Update, Delete, Settle, Revert, Migrate}
 use Rattle.script.specs.declared.calls.Op.{Op}
 use Rattle.script.specs.declared.calls.Op.the-variants.{Asks, Writes}
 use Rattle.script.specs.declared.calls.Op.the-variants as op
@@ -128,7 +129,11 @@ module _ (s s′ : Store) (d : Draft) (w : Writing) (r : Created) where
     unfolding writingCall answerS nextS resultS
     revert-writes m k e f = record { outcome = rw (k, i, e); left = rw (k, f) }
 
-pub ruleset written-answers = (format-writes, create-writes, update-writes, delete-writes, settle-writes, revert-writes)
+    pub migrate-writes : w ≡ Migrate → a ≡ migrateAnswer s → s′ ≡ migrateLeaves s → Wrote s (writingCall d w) r s′
+    unfolding writingCall answerS nextS resultS
+    migrate-writes k e f = record { outcome = rw (k, i, e); left = rw (k, f) }
+
+pub ruleset written-answers = (format-writes, create-writes, update-writes, delete-writes, settle-writes, revert-writes, migrate-writes)
 
 -- the parts of three lists that are lent as a draft are the draft at the cursor
 pub written-at : (s s′ : Store) (tags lens bytes : List ℕ) (at : Cursor) (n : Counts) (w : Writing) (r : Created)

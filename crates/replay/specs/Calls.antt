@@ -6,14 +6,14 @@ use mathlib.Core.Option.{Option, some, none}
 use lib.Dec.{leb}
 use lib.ListN.{length, take, drop}
 use Rattle.drafts.specs.Draft.{Draft, draft}
-use Rattle.ledger.specs.Call.{Call, format, view, viewSettled, create, update, delete, settle, revert, check}
+use Rattle.ledger.specs.Call.{Call, format, view, viewSettled, create, update, delete, settle, revert, check, migrate}
 use Rattle.script.specs.Ops.{callSize, counts, takenBy, opIn}
 use Rattle.script.specs.declared.calls.Counts.{Counts}
 use Rattle.script.specs.declared.calls.Reading.{Reading}
 use Rattle.script.specs.declared.calls.Writing.{Writing}
 use Rattle.script.specs.declared.calls.Op.{Op}
 use Rattle.script.specs.declared.calls.Reading.the-variants.{View, Settled, Check}
-use Rattle.script.specs.declared.calls.Writing.the-variants.{Format, Create, Update, Delete, Settle, Revert}
+use Rattle.script.specs.declared.calls.Writing.the-variants.{Format, Create, Update, Delete, Settle, Revert, Migrate}
 use Rattle.script.specs.declared.calls.Op.the-variants.{Asks, Writes, Malformed}
 
 -- what is left of a list of calls: the numbers, and the drafts' tags, lengths and data
@@ -41,6 +41,7 @@ writingCall d (Update m) = update (m .0) d
 writingCall d (Delete m) = delete (m .0)
 writingCall d (Settle m) = settle (m .0)
 writingCall d (Revert m) = revert (m .0)
+writingCall d Migrate = migrate
 
 -- so much from the front of the three lists
 abbrev pub frontDraft : List ℕ → List ℕ → List ℕ → Counts → Draft

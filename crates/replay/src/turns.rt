@@ -89,6 +89,7 @@ fn write(
         Writing::Delete(m) => without_mfn(updating::changes::delete(mst, xrf, m)),
         Writing::Settle(m) => without_mfn(writing::settling::settle(mst, xrf, m)),
         Writing::Revert(m) => without_mfn(writing::settling::revert(mst, xrf, m)),
+        Writing::Migrate => without_mfn(migrating::migrate::migrate(mst, xrf)),
     }
 }
 

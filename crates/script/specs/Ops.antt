@@ -11,6 +11,7 @@
 --   settle             6        MFN
 --   revert             7        MFN
 --   check              8
+--   migrate            9
 use Prim.Native.Nat.{ℕ}
 use mathlib.Core.Bool.{Bool, true, false, _&&_, cond}
 use mathlib.Core.List.{List}
@@ -21,7 +22,7 @@ use Rattle.layout.specs.declared.sizes.Tag.{Tag}
 use Rattle.script.specs.declared.calls.Counts.{Counts}
 use Rattle.script.specs.declared.calls.Op.{Op}
 use Rattle.script.specs.declared.calls.Reading.the-variants.{View, Settled, Check}
-use Rattle.script.specs.declared.calls.Writing.the-variants.{Format, Create, Update, Delete, Settle, Revert}
+use Rattle.script.specs.declared.calls.Writing.the-variants.{Format, Create, Update, Delete, Settle, Revert, Migrate}
 use Rattle.script.specs.declared.calls.Op.the-variants.{Asks, Writes, Malformed}
 
 -- the numbers of a call
@@ -63,7 +64,8 @@ opNamed call m x y z =
     (cond (eqb call 6) (Writes (Settle (mfnOf m)) noDraft)
     (cond (eqb call 7) (Writes (Revert (mfnOf m)) noDraft)
     (cond (eqb call 8) (Asks Check)
-    Malformed))))))))
+    (cond (eqb call 9) (Writes Migrate noDraft)
+    Malformed)))))))))
 
 -- the draft that it takes
 abbrev pub takenBy : Op → Counts

@@ -31,6 +31,7 @@ pub enum Writing {
     Delete(Mfn),
     Settle(Mfn),
     Revert(Mfn),
+    Migrate,
 }
 
 // The next call of a list. One that may write takes the next of each of the three lists of drafts.
@@ -106,6 +107,7 @@ fn op_named(call: u32, m: u32, x: u32, y: u32, z: u32) -> Op
         6 => Op::Writes(Writing::Settle(Mfn(m)), none),
         7 => Op::Writes(Writing::Revert(Mfn(m)), none),
         8 => Op::Asks(Reading::Check),
+        9 => Op::Writes(Writing::Migrate, none),
         _ => Op::Malformed,
     }
 }

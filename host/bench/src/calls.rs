@@ -45,6 +45,7 @@ pub fn run(task: &Task) {
     drafts(task, records, &new, &settled, &eight);
     deletes(task, records, &new, &settled);
     settling(task, records, &new, &changed);
+    migrations(task, records, &settled);
     forty_fields(task);
 }
 
@@ -233,6 +234,24 @@ fn settling(task: &Task, records: usize, new: &Buffers, changed: &Buffers) {
         &done("revert", "revert", changed, records),
         |card, mfn| number(card.revert(mfn)),
         both_ways!(|mst, xrf, mfn| plain::revert(mst, xrf, mfn)),
+    );
+}
+
+/// An old card is migrated; each call makes it old again first, by one byte.
+fn migrations(task: &Task, records: usize, settled: &Buffers) {
+    let old = RefCell::new(Buffers::formatted(1, 64, 1));
+    task.measure(
+        &done("migrate an old card", "migrate", settled, records),
+        |_, _| {
+            let Buffers { mst, xrf } = &mut *old.borrow_mut();
+            mst[12] = 64;
+            number(Card::over(mst, xrf).migrate())
+        },
+        both_ways!(|_mst, _xrf, _| {
+            let Buffers { mst, xrf } = &mut *old.borrow_mut();
+            mst[12] = 64;
+            plain::migrate(mst, xrf)
+        }),
     );
 }
 

@@ -204,7 +204,7 @@ fn drafts() {
 /// A function that names an MFN and may write.
 type Act = unsafe extern "C" fn(*mut u8, usize, *mut u8, usize, u32) -> u32;
 
-/// Calls that name an MFN, and format.
+/// Calls that name an MFN, format, and a migration.
 fn acts() {
     let (new, settled, changed) = (
         arguments(Kind::New),
@@ -233,6 +233,14 @@ fn acts() {
         black_box(unsafe { raw::isis_format(new.0, new.1, new.2, new.3) });
     };
     report("format", &mut [&mut format]);
+    let mut migrate = || {
+        // SAFETY: as in `reading`; the format before left a permitted MST, which is made old here.
+        black_box(unsafe {
+            *new.0.add(12) = 64;
+            raw::isis_migrate(new.0, new.1, new.2, new.3)
+        });
+    };
+    report("migrate", &mut [&mut migrate]);
 }
 
 /// The calls on an index whose ways have as many nodes as they may have.

@@ -59,13 +59,14 @@ static void update(void) { answer = isis_update(CARD, 7, DRAFT); }
 static void delete(void) { answer = isis_delete(CARD, 7); }
 static void settle(void) { answer = isis_settle(CARD, 7); }
 static void revert(void) { answer = isis_revert(CARD, 7); }
+static void migrate(void) { answer = isis_migrate(CARD); }
 static void check(void) { answer = isis_check(CARD); }
 static void lookup_short(void) { answer = isis_lookup(INDEX, SLICE(SHORT_TERM), &block, &word); }
 static void lookup_long(void) { answer = isis_lookup(INDEX, SLICE(LONG_TERM), &block, &word); }
 static void check_index(void) { answer = isis_check_index(INDEX); }
 
-/* A card of RECORDS records of FIELDS fields, in one of three states. */
-enum kind { NEW, SETTLED, CHANGED };
+/* A card of RECORDS records of FIELDS fields, in one of three states, or settled and as it was written before isis.h 2.0. */
+enum kind { NEW, SETTLED, CHANGED, OLD };
 
 static void make_card(enum kind kind)
 {
@@ -77,6 +78,8 @@ static void make_card(enum kind kind)
     }
     if (kind == CHANGED)
         update();
+    if (kind == OLD)
+        mst[12]--;
 }
 
 static const struct {
@@ -101,6 +104,7 @@ static const struct {
     { "settle, a new record", NEW, settle },
     { "settle, a changed record", CHANGED, settle },
     { "revert", CHANGED, revert },
+    { "migrate an old card", OLD, migrate },
     { "format, 32 KB", NEW, format },
     { "check, 50 records", SETTLED, check },
     { "lookup, 9 bytes, in 1000 terms", NEW, lookup_short },

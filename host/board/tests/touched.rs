@@ -69,6 +69,7 @@ fn may_touch(mst: &[u8], xrf: &[u8], call: &Call) -> (Parts, Parts) {
             (only(at + 6..at + 12), only(entry(*mfn as usize)))
         }
         Call::Revert(mfn) => (Vec::new(), only(entry(*mfn as usize))),
+        Call::Migrate => (only(12..14), Vec::new()),
         _ => (Vec::new(), Vec::new()),
     }
 }
@@ -113,7 +114,7 @@ fn a_call_changes_only_the_bytes_that_the_header_names() {
         drive_subject(&mut watched, family, 20_000, first_seed()).unwrap();
     }
     for (kind, name) in Call::NAMES.iter().enumerate() {
-        let writes = matches!(kind, 0 | 3..=7);
+        let writes = matches!(kind, 0 | 3..=7 | 9);
         assert_eq!(watched.changed[kind] > 0, writes, "{name}");
     }
 }

@@ -1,24 +1,33 @@
 //! The commands that make one call of the library and write the files back.
 
 use crate::arguments::Arguments;
-use crate::check::{About, reason};
+use crate::check::{About, not_migrated, refused};
 use crate::fields::Given;
 use crate::files::{Files, two_files};
 use crate::layout::{BLOCK, MST_BLOCKS, XRF_BLOCKS};
 use crate::say::print;
 use crate::trouble::Trouble;
-use isis::{Answer, Card};
+use isis::{Answer, Card, Refusal};
 use std::path::PathBuf;
 
 /// Makes a call on the card and, if it was accepted, writes the files back.
 fn call<T>(
-    mut files: Files,
+    files: Files,
     about: About,
     call: impl FnOnce(&mut Card) -> Answer<T>,
 ) -> Result<T, Trouble> {
+    made(files, call, |refusal, files| refused(refusal, files, about))
+}
+
+/// The same, where a refusal has words of its own.
+fn made<T>(
+    mut files: Files,
+    call: impl FnOnce(&mut Card) -> Answer<T>,
+    refused: impl FnOnce(Refusal, &Files) -> Trouble,
+) -> Result<T, Trouble> {
     let (mst_before, xrf_before) = (files.mst.clone(), files.xrf.clone());
     match call(&mut Card::over(&mut files.mst, &mut files.xrf)) {
-        Err(refusal) => Err(Trouble::Refused(refusal, reason(refusal, &files, about))),
+        Err(refusal) => Err(refused(refusal, &files)),
         Ok(value) => {
             files.write_back(&mst_before, &xrf_before)?;
             Ok(value)
@@ -69,6 +78,14 @@ fn make(paths: (PathBuf, PathBuf), mst_blocks: usize, xrf_blocks: usize) -> Resu
         .format()
         .map_err(|refusal| Trouble::Refused(refusal, String::new()))?;
     files.make()
+}
+
+/// `card migrate`.
+pub fn migrate(mut arguments: Arguments) -> Result<(), Trouble> {
+    let paths = arguments.files()?;
+    arguments.none_left()?;
+    made(Files::read(paths)?, |card| card.migrate(), not_migrated)?;
+    print("migrated: NXTMFP counts from one\n")
 }
 
 /// `card create`.

@@ -5,11 +5,11 @@ use crate::arguments::Arguments;
 use crate::faults;
 use crate::fields::Given;
 use crate::files::Files;
-use crate::layout::{BLOCK, LAST, MST_BLOCKS, Store, XRF_BLOCKS, long, short, slots};
+use crate::layout::{BLOCK, COUNT_FROM, LAST, MST_BLOCKS, Store, XRF_BLOCKS, long, short, slots};
 use crate::progress::with_progress;
 use crate::say::print;
 use crate::trouble::Trouble;
-use isis::Refusal;
+use isis::{Card, Refusal};
 
 /// At most so many faults are listed.
 const LISTED: usize = 20;
@@ -30,30 +30,61 @@ pub fn check(mut arguments: Arguments) -> Result<(), Trouble> {
     let files = Files::read(paths)?;
     match with_progress("checking", || files.card().check()) {
         Ok(()) => print("sound\n"),
-        Err(refusal) => {
-            let words = with_progress("looking for what is wrong", || {
-                reason(refusal, &files, About::default())
-            });
-            Err(Trouble::Refused(refusal, words))
-        }
+        Err(refusal) => Err(with_progress("looking for what is wrong", || {
+            refused(refusal, &files, About::default())
+        })),
     }
 }
 
 /// The card, if the library lets it through its answers 1 and 2.
 pub fn opened(files: &Files) -> Result<Store<'_>, Trouble> {
-    files.store().map_err(|refusal| {
-        let words = reason(refusal, files, About::default());
-        Trouble::Refused(refusal, words)
-    })
+    files
+        .store()
+        .map_err(|refusal| refused(refusal, files, About::default()))
+}
+
+/// A refusal, with what was found behind it; of an old card, that it is one and what to do.
+pub fn refused(refusal: Refusal, files: &Files, about: About) -> Trouble {
+    if refusal == Refusal::BadControl && is_old(files) {
+        let path = files.mst_path.display();
+        let words = format!(
+            "{path}: this is an old card, whose NXTMFP does not count from one; \
+             'card migrate MST XRF' brings it up to date"
+        );
+        return Trouble::Instead(refusal, words);
+    }
+    Trouble::Refused(refusal, reason(refusal, files, about))
+}
+
+/// Whether the library would migrate the card.
+fn is_old(files: &Files) -> bool {
+    let (mut mst, mut xrf) = (files.mst.clone(), files.xrf.clone());
+    Card::over(&mut mst, &mut xrf).migrate().is_ok()
+}
+
+/// A refusal of a migration: there is nothing to do, or the card is not right by the old rule.
+pub fn not_migrated(refusal: Refusal, files: &Files) -> Trouble {
+    let path = files.mst_path.display();
+    match (refusal, files.store()) {
+        (Refusal::BadControl, Ok(_)) => {
+            let words = format!("{path}: this is no old card, and nothing is to be done");
+            Trouble::Instead(refusal, words)
+        }
+        (Refusal::BadControl, Err(_)) => {
+            let words = control(files, 0).unwrap_or_default();
+            Trouble::Refused(refusal, format!("{path}: {words}"))
+        }
+        _ => refused(refusal, files, About::default()),
+    }
 }
 
 /// What was found behind a refusal, in words; empty if the number says it all.
-pub fn reason(refusal: Refusal, files: &Files, about: About) -> String {
+fn reason(refusal: Refusal, files: &Files, about: About) -> String {
     match (refusal, files.store()) {
         (Refusal::BadLength, _) => lengths(files),
         (Refusal::BadControl, _) => {
             let path = files.mst_path.display();
-            control(files).map_or(String::new(), |words| format!("{path}: {words}"))
+            control(files, COUNT_FROM).map_or(String::new(), |words| format!("{path}: {words}"))
         }
         (Refusal::BadDraft, _) => about.given.map(draft).unwrap_or_default(),
         (_, Ok(store)) => in_store(refusal, &store, about),
@@ -121,21 +152,25 @@ pub fn is_permitted(len: usize, most: usize) -> bool {
     len.is_multiple_of(BLOCK) && (1..=most).contains(&(len / BLOCK))
 }
 
-/// What is wrong with the control record of files whose lengths are permitted.
-fn control(files: &Files) -> Option<String> {
+/// What is wrong with the control record of files whose lengths are permitted, where NXTMFP
+/// counts the end's offset from a number.
+fn control(files: &Files, from: usize) -> Option<String> {
     let (mst, most) = (&files.mst, slots(&files.xrf) as i64 + 1);
     let (ctlmfn, next, kind) = (long(mst, 0), long(mst, 4), short(mst, 14));
-    let (block, offset) = (long(mst, 8), short(mst, 12));
-    let end = (i64::from(block) - 1) * BLOCK as i64 + offset as i64;
-    let in_file = (64..=mst.len() as i64).contains(&end);
+    let (block, count) = (long(mst, 8), short(mst, 12));
+    let offset = count.checked_sub(from);
+    let offset = offset.filter(|offset| offset % 2 == 0 && *offset <= LAST);
+    let end = offset.map(|offset| (i64::from(block) - 1) * BLOCK as i64 + offset as i64);
+    let in_file = end.is_some_and(|end| (64..=mst.len() as i64).contains(&end));
     if ctlmfn != 0 {
         Some(format!("CTLMFN (MST byte 0) is {ctlmfn}, not 0"))
     } else if !(1..=most).contains(&next.into()) {
         Some(format!("NXTMFN (MST byte 4) is {next}, not in 1 to {most}"))
-    } else if offset % 2 == 1 || offset > LAST || !in_file {
+    } else if !in_file {
+        let counted = if from == 0 { "" } else { ", plus 1," };
         Some(format!(
-            "the end, NXTMFB {block} and NXTMFP {offset} (MST bytes 8 and 12), is not \
-             an even offset up to 498 at an address from 64 to the file's length"
+            "the end, NXTMFB {block} and NXTMFP {count} (MST bytes 8 and 12), is not \
+             an even offset up to 498{counted} at an address from 64 to the file's length"
         ))
     } else if kind != 0 {
         Some(format!("MFTYPE (MST byte 14) is {kind}, not 0"))

@@ -54,7 +54,7 @@ in place of the fields makes a record without any.
 ";
 
 /// Every command.
-pub const VERBS: [Verb; 12] = [
+pub const VERBS: [Verb; 13] = [
     Verb {
         name: "format",
         run: calls::format,
@@ -147,6 +147,17 @@ pub const VERBS: [Verb; 12] = [
         more: "Without SVG, or with -, the picture goes to standard output. A link is followed; what is no plain\n\
                file is written to as it is. A file that is there already is replaced if it is such a picture,\n\
                any other with --replace, and a file of the card never.\n",
+        refusals: &[1, 2],
+    },
+    Verb {
+        name: "migrate",
+        run: calls::migrate,
+        on: CARD,
+        forms: &[("", "bring an old card up to date")],
+        more: "Cards of earlier versions have the offset of the end in NXTMFP, MST bytes 12 and 13; now the offset\n\
+               plus 1 stands there, as desktop programs write it. A migration adds the 1 and changes nothing else.\n\
+               An old card is refused by every other command but format, with a word about this one; a card\n\
+               that is no old one is refused here.\n",
         refusals: &[1, 2],
     },
     Verb {

@@ -16,6 +16,8 @@ pub const SLOTS: usize = 127;
 pub const FIRST: usize = 64;
 /// The highest offset of a record in its block.
 pub const LAST: usize = 498;
+/// What NXTMFP holds of an end at offset 0.
+pub const COUNT_FROM: usize = 1;
 /// Bytes of a leader, the shortest record.
 pub const LEADER: usize = 18;
 /// Bytes of a field's part of the directory.

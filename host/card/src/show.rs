@@ -3,7 +3,7 @@
 //! library.
 
 use crate::arguments::Arguments;
-use crate::check::{About, opened, reason};
+use crate::check::{About, opened, refused};
 use crate::files::Files;
 use crate::printable::printable;
 use crate::say::{Lines, tell};
@@ -40,7 +40,7 @@ fn show_one(files: &Files, mfn: u32, out: &mut Lines) -> Result<(), Trouble> {
             mfn: Some(mfn),
             given: None,
         };
-        Trouble::Refused(refusal, reason(refusal, files, about))
+        refused(refusal, files, about)
     })
 }
 

@@ -15,6 +15,8 @@ pub enum Trouble {
     Output(String),
     /// The library refused the call; the words say what was found.
     Refused(Refusal, String),
+    /// The same, in words that say all of it: the refusal's own would mislead.
+    Instead(Refusal, String),
 }
 
 /// The exit statuses that are no answer of the library, with words.
@@ -31,7 +33,7 @@ impl Trouble {
             Trouble::Usage(_) => 64,
             Trouble::File(_) => 66,
             Trouble::Output(_) => 74,
-            Trouble::Refused(refusal, _) => refusal.number() as u8,
+            Trouble::Refused(refusal, _) | Trouble::Instead(refusal, _) => refusal.number() as u8,
         })
     }
 }
@@ -41,6 +43,9 @@ impl fmt::Display for Trouble {
         match self {
             Trouble::Usage(words) | Trouble::File(words) | Trouble::Output(words) => {
                 f.write_str(words)
+            }
+            Trouble::Instead(refusal, words) => {
+                write!(f, "refused, answer {}: {words}", refusal.number())
             }
             Trouble::Refused(refusal, found) => {
                 write!(f, "refused, answer {}: {refusal}", refusal.number())?;

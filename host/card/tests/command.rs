@@ -28,7 +28,7 @@ fn the_worked_run_leaves_the_papers_bytes() {
     assert_eq!(shown, wanted);
     folder.done("revert a.mst a.xrf 1");
     assert_eq!(folder.read("a.xrf")[4..8], 2112i32.to_le_bytes());
-    assert_eq!(folder.read("a.mst")[12..14], [122, 0]);
+    assert_eq!(folder.read("a.mst")[12..14], [123, 0]);
     assert_eq!(
         folder.done("show a.mst a.xrf 1"),
         "MFN 1: live, settled\n     24  Kit\n"

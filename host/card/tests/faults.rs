@@ -129,7 +129,7 @@ fn a_wrong_count_or_end_is_one_fault() {
     folder.damage("a.mst", 4, &[31]);
     let end = record_at(10);
     folder.damage("a.mst", 8, &(end as u32 / 512 + 1).to_le_bytes());
-    put(&folder, 12, end as u16 % 512);
+    put(&folder, 12, end as u16 % 512 + 1);
     finds(&folder, &["MFN 10".into()]);
     assert!(found(&folder)[0].contains("20 more"));
 }
@@ -140,11 +140,11 @@ fn an_end_inside_a_record_is_one_fault() {
     let folder = thirty("faults-end");
     let end = record_at(9) + 20;
     folder.damage("a.mst", 8, &(end as u32 / 512 + 1).to_le_bytes());
-    put(&folder, 12, end as u16 % 512);
+    put(&folder, 12, end as u16 % 512 + 1);
     finds(&folder, &["MFN 10".into()]);
     folder.done("format a.mst a.xrf --erase");
     folder.done("create a.mst a.xrf 24=Kite");
-    put(&folder, 12, 84);
+    put(&folder, 12, 85);
     finds(&folder, &["it runs past the end, 84".into()]);
 }
 

@@ -80,6 +80,7 @@ impl Subject for Archive {
                 Call::Settle(mfn) => plain(raw::isis_settle(b.0, b.1, b.2, b.3, *mfn)),
                 Call::Revert(mfn) => plain(raw::isis_revert(b.0, b.1, b.2, b.3, *mfn)),
                 Call::Check => plain(raw::isis_check(b.0, b.1, b.2, b.3)),
+                Call::Migrate => plain(raw::isis_migrate(b.0, b.1, b.2, b.3)),
                 Call::Create(draft) => self.create(b, draft, side),
                 Call::Update(mfn, draft) => self.update(b, *mfn, draft, side),
                 Call::View { .. } | Call::ViewSettled { .. } => self.view(b, call, side),

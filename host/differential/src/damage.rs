@@ -54,12 +54,13 @@ impl Family for Damaged {
 /// A poke, and the poke that takes it back.
 fn damage(random: &mut Random, run: &Run) -> (Step, Option<Step>) {
     let (mst, xrf) = run.card();
-    let (in_xrf, at, bytes) = match random.below(12) {
+    let (in_xrf, at, bytes) = match random.below(13) {
         0 => control_damage(random, mst),
         1 => first_integer_damage(random, xrf),
         2..=5 => entry_damage(random, run),
         6..=9 => leader_damage(random, run),
         10 => directory_damage(random, run),
+        11 => made_old(mst),
         _ => {
             let in_xrf = random.one_in(3);
             let at = random.below(if in_xrf { xrf.len() } else { mst.len() });
@@ -123,6 +124,12 @@ fn control_damage(random: &mut Random, mst: &[u8]) -> Poke {
             (false, at, value.to_le_bytes().to_vec())
         }
     }
+}
+
+/// No damage: the card as the old rule has it, NXTMFP one less.
+fn made_old(mst: &[u8]) -> Poke {
+    let count = short_at(mst, 12).wrapping_sub(1);
+    (false, 12, count.to_le_bytes().to_vec())
 }
 
 fn first_integer_damage(random: &mut Random, xrf: &[u8]) -> Poke {

@@ -62,6 +62,7 @@ fn make(card: &mut Card, call: &Call) -> Answer<()> {
         Call::Delete(mfn) => card.delete(*mfn),
         Call::Settle(mfn) => card.settle(*mfn),
         Call::Revert(mfn) => card.revert(*mfn),
+        Call::Migrate => card.migrate(),
         _ => Ok(()),
     }
 }

@@ -2,11 +2,12 @@
 //! with the source of Biblio::Isis. `.ci/desktop-cards` puts them into target/desktop-cards;
 //! where they are not there, each test says so and holds nothing.
 //!
-//! What document 01 makes of them: NXTMFP is odd in all, so every call is refused with 2.
-//! With NXTMFP one less, 61 of the 62 records are read, as Biblio::Isis reads them. The one
-//! left was deleted by WinISIS, which negates the whole entry where document 01 negates the
-//! block. Four of the five stores are not sound: in three the first version, out of date, has
-//! a negative MFRL, in one a record was shortened in place; the fifth is empty.
+//! What the rules make of them: NXTMFP is odd in all, the offset plus 1, as request C-12 has
+//! it, and 61 of the 62 records are read, as Biblio::Isis reads them. The one left was deleted
+//! by WinISIS, which negates the whole entry where document 01 negates the block. Four of the
+//! five stores are not sound: in three the first version, out of date, has a negative MFRL, in
+//! one a record was shortened in place; the fifth is empty. With NXTMFP one less each is a card
+//! of the old rule, which a migration makes what it was, byte for byte.
 
 use differential::archive::Archive;
 use differential::biblio::{Asked, Fields, lines, read};
@@ -18,8 +19,7 @@ use model::call::{Call, OwnedDraft, on_bytes};
 use std::fs;
 use std::path::Path;
 
-/// A database: its files, how many records it has, and what the whole check answers once
-/// NXTMFP is even.
+/// A database: its files, how many records it has, and what the whole check answers.
 struct Desktop {
     files: [&'static str; 2],
     records: u32,
@@ -74,8 +74,8 @@ impl Desktop {
         Some((mst, xrf))
     }
 
-    /// Both files with NXTMFP, which is odd, one less.
-    fn evened(&self) -> Option<(Vec<u8>, Vec<u8>)> {
+    /// Both files as the old rule would have them: NXTMFP, which is odd, one less.
+    fn made_old(&self) -> Option<(Vec<u8>, Vec<u8>)> {
         let (mut mst, xrf) = self.bytes()?;
         assert_eq!(mst[12] % 2, 1, "{}", self.files[0]);
         mst[12] -= 1;
@@ -86,6 +86,7 @@ impl Desktop {
     fn calls(&self) -> Vec<Call> {
         let draft = OwnedDraft::of(&[(24, b"Kite")]);
         let mut calls = vec![Call::Check, Call::Next, Call::Create(draft.clone())];
+        calls.push(Call::Migrate);
         for mfn in 1..=self.records + 1 {
             calls.extend((0..4).map(|index| Call::Field { mfn, index }));
             calls.extend((0..4).map(|index| Call::FieldSettled { mfn, index }));
@@ -125,34 +126,41 @@ fn held(mst: &[u8], xrf: &[u8], calls: &[Call]) {
 }
 
 #[test]
-fn as_they_are_every_call_answers_2() {
+fn as_they_are_the_archive_does_as_the_model() {
     for desktop in &DESKTOP {
         let Some((mst, xrf)) = desktop.bytes() else {
             return;
         };
         held(&mst, &xrf, &desktop.calls());
-        for call in desktop.calls() {
-            let (outcome, _) = on_bytes(&mut mst.clone(), &mut xrf.clone(), &call);
-            assert_eq!(outcome.number, 2, "{}: {call:?}", desktop.files[0]);
-        }
     }
 }
 
 #[test]
-fn with_nxtmfp_even_the_archive_does_as_the_model() {
+fn by_the_old_rule_every_call_answers_2_but_a_migration() {
     for desktop in &DESKTOP {
-        let Some((mst, xrf)) = desktop.evened() else {
+        let Some((mst, xrf)) = desktop.made_old() else {
             return;
         };
+        let file = desktop.files[0];
         held(&mst, &xrf, &desktop.calls());
+        for call in desktop.calls() {
+            let (outcome, _) = on_bytes(&mut mst.clone(), &mut xrf.clone(), &call);
+            let wanted = if call == Call::Migrate { 0 } else { 2 };
+            assert_eq!(outcome.number, wanted, "{file}: {call:?}");
+        }
+        let (mut mst, mut xrf) = (mst, xrf);
+        let mut card = Card::over(&mut mst, &mut xrf);
+        assert_eq!(card.migrate(), Ok(()), "{file}");
+        assert_eq!(card.migrate(), Err(Refusal::BadControl), "{file}");
+        assert!(desktop.bytes() == Some((mst, xrf)), "{file}: other bytes");
     }
 }
 
 #[test]
-fn with_nxtmfp_even_all_records_but_a_deleted_one_are_read() {
+fn all_records_but_a_deleted_one_are_read() {
     let mut read_well = 0;
     for desktop in &DESKTOP {
-        let Some((mut mst, mut xrf)) = desktop.evened() else {
+        let Some((mut mst, mut xrf)) = desktop.bytes() else {
             return;
         };
         let theirs = read(&mst, &xrf, Asked::Live);
@@ -178,7 +186,7 @@ fn with_nxtmfp_even_all_records_but_a_deleted_one_are_read() {
 
 #[test]
 fn a_record_that_winisis_deleted_has_its_whole_entry_negated() {
-    let Some((mst, xrf)) = DESKTOP[0].evened() else {
+    let Some((mst, xrf)) = DESKTOP[0].bytes() else {
         return;
     };
     let (_, mfn, entry) = DELETED;
@@ -201,7 +209,7 @@ fn a_record_that_winisis_deleted_has_its_whole_entry_negated() {
 /// the end; `None` if stepping arrives there.
 fn wrong_step(mst: &[u8]) -> Option<usize> {
     let i16_at = |at: usize| i16::from_le_bytes([mst[at], mst[at + 1]]);
-    let end = (i16_at(8) as usize - 1) * 512 + i16_at(12) as usize;
+    let end = (i16_at(8) as usize - 1) * 512 + i16_at(12) as usize - 1;
     let mut at = 64;
     while at < end {
         let mfrl = i16_at(at + 4);
@@ -222,7 +230,7 @@ fn wrong_step(mst: &[u8]) -> Option<usize> {
 fn stepping_fails_at_a_negative_mfrl_or_behind_a_shortened_record() {
     let wrong = [Some(64), Some(64), Some(64), Some(12_116 + 1_600), None];
     for (desktop, wrong) in DESKTOP.iter().zip(wrong) {
-        let Some((mst, _)) = desktop.evened() else {
+        let Some((mst, _)) = desktop.bytes() else {
             return;
         };
         assert_eq!(wrong_step(&mst), wrong, "{}", desktop.files[0]);
@@ -232,9 +240,9 @@ fn stepping_fails_at_a_negative_mfrl_or_behind_a_shortened_record() {
 }
 
 #[test]
-fn with_nxtmfp_even_the_whole_check_finds_four_of_five_not_sound() {
+fn the_whole_check_finds_four_of_five_not_sound() {
     for desktop in &DESKTOP {
-        let Some((mut mst, mut xrf)) = desktop.evened() else {
+        let Some((mut mst, mut xrf)) = desktop.bytes() else {
             return;
         };
         let checked = Card::over(&mut mst, &mut xrf).check();

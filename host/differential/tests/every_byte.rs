@@ -39,6 +39,7 @@ fn card() -> (Vec<u8>, Vec<u8>) {
 fn calls() -> Vec<Call> {
     let mut calls = vec![
         Call::Check,
+        Call::Migrate,
         Call::Next,
         Call::Create(draft("c")),
         Call::Create(draft("")),

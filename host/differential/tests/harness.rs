@@ -80,7 +80,7 @@ fn one_that_answers_0_and_stores_nothing() {
 
 #[test]
 fn one_that_shows_the_same_field_for_every_mfn() {
-    found(&mut FromFormat::new(), 4, |_, seen| {
+    found(&mut FromFormat::new(), 5, |_, seen| {
         if let Call::View {
             tag, occurrence, ..
         } = seen.call
@@ -154,7 +154,7 @@ fn a_refusal_that_changes_a_byte() {
 fn the_gap_before_a_block_written_over() {
     found(&mut FromFormat::new(), 30, |_, seen| {
         let stops = |mst: &[u8]| u16::from_le_bytes([mst[12], mst[13]]);
-        let moved = stops(seen.mst) == 0 && stops(&seen.before.0) != 0;
+        let moved = stops(seen.mst) == 1 && stops(&seen.before.0) != 1;
         if moved && matches!(seen.call, Call::Create(_)) {
             let block = seen.mst[8] as usize;
             seen.mst[(block - 1) * 512 - 1] = 0xAA;
@@ -243,7 +243,7 @@ fn a_list_without_room_that_is_written_all_the_same() {
 
 #[test]
 fn only_the_list_of_tags_looked_at_for_room() {
-    found(&mut FromFormat::new(), 4, |_, seen| {
+    found(&mut FromFormat::new(), 5, |_, seen| {
         if let Call::FieldsSettled { mfn, room } = seen.call
             && seen.given.number == 17
         {
@@ -258,7 +258,7 @@ fn only_the_list_of_tags_looked_at_for_room() {
 
 #[test]
 fn a_number_of_fields_that_stands_beside_a_refusal() {
-    found(&mut FromFormat::new(), 4, |_, seen| {
+    found(&mut FromFormat::new(), 5, |_, seen| {
         if seen.given.number == 17 {
             seen.given.count = 1;
         }
@@ -300,6 +300,51 @@ fn the_length_of_the_mst_for_the_end() {
 fn the_state_of_a_damaged_record() {
     found(&mut Damaged::default(), 10, |_, seen| {
         if matches!(seen.call, Call::State(_)) && seen.given.number == 8 {
+            seen.given.number = 0;
+        }
+    });
+}
+
+/// Changes a 2-byte number of the MST.
+fn add_at(mst: &mut [u8], at: usize, more: u16) {
+    let number = u16::from_le_bytes([mst[at], mst[at + 1]]).wrapping_add(more);
+    mst[at..at + 2].copy_from_slice(&number.to_le_bytes());
+}
+
+#[test]
+fn an_even_count_that_is_accepted() {
+    found(&mut Damaged::default(), 4, |_, seen| {
+        if *seen.call == Call::Check && seen.given.number == 2 && seen.mst[12] % 2 == 0 {
+            add_at(seen.mst, 12, 1);
+            seen.given.number = on_bytes(seen.mst, seen.xrf, seen.call).0.number;
+            add_at(seen.mst, 12, 0xFFFF);
+        }
+    });
+}
+
+#[test]
+fn a_migration_that_adds_two() {
+    found(&mut Damaged::default(), 4, |_, seen| {
+        if *seen.call == Call::Migrate && seen.given.number == 0 {
+            add_at(seen.mst, 12, 1);
+        }
+    });
+}
+
+#[test]
+fn a_migration_that_also_moves_the_block() {
+    found(&mut Damaged::default(), 4, |_, seen| {
+        if *seen.call == Call::Migrate && seen.given.number == 0 {
+            add_at(seen.mst, 8, 1);
+        }
+    });
+}
+
+#[test]
+fn a_migration_that_is_made_twice() {
+    found(&mut FromFormat::new(), 2, |_, seen| {
+        if *seen.call == Call::Migrate {
+            add_at(seen.mst, 12, 1);
             seen.given.number = 0;
         }
     });

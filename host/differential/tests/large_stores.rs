@@ -61,19 +61,19 @@ fn records_in_the_last_block_of_the_largest_mst() {
     Card::over(&mut mst, &mut xrf).format().unwrap();
     // The end is put to the last block; nothing but the whole check steps there.
     mst[8..12].copy_from_slice(&LAST_BLOCK.to_le_bytes());
-    mst[12..14].copy_from_slice(&448u16.to_le_bytes());
+    mst[12..14].copy_from_slice(&449u16.to_le_bytes());
     let mut card = Card::over(&mut mst, &mut xrf);
     assert_eq!(card.create([(24, "Kite")]), Ok(1));
     let entry = LAST_BLOCK * 2048 + 448;
     assert_eq!(card.xrf()[4..8], (entry + 1024).to_le_bytes());
-    assert_eq!(card.mst()[12..14], 476u16.to_le_bytes());
+    assert_eq!(card.mst()[12..14], 477u16.to_le_bytes());
     assert_eq!(card.view(1, 24, 1), Ok(&b"Kite"[..]));
     assert_eq!(card.settle(1), Ok(()));
     assert_eq!(card.xrf()[4..8], entry.to_le_bytes());
     assert_eq!(card.update(1, [(24, "Kites, many")]), Ok(()));
     assert_eq!(card.xrf()[4..8], (entry + 28 + 512).to_le_bytes());
     // 476 + 36 = 512: the end is the length of the MST, block 1,048,576, offset 0.
-    assert_eq!(card.mst()[8..14], [0, 0, 0x10, 0, 0, 0]);
+    assert_eq!(card.mst()[8..14], [0, 0, 0x10, 0, 1, 0]);
     assert_eq!(card.create::<&[u8]>([]), Err(Refusal::NoRoom));
     assert_eq!(card.view_settled(1, 24, 1), Ok(&b"Kite"[..]));
     let field = |tag, bytes| Ok(Field { tag, bytes });

@@ -58,6 +58,9 @@ fn answer(number: u32) -> Answer<()> {
         .unwrap_or_else(|| panic!("the archive answered {number}, which is no answer known here"))
 }
 
+/// A function of the C interface that is about the whole card and may write.
+type Whole = unsafe extern "C" fn(*mut u8, usize, *mut u8, usize) -> u32;
+
 /// A function of the C interface that names an MFN and may write.
 type Act = unsafe extern "C" fn(*mut u8, usize, *mut u8, usize, u32) -> u32;
 
@@ -74,11 +77,20 @@ impl<'a> Card<'a> {
 
     /// Empties the card.
     pub fn format(&mut self) -> Answer<()> {
+        self.whole(raw::isis_format)
+    }
+
+    /// Counts the end of a card that was written before isis.h 2.0 from one, and changes
+    /// nothing else; every other call but [`format`](Card::format) refuses such a card with
+    /// [`BadControl`](Refusal::BadControl). So does this one, a card of today.
+    pub fn migrate(&mut self) -> Answer<()> {
+        self.whole(raw::isis_migrate)
+    }
+
+    fn whole(&mut self, call: Whole) -> Answer<()> {
         let (mst, xrf) = (&mut *self.mst, &mut *self.xrf);
         // SAFETY: both are exclusive borrows of their whole length.
-        answer(unsafe {
-            raw::isis_format(mst.as_mut_ptr(), mst.len(), xrf.as_mut_ptr(), xrf.len())
-        })
+        answer(unsafe { call(mst.as_mut_ptr(), mst.len(), xrf.as_mut_ptr(), xrf.len()) })
     }
 
     /// Writes a new record, pending, and gives its MFN.

@@ -152,6 +152,9 @@ unsafe extern "C" {
     pub fn isis_revert(mst: *mut u8, mst_len: usize, xrf: *mut u8, xrf_len: usize, mfn: u32)
     -> u32;
 
+    /// Counts the end of a card written before isis.h 2.0 from one.
+    pub fn isis_migrate(mst: *mut u8, mst_len: usize, xrf: *mut u8, xrf_len: usize) -> u32;
+
     /// Checks the whole store.
     pub fn isis_check(mst: *const u8, mst_len: usize, xrf: *const u8, xrf_len: usize) -> u32;
 

@@ -14,7 +14,8 @@ pub type Answer<T> = Result<T, Refusal>;
 pub enum Refusal {
     /// 1: a buffer length is not permitted.
     BadLength = 1,
-    /// 2: the control record is not right.
+    /// 2: the control record is not right; of a card that is to be migrated, that it is not
+    /// right by the rule before isis.h 2.0.
     BadControl = 2,
     /// 3: the draft is not right.
     BadDraft = 3,

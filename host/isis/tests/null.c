@@ -39,6 +39,9 @@ int main(void)
     IS(ISIS_BAD_LENGTH, isis_delete(NO_CARD, 1));
     IS(ISIS_BAD_LENGTH, isis_settle(NO_CARD, 1));
     IS(ISIS_BAD_LENGTH, isis_revert(NO_CARD, 1));
+    IS(ISIS_BAD_LENGTH, isis_migrate(NO_CARD));
+    IS(ISIS_BAD_LENGTH, isis_migrate(mst, sizeof mst, NULL, 0));
+    IS(ISIS_BAD_LENGTH, isis_migrate(NULL, 0, xrf, sizeof xrf));
     IS(ISIS_BAD_LENGTH, isis_check(NO_CARD));
     IS(ISIS_BAD_TERM, isis_lookup(NO_INDEX, NULL, 0, &block, &word));
     IS(ISIS_BAD_INDEX, isis_lookup(NO_INDEX, (const uint8_t *)"KITE", 4, &block, &word));

@@ -22,14 +22,35 @@ fn the_worked_run_through_the_archive() {
     assert_eq!(card.xrf()[4..8], 2112i32.to_le_bytes());
     card.update(1, [(24, "Kites")]).unwrap();
     assert_eq!(card.xrf()[4..8], 2652i32.to_le_bytes());
-    assert_eq!(card.mst()[12..14], [122, 0]);
+    assert_eq!(card.mst()[12..14], [123, 0]);
     assert_eq!(card.view(1, 24, 1), Ok(&b"Kites"[..]));
     assert_eq!(card.view_part(1, 24, 1), Ok(116..121));
     assert_eq!(card.view_settled(1, 24, 1), Ok(&b"Kit"[..]));
     card.revert(1).unwrap();
     assert_eq!(card.xrf()[4..8], 2112i32.to_le_bytes());
-    assert_eq!(card.mst()[12..14], [122, 0]);
+    assert_eq!(card.mst()[12..14], [123, 0]);
     assert_eq!(card.check(), Ok(()));
+}
+
+#[test]
+fn an_old_card_is_migrated_once() {
+    let (mut mst, mut xrf) = (vec![0; 512], vec![0; 512]);
+    let mut card = Card::over(&mut mst, &mut xrf);
+    assert_eq!(card.migrate(), Err(Refusal::BadControl));
+    card.format().unwrap();
+    assert_eq!(card.create([(24, "Kite")]), Ok(1));
+    assert_eq!(card.migrate(), Err(Refusal::BadControl));
+    assert_eq!(mst[12..14], [93, 0]);
+    mst[12] = 92;
+    let mut card = Card::over(&mut mst, &mut xrf);
+    assert_eq!(card.view(1, 24, 1), Err(Refusal::BadControl));
+    assert_eq!(card.migrate(), Ok(()));
+    assert_eq!(card.view(1, 24, 1), Ok(&b"Kite"[..]));
+    assert_eq!(card.migrate(), Err(Refusal::BadControl));
+    assert_eq!(card.check(), Ok(()));
+    assert_eq!(mst[12..14], [93, 0]);
+    let mut short = Card::over(&mut mst[..511], &mut xrf);
+    assert_eq!(short.migrate(), Err(Refusal::BadLength));
 }
 
 #[test]

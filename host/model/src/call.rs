@@ -39,8 +39,8 @@ impl OwnedDraft {
     }
 }
 
-/// A call: the nine of document 01, the two that show a field by its index, and the four
-/// that tell something of the card.
+/// A call: the nine of document 01, the migration of request C-12, the two that show a field
+/// by its index, and the four that tell something of the card.
 #[derive(Clone, Debug, PartialEq, Eq)]
 #[allow(missing_docs)]
 pub enum Call {
@@ -53,6 +53,7 @@ pub enum Call {
     Settle(u32),
     Revert(u32),
     Check,
+    Migrate,
     Field { mfn: u32, index: usize },
     FieldSettled { mfn: u32, index: usize },
     Next,
@@ -63,7 +64,7 @@ pub enum Call {
 
 impl Call {
     /// What the calls are called, by their kind.
-    pub const NAMES: [&str; 15] = [
+    pub const NAMES: [&str; 16] = [
         "format",
         "view",
         "settled view",
@@ -73,6 +74,7 @@ impl Call {
         "settle",
         "revert",
         "check",
+        "migrate",
         "field",
         "settled field",
         "next",
@@ -81,8 +83,8 @@ impl Call {
         "settled fields",
     ];
 
-    /// Which call it is: the nine in the order of document 01, then the two by index and
-    /// the four that tell.
+    /// Which call it is: the nine in the order of document 01 and the migration, as a list
+    /// numbers them, then the two by index and the four that tell.
     pub fn kind(&self) -> usize {
         match self {
             Call::Format => 0,
@@ -94,12 +96,13 @@ impl Call {
             Call::Settle(_) => 6,
             Call::Revert(_) => 7,
             Call::Check => 8,
-            Call::Field { .. } => 9,
-            Call::FieldSettled { .. } => 10,
-            Call::Next => 11,
-            Call::State(_) => 12,
-            Call::Fields { .. } => 13,
-            Call::FieldsSettled { .. } => 14,
+            Call::Migrate => 9,
+            Call::Field { .. } => 10,
+            Call::FieldSettled { .. } => 11,
+            Call::Next => 12,
+            Call::State(_) => 13,
+            Call::Fields { .. } => 14,
+            Call::FieldsSettled { .. } => 15,
         }
     }
 
@@ -113,6 +116,7 @@ impl Call {
                 | Call::Delete(_)
                 | Call::Settle(_)
                 | Call::Revert(_)
+                | Call::Migrate
         );
         !writes
     }
@@ -120,7 +124,7 @@ impl Call {
     /// The MFN that it names.
     pub fn mfn_mut(&mut self) -> Option<&mut u32> {
         match self {
-            Call::Format | Call::Create(_) | Call::Check | Call::Next => None,
+            Call::Format | Call::Create(_) | Call::Check | Call::Migrate | Call::Next => None,
             Call::Update(mfn, _)
             | Call::Delete(mfn)
             | Call::Settle(mfn)
@@ -192,6 +196,7 @@ pub fn on_bytes(mst: &mut [u8], xrf: &mut [u8], call: &Call) -> (Outcome, Shown)
         Call::Settle(mfn) => Outcome::plain(&store::settle(mst, xrf, *mfn)),
         Call::Revert(mfn) => Outcome::plain(&store::revert(mst, xrf, *mfn)),
         Call::Check => Outcome::plain(&store::check(mst, xrf)),
+        Call::Migrate => Outcome::plain(&store::migrate(mst, xrf)),
         Call::Next => Outcome::next(ask::next(mst, xrf)),
         Call::State(mfn) => Outcome::state(ask::state(mst, xrf, *mfn)),
     };
@@ -218,6 +223,7 @@ pub fn on_ledger(ledger: &mut Ledger, call: &Call) -> Outcome {
         Call::Settle(mfn) => Outcome::plain(&ledger.settle(*mfn)),
         Call::Revert(mfn) => Outcome::plain(&ledger.revert(*mfn)),
         Call::Check => Outcome::plain(&ledger.check()),
+        Call::Migrate => Outcome::plain(&ledger.migrate()),
         Call::Field { mfn, index } => Outcome::indexed(ledger.field(*mfn, *index)),
         Call::FieldSettled { mfn, index } => Outcome::indexed(ledger.field_settled(*mfn, *index)),
         Call::Next => Outcome::next(Ok((ledger.next_mfn() as u32, ledger.end()))),

@@ -55,7 +55,7 @@ impl fmt::Display for ControlFault {
             Self::End { nxtmfb, nxtmfp } => write!(
                 f,
                 "the end, NXTMFB {nxtmfb} and NXTMFP {nxtmfp} (MST bytes 8 and 12), is not \
-                 an even offset up to 498 at an address from 64 to the file's length"
+                 an even offset up to 498, plus 1, at an address from 64 to the file's length"
             ),
             Self::Mftype(found) => write!(f, "MFTYPE (MST byte 14) is {found}, not 0"),
         }

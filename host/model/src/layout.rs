@@ -15,6 +15,8 @@ pub const PER_BLOCK: usize = 127;
 pub const FIRST: usize = 64;
 /// The highest offset at which a record begins.
 pub const LAST_OFFSET: usize = 498;
+/// What NXTMFP holds of an end at offset 0; the old rule had 0 there.
+pub const COUNT_FROM: u16 = 1;
 /// Bytes of a leader, and so of the shortest record.
 pub const LEADER: usize = 18;
 /// Bytes of a directory entry.
@@ -71,6 +73,16 @@ pub struct Control {
 impl Control {
     /// Reads the control record of an MST whose length is permitted.
     pub fn read(mst: &[u8], xrf_len: usize) -> Result<Control, ControlFault> {
+        Control::counted(mst, xrf_len, COUNT_FROM)
+    }
+
+    /// Reads it by the old rule, where NXTMFP was the offset itself.
+    pub fn read_old(mst: &[u8], xrf_len: usize) -> Result<Control, ControlFault> {
+        Control::counted(mst, xrf_len, 0)
+    }
+
+    /// Reads it where the offset is counted from a number.
+    fn counted(mst: &[u8], xrf_len: usize, from: u16) -> Result<Control, ControlFault> {
         let (ctlmfn, nxtmfn) = (i32_at(mst, 0), i32_at(mst, 4));
         let (nxtmfb, nxtmfp) = (i32_at(mst, 8), u16_at(mst, 12));
         let mftype = u16_at(mst, 14);
@@ -81,8 +93,9 @@ impl Control {
         if !(1..=most).contains(&i64::from(nxtmfn)) {
             return Err(ControlFault::Nxtmfn { nxtmfn, most });
         }
-        let end = address(i64::from(nxtmfb), i64::from(nxtmfp));
-        let offset_right = nxtmfp.is_multiple_of(2) && usize::from(nxtmfp) <= LAST_OFFSET;
+        let offset = i64::from(nxtmfp) - i64::from(from);
+        let end = address(i64::from(nxtmfb), offset);
+        let offset_right = (0..=LAST_OFFSET as i64).contains(&offset) && offset % 2 == 0;
         if !offset_right || end < FIRST as i64 || end > mst.len() as i64 {
             return Err(ControlFault::End { nxtmfb, nxtmfp });
         }
@@ -100,7 +113,7 @@ impl Control {
         let (block, offset) = block_and_offset(self.end);
         put_i32(mst, 4, self.next_mfn as i32);
         put_i32(mst, 8, block);
-        put_u16(mst, 12, offset);
+        put_u16(mst, 12, offset + COUNT_FROM);
     }
 }
 

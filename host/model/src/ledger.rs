@@ -255,6 +255,11 @@ impl Ledger {
     pub fn check(&self) -> Result<(), Refusal> {
         Ok(())
     }
+
+    /// A migration answers 2: every store of a list is already one of today.
+    pub fn migrate(&self) -> Result<(), Refusal> {
+        Err(Refusal::Control)
+    }
 }
 
 /// A draft's fields.

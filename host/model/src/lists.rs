@@ -83,12 +83,13 @@ fn room(random: &mut Random, taste: Taste) -> Room {
     equal
 }
 
-/// A random call of document 01 for a store whose next MFN is about `next`.
+/// A random call of demand 3's list for a store whose next MFN is about `next`: those of
+/// document 01, and now and then a migration.
 pub fn call(random: &mut Random, taste: Taste, next: usize) -> Call {
     if random.one_in(taste.format_in) {
         return Call::Format;
     }
-    match random.below(20) {
+    match random.below(21) {
         0..=3 => Call::Create(draft(random, taste)),
         4..=7 => Call::Update(mfn(random, next), draft(random, taste)),
         8 => Call::Delete(mfn(random, next)),
@@ -96,6 +97,7 @@ pub fn call(random: &mut Random, taste: Taste, next: usize) -> Call {
         12..=13 => Call::Revert(mfn(random, next)),
         14..=16 => Call::view(mfn(random, next), tag(random), occurrence(random)),
         17..=18 => Call::view_settled(mfn(random, next), tag(random), occurrence(random)),
+        19 => Call::Migrate,
         _ => Call::Check,
     }
 }

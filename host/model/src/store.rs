@@ -2,7 +2,7 @@
 //! numbers and writes only after the last of them.
 
 use crate::answer::Refusal;
-use crate::bytes::{i32_at, put_i32, put_u16};
+use crate::bytes::{i32_at, put_i32, put_u16, u16_at};
 use crate::draft::{Draft, need};
 use crate::layout::{
     BLOCK, Control, Entry, FIRST, Mark, Place, capacity, first_integer, first_integer_right,
@@ -261,6 +261,18 @@ pub fn revert(mst: &[u8], xrf: &mut [u8], mfn: u32) -> Answer<()> {
     };
     let back = record::back_place(&found.record);
     put_i32(xrf, slot_at(found.mfn), back.encode());
+    Ok(())
+}
+
+/// Counts the end of an old card from one: NXTMFP plus 1, and no other byte. Answers 2 if
+/// the control record is not right by the old rule.
+pub fn migrate(mst: &mut [u8], xrf: &[u8]) -> Answer<()> {
+    if !lengths_permitted(mst.len(), xrf.len()) {
+        return Err(Refusal::Length);
+    }
+    Control::read_old(mst, xrf.len()).map_err(|_| Refusal::Control)?;
+    let count = u16_at(mst, 12);
+    put_u16(mst, 12, count + 1);
     Ok(())
 }
 

@@ -136,7 +136,7 @@ fn answer_5_when_the_slots_are_used_up() {
     assert_eq!(card.create(&[]), Err(Full));
     assert_eq!(card.i32(4), 128);
     // 5 comes before 13.
-    card.put_i32(8, 9).put_u16(12, 0);
+    card.put_end(9, 0);
     assert_eq!(card.create(&[]), Err(Full));
 }
 
@@ -194,7 +194,7 @@ fn answer_6_for_a_slot_that_is_not_0_and_before_13() {
     let mut card = Card::with_kite(1, 1);
     card.put_entry(8, 1);
     assert_eq!(card.create(&[]), Err(Entry));
-    card.put_i32(8, 2).put_u16(12, 0);
+    card.put_end(2, 0);
     assert_eq!(card.create(&[]), Err(Entry));
     card.put_entry(8, 0);
     assert_eq!(card.create(&[]), Err(NoRoom));
@@ -267,7 +267,7 @@ fn answer_13_exactly_by_the_room_rule() {
     card.create(&[(24, &bytes)]).unwrap();
     assert_eq!(card.create(&[(24, b"Kites")]), Err(NoRoom));
     assert_eq!(card.create(&[(24, b"Kite")]), Ok(2));
-    assert_eq!((card.i32(8), card.u16(12)), (2, 0));
+    assert_eq!((card.i32(8), card.u16(12)), (2, 1));
     // Pending records are still updated and deleted in place on the full card.
     assert_eq!(card.update(2, &[(24, b"Kit")]), Ok(()));
     assert_eq!(card.update(2, &[(24, b"Kites")]), Err(NoRoom));
@@ -282,7 +282,7 @@ fn answer_13_exactly_by_the_room_rule() {
 fn answer_9_comes_before_13() {
     let mut card = Card::with_kite(1, 1);
     card.delete(1).unwrap();
-    card.put_i32(8, 2).put_u16(12, 0);
+    card.put_end(2, 0);
     let bytes = vec![b'x'; 400];
     assert_eq!(card.update(1, &[(24, &bytes)]), Err(Deleted));
 }

@@ -80,8 +80,11 @@ fn random_lists_agree_and_every_answer_comes() {
         came.extend(run(seed + 1000, (2, 1), Taste::SHORT, 120));
         came.extend(run(seed + 2000, (40, 2), Taste::LONG, 200));
     }
-    came.extend(run(3000, (400, 1), Taste::SHORT, 2_500));
-    assert_eq!(came, common::from_format(15));
+    // Long enough between two formats that every MFN is given out.
+    for seed in 3000..3004 {
+        came.extend(run(seed, (400, 1), Taste::SHORT, 2_500));
+    }
+    assert_eq!(came, common::from_format(16));
 }
 
 #[test]

@@ -9,8 +9,8 @@ mod subject {
     pub use model::ask::{fields, fields_settled, next, state};
     pub use model::index::{check as check_index, lookup};
     pub use model::store::{
-        Answer, Indexed, check, create, delete, field, field_settled, format, revert, settle,
-        update, view, view_settled,
+        Answer, Indexed, check, create, delete, field, field_settled, format, migrate, revert,
+        settle, update, view, view_settled,
     };
 }
 
@@ -21,7 +21,7 @@ const EXPECTED: &str = include_str!("../examples/outcomes/expected.txt");
 
 /// The calls and the answers that the paper's table gives to each; a field by its
 /// index is answered as a view, and the calls that tell something as the header says.
-const ANSWERS: [(&str, &[u32]); 17] = [
+const ANSWERS: [(&str, &[u32]); 18] = [
     ("format", &[0, 1]),
     ("view", &[0, 1, 2, 4, 6, 7, 8, 9, 12]),
     ("settled view", &[0, 1, 2, 4, 6, 7, 8, 9, 11, 12]),
@@ -31,6 +31,7 @@ const ANSWERS: [(&str, &[u32]); 17] = [
     ("settle", &[0, 1, 2, 4, 6, 7, 8, 10]),
     ("revert", &[0, 1, 2, 4, 6, 7, 8, 10, 11]),
     ("check", &[0, 1, 2, 14]),
+    ("migrate", &[0, 1, 2]),
     ("field", &[0, 1, 2, 4, 6, 7, 8, 9, 12]),
     ("settled field", &[0, 1, 2, 4, 6, 7, 8, 9, 11, 12]),
     ("next", &[0, 1, 2]),
@@ -93,7 +94,7 @@ fn the_worked_run_is_the_papers() {
     let run = [
         "format 0,".to_string(),
         "XRF at 0 FF FF FF FF 00 00 00 00".to_string(),
-        "entry 0, end 64, at 0 00 00 00 00 01 00 00 00 01 00 00 00 40 00".to_string(),
+        "entry 0, end 64, at 0 00 00 00 00 01 00 00 00 01 00 00 00 41 00".to_string(),
         "create 0 MFN 1,".to_string(),
         format!("entry 3136, end 92, at 64 {kite}"),
         "update 0,".to_string(),

@@ -10,7 +10,7 @@ fn two_fields() -> Card {
     let mut card = Card::formatted(2, 1);
     card.create(&[(24, b"Kite"), (70, b"ab")]).unwrap();
     card.settle(1).unwrap();
-    assert_eq!((card.u16(68), card.u16(76), card.u16(12)), (36, 30, 100));
+    assert_eq!((card.u16(68), card.u16(76), card.u16(12)), (36, 30, 101));
     card
 }
 
@@ -40,15 +40,15 @@ fn mfrl_even_in_range_and_before_the_end() {
         refused(|card| card.put_u16(68, mfrl));
     }
     // The end may lie behind the record.
-    accepted(|card| card.put_u16(68, 38).put_u16(12, 102));
-    accepted(|card| card.put_u16(12, 102));
-    refused(|card| card.put_u16(12, 98));
+    accepted(|card| card.put_u16(68, 38).put_end(1, 102));
+    accepted(|card| card.put_end(1, 102));
+    refused(|card| card.put_end(1, 98));
 }
 
 #[test]
 fn an_odd_mfrl_is_refused_even_before_the_end() {
-    refused(|card| card.put_u16(68, 37).put_u16(12, 102));
-    accepted(|card| card.put_u16(68, 38).put_u16(12, 102));
+    refused(|card| card.put_u16(68, 37).put_end(1, 102));
+    accepted(|card| card.put_u16(68, 38).put_end(1, 102));
 }
 
 #[test]
@@ -56,7 +56,7 @@ fn mfrl_is_at_most_32766_even_before_the_end() {
     let mut card = Card::formatted(130, 1);
     card.create(&[(24, b"Kite")]).unwrap();
     // The end at block 66, offset 0, is past all three.
-    card.put_i32(8, 66).put_u16(12, 0);
+    card.put_end(66, 0);
     assert!(card.put_u16(68, 32_766).view(1, 24, 1).is_ok());
     assert_eq!(card.put_u16(68, 32_768).view(1, 24, 1), Err(Record));
     assert_eq!(card.put_u16(68, 33_000).view(1, 24, 1), Err(Record));

@@ -94,12 +94,13 @@ fn the_lists_fit_into_the_programs_buffers() {
     }
 }
 
-/// The worked run of document 01: answers, fields, and the end that is "still 122".
+/// The worked run of document 01: answers, fields, and the end that is "still 122", counted
+/// from one.
 #[test]
 fn the_worked_run_is_the_papers() {
     let lines = text::replay(&by_ledger(&lists::worked_run()));
     let wanted = "ended 9\n0 1 0\n0 0 0\n0 0 0\n0 0 0\n0 0 5 Kites\n0 0 3 Kit\n0 0 0\n0 0 3 Kit\n\
-                  0 0 0\nNXTMFN 2 NXTMFB 1 NXTMFP 122\n";
+                  0 0 0\nNXTMFN 2 NXTMFB 1 NXTMFP 123\n";
     assert_eq!(lines, wanted);
     assert!(file("stdout").starts_with(wanted));
 }
@@ -115,12 +116,12 @@ fn answers(list: &List) -> BTreeSet<(u32, u32)> {
 
 #[test]
 fn the_long_list_reaches_every_answer_of_every_call() {
-    let wanted = common::from_format(9);
+    let wanted = common::from_format(10);
     assert_eq!(answers(&lists::catalogue()), wanted);
     let all: BTreeSet<(u32, u32)> = lists::all().iter().flat_map(answers).collect();
     assert_eq!(all, wanted);
     let numbers: BTreeSet<u32> = all.iter().map(|(_, answer)| *answer).collect();
-    assert_eq!(numbers, BTreeSet::from([0, 3, 4, 5, 9, 10, 11, 12, 13]));
+    assert_eq!(numbers, BTreeSet::from([0, 2, 3, 4, 5, 9, 10, 11, 12, 13]));
 }
 
 #[test]

@@ -1,6 +1,6 @@
 //! Rows P1 to P12 of "Numbers to test on", and the edges of the layout's ranges.
 
-use model::fault::{EntryFault, PlaceFault};
+use model::fault::{ControlFault, EntryFault, PlaceFault};
 use model::layout::{
     Control, Entry, Mark, Place, capacity, lengths_permitted, slot_at, step_over, well_formed_place,
 };
@@ -145,34 +145,61 @@ fn control(ctlmfn: i32, nxtmfn: i32, nxtmfb: i32, nxtmfp: u16, mftype: u16) -> V
     mst
 }
 
-#[test]
-fn the_control_record_has_these_edges() {
-    let read = |mst: Vec<u8>| Control::read(&mst, 512).map(|c| (c.next_mfn, c.end));
-    assert_eq!(read(control(0, 1, 1, 64, 0)), Ok((1, 64)));
-    assert_eq!(read(control(0, 128, 1, 498, 0)), Ok((128, 498)));
-    assert_eq!(read(control(0, 128, 2, 0, 0)), Ok((128, 512)));
-    assert_eq!(read(control(0, 7, 3, 0, 0)), Ok((7, 1024)));
+/// The edges of a control record whose NXTMFP counts the offset from a number.
+fn edges(read: fn(&[u8], usize) -> Result<Control, ControlFault>, from: u16) {
+    let end = |nxtmfn: i32, nxtmfb: i32, nxtmfp: u16| {
+        let mst = control(0, nxtmfn, nxtmfb, nxtmfp, 0);
+        read(&mst, 512).map(|control| (control.next_mfn, control.end))
+    };
+    let first = 64 + from;
+    assert_eq!(end(1, 1, first), Ok((1, 64)));
+    assert_eq!(end(128, 1, 498 + from), Ok((128, 498)));
+    assert_eq!(end(128, 2, from), Ok((128, 512)));
+    assert_eq!(end(7, 3, from), Ok((7, 1024)));
     let bad = [
-        control(1, 1, 1, 64, 0),
-        control(-1, 1, 1, 64, 0),
-        control(0, 0, 1, 64, 0),
-        control(0, -1, 1, 64, 0),
-        control(0, 129, 1, 64, 0),
-        control(0, i32::MAX, 1, 64, 0),
-        control(0, 1, 1, 62, 0),
-        control(0, 1, 1, 65, 0),
-        control(0, 1, 1, 500, 0),
-        control(0, 1, 1, 512, 0),
-        control(0, 1, 0, 64, 0),
-        control(0, 1, -1, 64, 0),
-        control(0, 1, 3, 2, 0),
-        control(0, 1, 4, 0, 0),
-        control(0, 1, i32::MAX, 64, 0),
-        control(0, 1, i32::MIN, 64, 0),
-        control(0, 1, 1, 64, 1),
-        control(0, 1, 1, 64, 0x8000),
+        control(1, 1, 1, first, 0),
+        control(-1, 1, 1, first, 0),
+        control(0, 0, 1, first, 0),
+        control(0, -1, 1, first, 0),
+        control(0, 129, 1, first, 0),
+        control(0, i32::MAX, 1, first, 0),
+        control(0, 1, 1, first - 2, 0),
+        control(0, 1, 1, first + 1, 0),
+        control(0, 1, 1, 500 + from, 0),
+        control(0, 1, 1, 512 + from, 0),
+        control(0, 1, 0, first, 0),
+        control(0, 1, -1, first, 0),
+        control(0, 1, 3, 2 + from, 0),
+        control(0, 1, 4, from, 0),
+        control(0, 1, i32::MAX, first, 0),
+        control(0, 1, i32::MIN, first, 0),
+        control(0, 1, 1, first, 1),
+        control(0, 1, 1, first, 0x8000),
     ];
     for (i, mst) in bad.into_iter().enumerate() {
-        assert!(Control::read(&mst, 512).is_err(), "control record {i}");
+        assert!(read(&mst, 512).is_err(), "control record {i}");
+    }
+}
+
+#[test]
+fn the_control_record_has_these_edges() {
+    edges(Control::read, 1);
+}
+
+#[test]
+fn the_old_rule_has_the_same_edges_counted_from_0() {
+    edges(Control::read_old, 0);
+}
+
+/// NXTMFP is odd and at most 499; by the old rule it was even and at most 498. Of all its
+/// values none is right by both, and block 2 makes every offset one of an MST of two blocks.
+#[test]
+fn no_nxtmfp_is_right_by_both_rules() {
+    for count in 0..=u16::MAX {
+        let mst = control(0, 1, 2, count, 0);
+        let today = Control::read(&mst, 512).is_ok();
+        assert_eq!(today, count % 2 == 1 && count <= 499, "NXTMFP {count}");
+        let old = Control::read_old(&mst, 512).is_ok();
+        assert_eq!(old, count % 2 == 0 && count <= 498, "NXTMFP {count}");
     }
 }

@@ -11,7 +11,7 @@ use model::sound::faults;
 fn card() -> Card {
     let mut card = Card::with_changed_kite(2, 2);
     card.create(&[(24, b"Wind")]).unwrap();
-    assert_eq!(card.u16(12), 150);
+    assert_eq!(card.u16(12), 151);
     assert_eq!(card.check(), Ok(()));
     card
 }
@@ -53,7 +53,7 @@ fn steps_arrive_exactly_at_the_end() {
     };
     assert_eq!(fault, wanted);
     // The end moved on: the bytes behind, MFRL 0, are no step.
-    let fault = unsound(|card| card.put_u16(12, 152));
+    let fault = unsound(|card| card.put_end(1, 152));
     let wanted = Fault::Step {
         at: 150,
         fault: StepFault::Length { mfrl: 0 },
@@ -66,9 +66,9 @@ fn steps_arrive_exactly_at_the_end() {
     let mut card = Card::formatted(130, 1);
     card.create(&[]).unwrap();
     card.put_entry(4, -2048).put_u16(68, 32_766);
-    card.put_i32(8, 65).put_u16(12, 62);
+    card.put_end(65, 62);
     assert_eq!(card.check(), Ok(()));
-    card.put_u16(68, 32_768).put_u16(12, 64);
+    card.put_u16(68, 32_768).put_end(65, 64);
     assert_eq!(card.check(), Err(NotSound));
 }
 

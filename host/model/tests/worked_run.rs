@@ -9,7 +9,7 @@ const KITE: [u8; 28] = [
     0x00, 0x00, 0x18, 0x00, 0x00, 0x00, 0x04, 0x00, 0x4B, 0x69, 0x74, 0x65,
 ];
 
-/// NXTMFN, NXTMFB, NXTMFP.
+/// NXTMFN, NXTMFB, and NXTMFP, which is the offset plus 1.
 fn control(card: &Card) -> (i32, i32, u16) {
     (card.i32(4), card.i32(8), card.u16(12))
 }
@@ -20,7 +20,7 @@ fn format_fills_with_zero_and_sets_four_kinds_of_integer() {
     let mut mst = vec![0; 1024];
     mst[4] = 1;
     mst[8] = 1;
-    mst[12] = 64;
+    mst[12] = 65;
     assert_eq!(card.mst, mst);
     let mut xrf = vec![0; 1536];
     xrf[0] = 1;
@@ -35,7 +35,7 @@ fn the_run() {
     let mut card = Card::formatted(1, 1);
     assert_eq!(card.create(&[(24, b"Kite")]), Ok(1));
     assert_eq!(card.mst[64..92], KITE);
-    assert_eq!(control(&card), (2, 1, 92));
+    assert_eq!(control(&card), (2, 1, 93));
     assert_eq!(card.entry(4), 3136);
 
     assert_eq!(card.update(1, &[(24, b"Kit")]), Ok(()));
@@ -43,7 +43,7 @@ fn the_run() {
     kit[22] = 3;
     kit[27] = 0;
     assert_eq!(card.mst[64..92], kit);
-    assert_eq!(control(&card), (2, 1, 92));
+    assert_eq!(control(&card), (2, 1, 93));
     assert_eq!(card.entry(4), 3136);
 
     assert_eq!(card.settle(1), Ok(()));
@@ -58,7 +58,7 @@ fn the_run() {
     assert_eq!(card.mst[92..122], kites);
     assert_eq!(card.mst[64..92], kit);
     assert_eq!(card.entry(4), 2652);
-    assert_eq!(control(&card), (2, 1, 122));
+    assert_eq!(control(&card), (2, 1, 123));
     assert_eq!(card.view(1, 24, 1), Ok(&b"Kites"[..]));
     assert_eq!(card.view_settled(1, 24, 1), Ok(&b"Kit"[..]));
 
@@ -66,7 +66,7 @@ fn the_run() {
     assert_eq!(card.revert(1), Ok(()));
     assert_eq!(card.mst, before);
     assert_eq!(card.entry(4), 2112);
-    assert_eq!(control(&card), (2, 1, 122));
+    assert_eq!(control(&card), (2, 1, 123));
     assert_eq!(card.view(1, 24, 1), Ok(&b"Kit"[..]));
     assert_eq!(card.check(), Ok(()));
 }
@@ -77,7 +77,7 @@ fn p9_and_p10_as_creates() {
         let mut card = Card::formatted(2, 1);
         let bytes = vec![b'x'; data];
         assert_eq!(card.create(&[(24, &bytes)]), Ok(1));
-        assert_eq!(control(&card), (2, block, offset));
+        assert_eq!(control(&card), (2, block, offset + 1));
         assert_eq!(card.check(), Ok(()));
     }
 }
@@ -90,7 +90,7 @@ fn an_end_in_the_last_block_moves_to_the_length_of_the_mst() {
         card.mst[500..].fill(0x77);
         let bytes = vec![b'x'; length - 24];
         assert_eq!(card.create(&[(24, &bytes)]), Ok(1), "{length}");
-        assert_eq!(control(&card), (2, 2, 0));
+        assert_eq!(control(&card), (2, 2, 1));
         assert!(card.mst[64 + length..].iter().all(|&b| b == 0x77));
         assert_eq!(card.create(&[]), Err(Refusal::NoRoom));
         assert_eq!(card.settle(1), Ok(()));
@@ -128,7 +128,7 @@ fn a_settled_record_is_deleted_by_a_copy_and_p3_is_its_entry_at_64() {
     assert_eq!(card.mst[92..120], copy);
     assert_eq!(card.mst[64..92], KITE);
     assert_eq!(card.entry(4), -2048 + 92 + 512);
-    assert_eq!(control(&card), (2, 1, 120));
+    assert_eq!(control(&card), (2, 1, 121));
     assert_eq!(card.view(1, 24, 1), Err(Refusal::Deleted));
     assert_eq!(card.view_settled(1, 24, 1), Ok(&b"Kite"[..]));
     assert_eq!(card.settle(1), Ok(()));
@@ -150,7 +150,7 @@ fn a_new_record_is_deleted_in_place_and_its_tail_is_zeroed() {
     deleted[16] = 1;
     assert_eq!(card.mst[64..92], deleted);
     assert_eq!(card.entry(4), -960);
-    assert_eq!(control(&card), (2, 1, 92));
+    assert_eq!(control(&card), (2, 1, 93));
     assert_eq!(card.settle(1), Ok(()));
     assert_eq!(card.entry(4), -1984);
 }
@@ -163,7 +163,7 @@ fn a_settled_record_with_slack_is_copied_with_the_need_as_its_length() {
     assert_eq!(card.u16(68), 28);
     assert_eq!(card.delete(1), Ok(()));
     assert_eq!(card.u16(96), 24);
-    assert_eq!(control(&card), (2, 1, 116));
+    assert_eq!(control(&card), (2, 1, 117));
     assert_eq!(card.check(), Ok(()));
 }
 
@@ -173,13 +173,13 @@ fn a_pending_record_that_outgrows_its_place_moves_and_keeps_its_back_pointer() {
     assert_eq!(card.update(1, &[(24, b"Kites and winds")]), Ok(()));
     assert_eq!((card.i32(128), card.u16(132)), (1, 64));
     assert_eq!(card.entry(4), 2048 + 122 + 512);
-    assert_eq!(control(&card), (2, 1, 162));
+    assert_eq!(control(&card), (2, 1, 163));
     assert_eq!(card.view_settled(1, 24, 1), Ok(&b"Kite"[..]));
     let mut card = Card::with_kite(1, 1);
     assert_eq!(card.update(1, &[(24, b"Kites")]), Ok(()));
     assert_eq!(card.entry(4), 2048 + 92 + 1024);
     assert_eq!((card.i32(98), card.u16(102)), (0, 0));
-    assert_eq!(control(&card), (2, 1, 122));
+    assert_eq!(control(&card), (2, 1, 123));
     assert_eq!(card.check(), Ok(()));
 }
 
@@ -203,10 +203,10 @@ fn the_padding_byte_is_0_whatever_stood_there() {
 fn an_update_that_needs_just_the_old_length_stays_in_place() {
     let mut card = Card::with_kite(1, 1);
     assert_eq!(card.update(1, &[(70, b"Wind")]), Ok(()));
-    assert_eq!((card.entry(4), card.u16(12)), (3136, 92));
+    assert_eq!((card.entry(4), card.u16(12)), (3136, 93));
     assert_eq!(card.view(1, 70, 1), Ok(&b"Wind"[..]));
     let mut card = Card::with_changed_kite(1, 1);
     assert_eq!(card.update(1, &[(24, b"Kitten")]), Ok(()));
-    assert_eq!((card.entry(4), card.u16(12)), (2652, 122));
+    assert_eq!((card.entry(4), card.u16(12)), (2652, 123));
     assert_eq!(card.view_settled(1, 24, 1), Ok(&b"Kite"[..]));
 }

@@ -39,6 +39,7 @@ pub mod called {
         store::delete(mst: &mut [u8], xrf: &mut [u8], mfn: u32) -> u32;
         store::settle(mst: &mut [u8], xrf: &mut [u8], mfn: u32) -> u32;
         store::revert(mst: &[u8], xrf: &mut [u8], mfn: u32) -> u32;
+        write::migrate(mst: &mut [u8], xrf: &[u8]) -> u32;
         check::check(mst: &[u8], xrf: &[u8]) -> u32;
         index::lookup(cnt: &[u8], n01: &[u8], l01: &[u8], n02: &[u8], l02: &[u8], term: &[u8]) -> (u32, i32, i32);
         index::check_index(cnt: &[u8], n01: &[u8], l01: &[u8], n02: &[u8], l02: &[u8]) -> u32;
@@ -55,7 +56,7 @@ pub mod inlined {
     pub use super::index::{check_index, lookup};
     pub use super::store::{delete, field, field_settled, revert, settle, view, view_settled};
     pub use super::tell::{fields, fields_settled, next, state};
-    pub use super::write::{create, format, update};
+    pub use super::write::{create, format, migrate, update};
 }
 
 /// The 2-byte integer at `at`.
@@ -84,18 +85,24 @@ fn lengths_permitted(mst: &[u8], xrf: &[u8]) -> bool {
 
 /// Answers 1 and 2.
 fn gate(mst: &[u8], xrf: &[u8]) -> Result<Control, u32> {
+    counted(mst, xrf, 1)
+}
+
+/// The same where NXTMFP counts the offset from a number.
+#[inline(always)]
+fn counted(mst: &[u8], xrf: &[u8], from: u16) -> Result<Control, u32> {
     if !lengths_permitted(mst, xrf) {
         return Err(1);
     }
     let head: &[u8; 16] = mst.first_chunk().ok_or(1u32)?;
-    let (next, block, offset) = (i32_at(head, 4), i32_at(head, 8), u16_at(head, 12));
-    let end = (i64::from(block) - 1) * 512 + i64::from(offset);
+    let (next, block, count) = (i32_at(head, 4), i32_at(head, 8), u16_at(head, 12));
+    let end = (i64::from(block) - 1) * 512 + i64::from(count) - i64::from(from);
     let right = i32_at(head, 0) == 0
         && u16_at(head, 14) == 0
         && next >= 1
         && next as usize <= xrf.len() / 512 * 127 + 1
-        && offset.is_multiple_of(2)
-        && offset <= 498
+        && count % 2 == from % 2
+        && count <= 498 + from
         && end >= 64
         && end <= mst.len() as i64;
     if !right {

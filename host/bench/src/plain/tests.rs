@@ -16,6 +16,7 @@ fn run(mst: &mut [u8], xrf: &mut [u8], call: &Call) -> (Outcome, Shown) {
     outcome.number = match call {
         Call::Format => called::format(mst, xrf),
         Call::Check => called::check(mst, xrf),
+        Call::Migrate => called::migrate(mst, xrf),
         Call::Delete(mfn) => called::delete(mst, xrf, *mfn),
         Call::Settle(mfn) => called::settle(mst, xrf, *mfn),
         Call::Revert(mfn) => called::revert(mst, xrf, *mfn),

@@ -2,7 +2,9 @@
 
 use super::store::found;
 use super::{CHANGED, SETTLED};
-use super::{entry_of, gate, i32_at, lengths_permitted, numbered, slot, step_over};
+use super::{
+    counted, entry_of, gate, i32_at, lengths_permitted, numbered, slot, step_over, u16_at,
+};
 use model::Draft;
 
 /// The mark of a record that was never settled.
@@ -11,7 +13,20 @@ const NEW: u8 = 2;
 /// Writes NXTMFB and NXTMFP.
 pub fn put_end(mst: &mut [u8], end: usize) {
     mst[8..12].copy_from_slice(&((end / 512 + 1) as i32).to_le_bytes());
-    mst[12..14].copy_from_slice(&((end % 512) as u16).to_le_bytes());
+    mst[12..14].copy_from_slice(&((end % 512) as u16 + 1).to_le_bytes());
+}
+
+/// Counts the end of an old card from one.
+#[inline(always)]
+pub fn migrate(mst: &mut [u8], xrf: &[u8]) -> u32 {
+    match counted(mst, xrf, 0) {
+        Ok(_) => {
+            let count = u16_at(mst, 12) + 1;
+            mst[12..14].copy_from_slice(&count.to_le_bytes());
+            0
+        }
+        Err(refusal) => refusal,
+    }
 }
 
 /// Empties a card of permitted lengths.

@@ -8,8 +8,8 @@ mod subject {
     pub use model::ask::{fields, fields_settled, next, state};
     pub use model::index::{check as check_index, lookup};
     pub use model::store::{
-        Answer, Indexed, check, create, delete, field, field_settled, format, revert, settle,
-        update, view, view_settled,
+        Answer, Indexed, check, create, delete, field, field_settled, format, migrate, revert,
+        settle, update, view, view_settled,
     };
 }
 

@@ -1,7 +1,7 @@
 //! One long list that goes through a whole catalogue: every MFN of an XRF of one block,
 //! records under every mark, live and deleted, updates in place and at the end, views
-//! of both versions, reverts after other records changed, every refusal, the MST full,
-//! and then a second catalogue over the first.
+//! of both versions, reverts after other records changed, every refusal, migrations, which
+//! change nothing, the MST full, and then a second catalogue over the first.
 
 use crate::call::{Call, OwnedDraft};
 
@@ -101,7 +101,7 @@ fn deletes(calls: &mut Vec<Call>) {
             .step_by(42)
             .map(|mfn| Call::Update(mfn, long(2))),
     );
-    calls.push(Call::Check);
+    calls.extend([Call::Migrate, Call::Check]);
 }
 
 /// Both views of every third record.
@@ -194,7 +194,8 @@ fn until_full(calls: &mut Vec<Call>, mfn: u32, letters: usize, rounds: usize) {
 
 /// A second catalogue over the first, of which nothing is left.
 fn second_catalogue(calls: &mut Vec<Call>) {
-    calls.extend([Call::Format, Call::Check, Call::view(1, 24, 1)]);
+    calls.extend([Call::Format, Call::Migrate, Call::Check]);
+    calls.push(Call::view(1, 24, 1));
     for mfn in 1..=12 {
         calls.push(Call::Create(draft(mfn, 3)));
         calls.push(Call::view(mfn, 24, 1));

@@ -177,7 +177,7 @@ fn malformed() -> Vec<List> {
     vec![
         small("one number alone", &[]).with_numbers(0, &[8]),
         one("four numbers left", &[8, 0, 0, 0]),
-        one("a call of no name", &[9, 0, 0, 0, 0]),
+        one("a call of no name", &[10, 0, 0, 0, 0]),
         one("a call of no name, far off", &[u32::MAX, 1, 24, 1, 0]),
         one("view of a tag too large", &[1, 1, 65536, 1, 0]),
         one("settled view of a tag too large", &[2, 1, 65536 + 24, 1, 0]),

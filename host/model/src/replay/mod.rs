@@ -135,7 +135,8 @@ impl List {
             Call::Settle(mfn) => [6, mfn, 0, 0, 0],
             Call::Revert(mfn) => [7, mfn, 0, 0, 0],
             Call::Check => [8, 0, 0, 0, 0],
-            _ => panic!("a list has the nine calls of document 01 only"),
+            Call::Migrate => [9, 0, 0, 0, 0],
+            _ => panic!("a list has the calls of demand 3 only"),
         };
         self.numbers.extend(numbers);
     }
@@ -206,6 +207,7 @@ impl<'a> Left<'a> {
             6 => Call::Settle(mfn),
             7 => Call::Revert(mfn),
             8 => Call::Check,
+            9 => Call::Migrate,
             _ => return None,
         };
         self.numbers = rest;

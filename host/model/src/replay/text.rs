@@ -5,11 +5,11 @@
 
 use super::{CALL, List, Replay, Stop};
 use crate::call::Call;
-use crate::layout::block_and_offset;
+use crate::layout::{COUNT_FROM, block_and_offset};
 use std::fmt::{Display, Write};
 
-/// How many calls a list can have: the nine of document 01, by their kind.
-const LISTED: usize = 9;
+/// How many calls a list can have: the nine of document 01 and the migration, by their kind.
+const LISTED: usize = 10;
 
 /// Numbers of the three draft lists on one line.
 const PER_LINE: usize = 20;
@@ -75,7 +75,8 @@ pub fn replay(replay: &Replay) -> String {
     }
     if let Some((next_mfn, end)) = replay.kept {
         let (block, offset) = block_and_offset(end);
-        writeln!(lines, "NXTMFN {next_mfn} NXTMFB {block} NXTMFP {offset}").unwrap();
+        let count = offset + COUNT_FROM;
+        writeln!(lines, "NXTMFN {next_mfn} NXTMFB {block} NXTMFP {count}").unwrap();
     }
     lines
 }

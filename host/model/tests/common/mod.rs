@@ -7,7 +7,7 @@ use std::collections::BTreeSet;
 
 /// Every answer that a list from format can give, by the call's number in a list; then
 /// the two fields by index, and the calls that tell something.
-pub const FROM_FORMAT: [(u32, &[u32]); 15] = [
+pub const FROM_FORMAT: [(u32, &[u32]); 16] = [
     (0, &[0]),
     (1, &[0, 4, 9, 12]),
     (2, &[0, 4, 9, 11, 12]),
@@ -17,12 +17,13 @@ pub const FROM_FORMAT: [(u32, &[u32]); 15] = [
     (6, &[0, 4, 10]),
     (7, &[0, 4, 10, 11]),
     (8, &[0]),
-    (9, &[0, 4, 9, 12]),
-    (10, &[0, 4, 9, 11, 12]),
-    (11, &[0]),
-    (12, &[0, 4]),
-    (13, &[0, 4, 9, 17]),
-    (14, &[0, 4, 9, 11, 17]),
+    (9, &[2]),
+    (10, &[0, 4, 9, 12]),
+    (11, &[0, 4, 9, 11, 12]),
+    (12, &[0]),
+    (13, &[0, 4]),
+    (14, &[0, 4, 9, 17]),
+    (15, &[0, 4, 9, 11, 17]),
 ];
 
 /// The first `calls` rows of it as pairs.
@@ -89,6 +90,11 @@ impl Card {
         self
     }
 
+    /// Sets the end: its block, and its offset as NXTMFP counts it.
+    pub fn put_end(&mut self, block: i32, offset: u16) -> &mut Card {
+        self.put_i32(8, block).put_u16(12, offset + 1)
+    }
+
     pub fn put_i32(&mut self, at: usize, value: i32) -> &mut Card {
         self.mst[at..at + 4].copy_from_slice(&value.to_le_bytes());
         self
@@ -146,6 +152,10 @@ impl Card {
 
     pub fn revert(&mut self, mfn: u32) -> Result<(), Refusal> {
         self.kept_if_refused(|card| store::revert(&card.mst, &mut card.xrf, mfn))
+    }
+
+    pub fn migrate(&mut self) -> Result<(), Refusal> {
+        self.kept_if_refused(|card| store::migrate(&mut card.mst, &card.xrf))
     }
 
     pub fn check(&self) -> Result<(), Refusal> {

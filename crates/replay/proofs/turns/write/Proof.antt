@@ -54,6 +54,15 @@ revert-requires c κs = search needs
 without-mfn-requires-5 : tie.Need-without-mfn-requires-5
 without-mfn-requires-5 c κs = search needs
 
+enum-told-3 : tie.Need-enum-told-3
+enum-told-3 c = search needs
+
+migrate-requires : tie.Need-migrate-requires
+migrate-requires c κs = search needs
+
+without-mfn-requires-6 : tie.Need-without-mfn-requires-6
+without-mfn-requires-6 c κs = search needs
+
 same-length : tie.Need-same-length
 same-length c = search needs
 
@@ -108,6 +117,15 @@ same-length-12 c = search needs
 returns-6 : tie.Need-returns-6
 returns-6 c = search written-answers
 
+same-length-13 : tie.Need-same-length-13
+same-length-13 c = search needs
+
+same-length-14 : tie.Need-same-length-14
+same-length-14 c = search needs
+
+returns-7 : tie.Need-returns-7
+returns-7 c = search written-answers
+
 pub write-spec : {M : Type 1} → statement M
 write-spec =
     tie.close
@@ -129,6 +147,9 @@ write-spec =
     enum-known-w-4
     revert-requires
     without-mfn-requires-5
+    enum-told-3
+    migrate-requires
+    without-mfn-requires-6
     same-length
     same-length-2
     returns
@@ -146,4 +167,7 @@ write-spec =
     returns-5
     same-length-11
     same-length-12
-    returns-6)
+    returns-6
+    same-length-13
+    same-length-14
+    returns-7)

@@ -50,9 +50,13 @@ unfolding opNamed
 returns-9 c = rw (c .match .keys9)
 
 returns-10 : tie.Need-returns-10
-returns-10 c =
+unfolding opNamed
+returns-10 c = rw (c .match .keys10, c .before .no-draft .ensures)
+
+returns-11 : tie.Need-returns-11
+returns-11 c =
     let others = c .match .rest in
-    op-none _ _ _ _ _ (others .0 .0 .0 .0 .0 .0 .0 .0 .1) (others .0 .0 .0 .0 .0 .0 .0 .1) (others .0 .0 .0 .0 .0 .0 .1) (others .0 .0 .0 .0 .0 .1) (others .0 .0 .0 .0 .1) (others .0 .0 .0 .1) (others .0 .0 .1) (others .0 .1) (others .1)
+    op-none _ _ _ _ _ (others .0 .0 .0 .0 .0 .0 .0 .0 .0 .1) (others .0 .0 .0 .0 .0 .0 .0 .0 .1) (others .0 .0 .0 .0 .0 .0 .0 .1) (others .0 .0 .0 .0 .0 .0 .1) (others .0 .0 .0 .0 .0 .1) (others .0 .0 .0 .0 .1) (others .0 .0 .0 .1) (others .0 .0 .1) (others .0 .1) (others .1)
 
 pub op-named-spec : {M : Type 1} → statement M
 op-named-spec =
@@ -70,4 +74,5 @@ op-named-spec =
     returns-7
     returns-8
     returns-9
-    returns-10)
+    returns-10
+    returns-11)

@@ -95,6 +95,18 @@ impl Card {
         self
     }
 
+    /// Sets NXTMFP.
+    pub fn set_count(&mut self, value: u16) -> &mut Card {
+        self.mst[12..14].copy_from_slice(&value.to_le_bytes());
+        self
+    }
+
+    /// Makes it a card of the old rule: NXTMFP is one less.
+    pub fn old(&mut self) -> &mut Card {
+        let count = u16::from_le_bytes(self.mst[12..14].try_into().unwrap());
+        self.set_count(count - 1)
+    }
+
     /// Changes a byte of the XRF.
     pub fn set_xrf(&mut self, at: usize, value: u8) -> &mut Card {
         self.xrf[at] = value;
@@ -181,6 +193,11 @@ impl Card {
         self.plain(what, "revert", |mst, xrf| store::revert(mst, xrf, mfn));
     }
 
+    pub fn migrate(&mut self, what: &str) {
+        let run = |mst: &mut [u8], xrf: &mut [u8]| store::migrate(mst, xrf);
+        self.plain(what, "migrate", run);
+    }
+
     pub fn check(&mut self, what: &str) {
         let answer = number(&store::check(&self.mst, &self.xrf));
         writeln!(self.lines, "{what}: check {answer}").unwrap();
@@ -240,12 +257,13 @@ impl Card {
         self.revert(what, mfn);
     }
 
-    /// The calls that name an MFN, on MFN 1; next, create and check.
+    /// The calls that name an MFN, on MFN 1; next, create, check and migrate.
     pub fn all_on_one(&mut self, what: &str) {
         self.next(what);
         self.naming(what, 1);
         self.create(what, b"Kites");
         self.check(what);
+        self.migrate(what);
     }
 }
 
@@ -254,8 +272,8 @@ impl Card {
     pub fn state(&mut self, what: &str, part: std::ops::Range<usize>) {
         let entry = i32::from_le_bytes(self.xrf[4..8].try_into().unwrap());
         let block = i32::from_le_bytes(self.mst[8..12].try_into().unwrap());
-        let offset = u16::from_le_bytes(self.mst[12..14].try_into().unwrap());
-        let end = (block - 1) * 512 + i32::from(offset);
+        let count = u16::from_le_bytes(self.mst[12..14].try_into().unwrap());
+        let end = (block - 1) * 512 + i32::from(count) - 1;
         let (at, bytes) = (part.start, hexadecimal(&self.mst[part]));
         writeln!(
             self.lines,

@@ -7,6 +7,7 @@ pub mod card;
 mod index;
 mod limits;
 mod marks;
+mod migration;
 mod order;
 mod records;
 mod refusals;
@@ -26,6 +27,7 @@ pub fn lines() -> String {
     limits::run(&mut card);
     order::run(&mut card);
     soundness_faults::run(&mut card);
+    migration::run(&mut card);
     refusals::lengths(&mut card);
     let mut large = Card::new(3584);
     limits::capacity(&mut large);

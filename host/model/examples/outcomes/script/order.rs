@@ -23,7 +23,7 @@ fn wrong_draft(card: &mut Card, what: &str, mfn: u32) {
 
 /// Moves the end to that of the MST, block 2, offset 0.
 fn no_room(card: &mut Card) {
-    card.set_mst(8, 2).set_mst(12, 0);
+    card.set_mst(8, 2).set_count(1);
 }
 
 fn drafts(card: &mut Card) {

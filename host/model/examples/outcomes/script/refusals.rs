@@ -34,14 +34,13 @@ fn control(card: &mut Card) {
         ("NXTMFN 129", 4, 129),
         ("NXTMFB 0", 8, 0),
         ("NXTMFB 2", 8, 2),
-        ("NXTMFP 62", 12, 62),
-        ("NXTMFP 93", 12, 93),
     ] {
         card.new_record().set_mst(at, value).check(what);
     }
-    let [low, high] = 500_u16.to_le_bytes();
-    card.new_record().set_mst(12, low).set_mst(13, high);
-    card.check("NXTMFP 500");
+    for count in [0, 63, 92, 94, 498, 499, 500, 501, 65_535] {
+        let what = format!("NXTMFP {count}");
+        card.new_record().set_count(count).check(&what);
+    }
     card.new_record().set_mst(14, 1);
     card.all_on_one("MFTYPE 1");
     card.format("MFTYPE 1");

@@ -21,7 +21,7 @@ fn steps(card: &mut Card) {
     card.set_mst(68, 26);
     card.view("version that no entry names, MFRL 26", 1);
     card.check("version that no entry names, MFRL 26");
-    card.settled_record().set_mst(12, 94);
+    card.settled_record().set_count(95);
     card.view("end past the last record", 1);
     card.check("end past the last record");
 }

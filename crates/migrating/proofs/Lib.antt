@@ -1,0 +1,5 @@
+pub mod Answers
+pub mod Lowest
+pub mod Today
+pub mod Same
+pub mod Theorems

@@ -1,0 +1,368 @@
+-- A card of the old rule, and the same card migrated, each read by its own rule. Both have the same end, the same NXTMFN and the same bytes
+-- behind the control record; all that is read of a record stands there, since a well-formed place has an address of 64 or more. So both read the
+-- same: every view, every step, and whether the store is sound.
+use Prim.Native.Nat.{ℕ, zero, suc, _+_, _-_, _≤_}
+use native.Mathlib.Omega.{arith}
+use mathlib.Core.Path.{_≡_, refl, sym, ap, _∙_}
+use mathlib.Core.Logic.{⊎-elim}
+use mathlib.Core.Bool.{Bool, true, false, not, _&&_, cond}
+use mathlib.Core.List.{List, [], _∷_}
+use lib.Dec.{leb}
+use lib.ListN.{length}
+use Rattle.word.specs.Overwrite.{part}
+use Rattle.word.proofs.Tests.{tests, and-left}
+use Rattle.layout.specs.Sizes.{endMoved, recordLength, capacityOf}
+use Rattle.layout.specs.Entry.{placed, placeAddress, isSettled, isChanged, isNew}
+use Rattle.layout.specs.Leader.{leaderOf}
+use Rattle.layout.specs.declared.entry.Mark.{Mark}
+use Rattle.layout.specs.declared.entry.Mark.the-variants.{Settled, Changed, New}
+use Rattle.layout.specs.declared.entry.Place.{Place}
+use Rattle.layout.specs.declared.entry.Entry.{Entry}
+use Rattle.layout.specs.declared.entry.Entry.the-variants.{Gone, Malformed, At}
+use Rattle.layout.proofs.Facts.{well-placed-facts, end-moved-facts}
+use Rattle.files.specs.Control.{offsetsFrom, oldOffsetsFrom, nextOf, endFrom, endOf, oldEndOf, controlRightFrom, oldControlRight, migratedMst}
+use Rattle.files.specs.CrossReference.{entryAt}
+use Rattle.files.proofs.ControlRecord.{control-facts, migrated-part, migrated-length, migrated-next, migrated-end, migrated-right}
+use Rattle.files.proofs.CrossReference.{entry-well-placed}
+use Rattle.record.specs.Record.{recordRight, backAddress, backFine}
+use Rattle.record.specs.Fields.{findOf}
+use Rattle.record.specs.declared.fields.Found.{Found}
+use Rattle.record.proofs.Facts.{well-formed-both}
+use Rattle.store.specs.Store.{store}
+use Rattle.store.specs.Answer.{numberOf, after}
+use Rattle.store.specs.Reading.{lengthsPermitted, mfnInRange, placeIn, isMalformed, isGone}
+use Rattle.store.specs.declared.answer.Answer.{Answer}
+use Rattle.store.specs.declared.answer.Answer.the-variants.{Done, BadLength, BadControl, NoMfn, BadEntry, Gone as GoneAnswer, BadRecord, Deleted, NeverSettled, NoField}
+use Rattle.store.proofs.Gates.{Refusing, refusing-not-done, after-done, after-refused, after-cases, holds, back-changed}
+use Rattle.views.specs.Views.{isMissing, foundStart, foundLength, shownAt, shownBytes}
+use Rattle.soundness.specs.Sound.{allTo, elem, implies}
+use Rattle.soundness.proofs.Counting.{allTo-same}
+use Rattle.migrating.specs.Readings.{recordBy, leaderBy, backBy, fineBy, settledFineBy, bothFineBy, settledRecordBy, settledAddressBy, viewBy, settledViewBy, mfrlBy, nextStepBy, stepsInBy, arrivesInBy, stepsBy, arrivesBy, entrySoundBy, bodySoundBy, soundBy}
+
+-- ---- a view by what is read: where the tables ask the same, the same is shown
+
+-- 1, 2, 4, 6, 7 and 8, and the rows behind them
+abbrev table : Bool → Bool → Entry → Bool → Answer → Answer
+table lengths known e ok rest =
+    cond (not lengths) BadLength (cond (not known) NoMfn (cond (isMalformed e) BadEntry (cond (isGone e) GoneAnswer (cond (not ok) BadRecord rest))))
+
+-- a refused view shows nothing, wherever it looked
+shown-refused : (a : Answer) → Refusing a → (at at′ : ℕ) (f f′ : Found) → shownAt a at f ≡ shownAt a at′ f′
+unfolding shownAt
+shown-refused a h at at′ f f′ =
+    rw (
+      after-refused a (at + foundStart f) 0 h,
+      after-refused a (foundLength f) 0 h,
+      after-refused a (at′ + foundStart f′) 0 h,
+      after-refused a (foundLength f′) 0 h,
+    )
+
+module _ (lengths known : Bool) where
+  -- an entry that has no place is refused, and so is a record that is not right
+  no-place : (a : Answer) → Refusing a → Refusing (cond (not lengths) BadLength (cond (not known) NoMfn a))
+  unfolding numberOf
+  no-place a h = go lengths known
+    where
+      go : (l k : Bool) → Refusing (cond (not l) BadLength (cond (not k) NoMfn a))
+      go false k = λ z. omega arith
+      go true false = λ z. omega arith
+      go true true = h
+
+  gone-refused : Refusing (table lengths known Gone true Done)
+  unfolding numberOf
+  gone-refused = no-place GoneAnswer (λ z. omega arith)
+
+  malformed-refused : Refusing (table lengths known Malformed true Done)
+  unfolding numberOf
+  malformed-refused = no-place BadEntry (λ z. omega arith)
+
+  wrong-refused : (p : Place) → Refusing (table lengths known (At p) false Done)
+  unfolding numberOf
+  wrong-refused p = no-place BadRecord (λ z. omega arith)
+
+  -- two readings of one entry
+  module _ (ok ok′ : Place → Bool) (rest rest′ : Place → Answer) (at at′ : Place → ℕ) (f f′ : Place → Found) where
+    shown-same : (e : Entry)
+        → ((p : Place) → e ≡ At p → ok p ≡ ok′ p)
+        → ((p : Place) → e ≡ At p → ok′ p ≡ true → (rest p ≡ rest′ p) × (at p ≡ at′ p) × (f p ≡ f′ p))
+        → shownAt (table lengths known e (ok (placeIn e)) (rest (placeIn e))) (at (placeIn e)) (f (placeIn e))
+        ≡ shownAt (table lengths known e (ok′ (placeIn e)) (rest′ (placeIn e))) (at′ (placeIn e)) (f′ (placeIn e))
+    shown-same Gone same more = shown-refused _ gone-refused _ _ _ _
+    shown-same Malformed same more = shown-refused _ malformed-refused _ _ _ _
+    shown-same (At p) same more = rw (same p refl) (go (ok′ p) (more p refl))
+      where
+        go : (b : Bool) → (b ≡ true → (rest p ≡ rest′ p) × (at p ≡ at′ p) × (f p ≡ f′ p))
+            → shownAt (table lengths known (At p) b (rest p)) (at p) (f p) ≡ shownAt (table lengths known (At p) b (rest′ p)) (at′ p) (f′ p)
+        go false h = shown-refused _ (wrong-refused p) _ _ _ _
+        go true h = let q = h refl in rw (q .0, q .1, q .2)
+
+  -- a view that is done read a record at a place
+  table-done : (e : Entry) (ok : Bool) (rest : Answer) → table lengths known e ok rest ≡ Done → (e ≡ At (placeIn e)) × (ok ≡ true)
+  unfolding numberOf
+  table-done e ok rest h =
+      let a = holds lengths BadLength _ (λ z. omega arith) h in
+      let b = holds known NoMfn _ (λ z. omega arith) (a .1) in
+      go e (b .1)
+    where
+      go : (e : Entry) → cond (isMalformed e) BadEntry (cond (isGone e) GoneAnswer (cond (not ok) BadRecord rest)) ≡ Done → (e ≡ At (placeIn e)) × (ok ≡ true)
+      go Gone k = absurd (refusing-not-done GoneAnswer (λ z. omega arith) k)
+      go Malformed k = absurd (refusing-not-done BadEntry (λ z. omega arith) k)
+      go (At p) k = (refl, holds ok BadRecord rest (λ z. omega arith) k .0)
+
+-- ---- the two cards
+
+module _ (mst xrf : List ℕ) (old : oldControlRight mst (capacityOf (length xrf)) ≡ true) where
+  same-end : endFrom offsetsFrom (migratedMst mst) ≡ endFrom oldOffsetsFrom mst
+  same-end = migrated-end mst (capacityOf (length xrf)) old
+
+  -- ---- a record
+
+  record-same : (at : ℕ) → 64 ≤ at → recordBy offsetsFrom (migratedMst mst) at ≡ recordBy oldOffsetsFrom mst at
+  record-same at h = rw same-end (migrated-part mst at (endFrom oldOffsetsFrom mst - at) h)
+
+  module _ (m : ℕ) (p : Place) (low : 64 ≤ placeAddress p) where
+    fine-same : fineBy offsetsFrom (migratedMst mst) m p ≡ fineBy oldOffsetsFrom mst m p
+    unfolding fineBy
+    fine-same = rw (record-same (placeAddress p) low, same-end)
+
+    back-same : backBy offsetsFrom (migratedMst mst) p ≡ backBy oldOffsetsFrom mst p
+    back-same = rw (record-same (placeAddress p) low)
+
+    -- a changed record that is well formed has a well-formed back place
+    back-low : fineBy oldOffsetsFrom mst m p ≡ true → p .mark ≡ Changed → 64 ≤ backBy oldOffsetsFrom mst p
+    unfolding fineBy
+    back-low e k =
+        let q = simp tests at (sym (well-formed-both (recordBy oldOffsetsFrom mst (placeAddress p)) (oldEndOf mst) m p) ∙ e) in
+        back-changed (oldEndOf mst) p (leaderBy oldOffsetsFrom mst p) (q .1) k .facts .above
+
+    settled-fine-same : 64 ≤ backBy oldOffsetsFrom mst p → settledFineBy offsetsFrom (migratedMst mst) m p ≡ settledFineBy oldOffsetsFrom mst m p
+    unfolding settledFineBy
+    settled-fine-same h = rw (record-same (placeAddress p) low, record-same (backBy oldOffsetsFrom mst p) h, same-end)
+
+    -- with its settled version
+    both-same : bothFineBy offsetsFrom (migratedMst mst) m p ≡ bothFineBy oldOffsetsFrom mst m p
+    both-same = rw fine-same (go (fineBy oldOffsetsFrom mst m p) refl)
+      where
+        by : (k : Mark) → p .mark ≡ k → fineBy oldOffsetsFrom mst m p ≡ true
+            → cond (isChanged k) (settledFineBy offsetsFrom (migratedMst mst) m p) true ≡ cond (isChanged k) (settledFineBy oldOffsetsFrom mst m p) true
+        by Settled e f = refl
+        by Changed e f = settled-fine-same (back-low f e)
+        by New e f = refl
+
+        go : (b : Bool) → fineBy oldOffsetsFrom mst m p ≡ b
+            → (b && cond (isChanged (p .mark)) (settledFineBy offsetsFrom (migratedMst mst) m p) true)
+            ≡ (b && cond (isChanged (p .mark)) (settledFineBy oldOffsetsFrom mst m p) true)
+        go false e = refl
+        go true e = by (p .mark) refl e
+
+    settled-record-same : fineBy oldOffsetsFrom mst m p ≡ true
+        → (settledRecordBy offsetsFrom (migratedMst mst) p ≡ settledRecordBy oldOffsetsFrom mst p) × (settledAddressBy offsetsFrom (migratedMst mst) p ≡ settledAddressBy oldOffsetsFrom mst p)
+    settled-record-same f = go (p .mark) refl
+      where
+        go : (k : Mark) → p .mark ≡ k
+            → (cond (isChanged k) (recordBy offsetsFrom (migratedMst mst) (backBy offsetsFrom (migratedMst mst) p)) (recordBy offsetsFrom (migratedMst mst) (placeAddress p))
+            ≡ cond (isChanged k) (recordBy oldOffsetsFrom mst (backBy oldOffsetsFrom mst p)) (recordBy oldOffsetsFrom mst (placeAddress p)))
+            × (cond (isChanged k) (backBy offsetsFrom (migratedMst mst) p) (placeAddress p) ≡ cond (isChanged k) (backBy oldOffsetsFrom mst p) (placeAddress p))
+        go Settled e = (record-same (placeAddress p) low, refl)
+        go Changed e = (rw back-same (record-same (backBy oldOffsetsFrom mst p) (back-low f e)), back-same)
+        go New e = (record-same (placeAddress p) low, refl)
+
+    -- the record that the settled view reads stands behind the control record
+    settled-low : fineBy oldOffsetsFrom mst m p ≡ true → 64 ≤ settledAddressBy oldOffsetsFrom mst p
+    settled-low f = go (p .mark) refl
+      where
+        go : (k : Mark) → p .mark ≡ k → 64 ≤ cond (isChanged k) (backBy oldOffsetsFrom mst p) (placeAddress p)
+        go Settled e = low
+        go Changed e = back-low f e
+        go New e = low
+
+  -- ---- an entry
+
+  entry-low : (m : ℕ) (p : Place) → entryAt xrf (oldEndOf mst) m ≡ At p → 64 ≤ placeAddress p
+  entry-low m p e = well-placed-facts (oldEndOf mst) (p .block .0) (p .offset) (entry-well-placed xrf (oldEndOf mst) m p e) .above
+
+  known-same : (m : ℕ) → mfnInRange (migratedMst mst) m ≡ mfnInRange mst m
+  unfolding mfnInRange
+  known-same m = rw (migrated-next mst (capacityOf (length xrf)) old)
+
+  pub lengths-same : lengthsPermitted (store (migratedMst mst) xrf) ≡ lengthsPermitted (store mst xrf)
+  unfolding lengthsPermitted
+  lengths-same = rw (migrated-length mst (capacityOf (length xrf)) old)
+
+  -- ---- the views
+
+  right-both : (controlRightFrom offsetsFrom (migratedMst mst) (capacityOf (length xrf)) ≡ true) × (controlRightFrom oldOffsetsFrom mst (capacityOf (length xrf)) ≡ true)
+  right-both = (migrated-right mst (capacityOf (length xrf)) old, old)
+
+  -- a record of the migrated card, with the end that both have
+  abbrev readNow : ℕ → List ℕ
+  readNow at = part (migratedMst mst) at (oldEndOf mst - at)
+
+  read-same : (at : ℕ) → 64 ≤ at → readNow at ≡ recordBy oldOffsetsFrom mst at
+  read-same at h = migrated-part mst at (oldEndOf mst - at) h
+
+  abbrev backNow : Place → ℕ
+  backNow p = backAddress (leaderOf (readNow (placeAddress p)))
+
+  abbrev settledNow : Place → List ℕ
+  settledNow p = cond (isChanged (p .mark)) (readNow (backNow p)) (readNow (placeAddress p))
+
+  abbrev settledAtNow : Place → ℕ
+  settledAtNow p = cond (isChanged (p .mark)) (backNow p) (placeAddress p)
+
+  module _ (m tag occ : ℕ) where
+    -- the rows behind 8, of a record that is read
+    abbrev currentRest : List ℕ → Place → Answer
+    currentRest rec p = cond (p .deleted) Deleted (cond (isMissing (findOf rec tag occ)) NoField Done)
+
+    abbrev settledRest : List ℕ → Place → Answer
+    settledRest rec p =
+        cond (p .deleted && isSettled (p .mark)) Deleted (cond (isNew (p .mark)) NeverSettled (cond (isMissing (findOf rec tag occ)) NoField Done))
+
+    pub view-same : viewBy offsetsFrom (store (migratedMst mst) xrf) m tag occ ≡ viewBy oldOffsetsFrom (store mst xrf) m tag occ
+    unfolding viewBy
+    view-same =
+        rw (right-both .0, right-both .1, lengths-same, known-same m, same-end)
+        (shown-same (lengthsPermitted (store mst xrf)) (mfnInRange mst m)
+        (fineBy offsetsFrom (migratedMst mst) m) (fineBy oldOffsetsFrom mst m)
+        (λ p. currentRest (readNow (placeAddress p)) p) (λ p. currentRest (recordBy oldOffsetsFrom mst (placeAddress p)) p)
+        placeAddress placeAddress
+        (λ p. findOf (readNow (placeAddress p)) tag occ)
+        (λ p. findOf (recordBy oldOffsetsFrom mst (placeAddress p)) tag occ)
+        (entryAt xrf (oldEndOf mst) m)
+        (λ p e. fine-same m p (entry-low m p e))
+        (λ p e f. let r = read-same (placeAddress p) (entry-low m p e) in (rw r refl, refl, rw r refl)))
+
+    pub settled-view-same : settledViewBy offsetsFrom (store (migratedMst mst) xrf) m tag occ ≡ settledViewBy oldOffsetsFrom (store mst xrf) m tag occ
+    unfolding settledViewBy
+    settled-view-same =
+        rw (right-both .0, right-both .1, lengths-same, known-same m, same-end)
+        (shown-same (lengthsPermitted (store mst xrf)) (mfnInRange mst m)
+        (bothFineBy offsetsFrom (migratedMst mst) m) (bothFineBy oldOffsetsFrom mst m)
+        (λ p. settledRest (settledNow p) p) (λ p. settledRest (settledRecordBy oldOffsetsFrom mst p) p)
+        settledAtNow (settledAddressBy oldOffsetsFrom mst)
+        (λ p. findOf (settledNow p) tag occ)
+        (λ p. findOf (settledRecordBy oldOffsetsFrom mst p) tag occ)
+        (entryAt xrf (oldEndOf mst) m)
+        (λ p e. both-same m p (entry-low m p e))
+        (λ p e f.
+        let r : (settledNow p ≡ settledRecordBy oldOffsetsFrom mst p) × (settledAtNow p ≡ settledAddressBy oldOffsetsFrom mst p)
+        = rw same-end at (settled-record-same m p (entry-low m p e) (and-left (fineBy oldOffsetsFrom mst m p) _ f)) in
+        (rw (r .0) refl, r .1, rw (r .0) refl)))
+
+    -- the bytes shown stand behind the control record
+    bytes-same : (a : Answer) (at : ℕ) (f : Found) → (a ≡ Done → 64 ≤ at) → shownBytes (migratedMst mst) (shownAt a at f) ≡ shownBytes mst (shownAt a at f)
+    unfolding shownAt
+    bytes-same a at f low =
+        ⊎-elim
+        (λ d. rw (after-done a (at + foundStart f) 0 (d .0), after-done a (foundLength f) 0 (d .0)) (migrated-part mst (at + foundStart f) (foundLength f) (omega (arith, low (d .0)))))
+        (λ r. rw (after-refused a (at + foundStart f) 0 (r .0), after-refused a (foundLength f) 0 (r .0)) refl)
+        (after-cases {A = ℕ} a 1 0)
+
+    pub view-bytes-same : shownBytes (migratedMst mst) (viewBy oldOffsetsFrom (store mst xrf) m tag occ) ≡ shownBytes mst (viewBy oldOffsetsFrom (store mst xrf) m tag occ)
+    unfolding viewBy
+    view-bytes-same =
+        let p : Place = placeIn (entryAt xrf (oldEndOf mst) m) in
+        rw (right-both .1)
+        (bytes-same _ _ _
+        (λ d.
+        let q = table-done (lengthsPermitted (store mst xrf)) (mfnInRange mst m) (entryAt xrf (oldEndOf mst) m) (fineBy oldOffsetsFrom mst m p)
+        (currentRest (recordBy oldOffsetsFrom mst (placeAddress p)) p) d in
+        entry-low m p (q .0)))
+
+    pub settled-bytes-same : shownBytes (migratedMst mst) (settledViewBy oldOffsetsFrom (store mst xrf) m tag occ) ≡ shownBytes mst (settledViewBy oldOffsetsFrom (store mst xrf) m tag occ)
+    unfolding settledViewBy
+    settled-bytes-same =
+        let p : Place = placeIn (entryAt xrf (oldEndOf mst) m) in
+        rw (right-both .1)
+        (bytes-same _ _ _
+        (λ d.
+        let q = table-done (lengthsPermitted (store mst xrf)) (mfnInRange mst m) (entryAt xrf (oldEndOf mst) m) (bothFineBy oldOffsetsFrom mst m p)
+        (settledRest (settledRecordBy oldOffsetsFrom mst p) p) d in
+        settled-low m p (entry-low m p (q .0)) (and-left (fineBy oldOffsetsFrom mst m p) _ (q .1))))
+
+  -- ---- the steps
+
+  -- the next step, by MFRL and the end
+  abbrev stepTo : ℕ → ℕ → ℕ → ℕ
+  stepTo at mfrl end = cond (recordLength mfrl && leb (at + mfrl) end) (endMoved (at + mfrl)) (end + 1)
+
+  next-same : (at : ℕ) → 64 ≤ at → nextStepBy offsetsFrom (migratedMst mst) at ≡ nextStepBy oldOffsetsFrom mst at
+  unfolding nextStepBy
+  next-same at h =
+      let mfrl : mfrlBy offsetsFrom (migratedMst mst) at ≡ mfrlBy oldOffsetsFrom mst at = ap (λ (r : List ℕ). leaderOf r .mfrl) (record-same at h) in
+      ap (λ (k : ℕ). stepTo at k (endOf (migratedMst mst))) mfrl ∙ ap (stepTo at (mfrlBy oldOffsetsFrom mst at)) same-end
+
+  next-low : (at : ℕ) → 64 ≤ at → 64 ≤ nextStepBy oldOffsetsFrom mst at
+  unfolding nextStepBy
+  next-low at h = go (recordLength (mfrlBy oldOffsetsFrom mst at) && leb (at + mfrlBy oldOffsetsFrom mst at) (oldEndOf mst))
+    where
+      go : (b : Bool) → 64 ≤ cond b (endMoved (at + mfrlBy oldOffsetsFrom mst at)) (oldEndOf mst + 1)
+      go true = omega (arith, end-moved-facts (at + mfrlBy oldOffsetsFrom mst at) .low)
+      go false = omega (arith, control-facts mst (capacityOf (length xrf)) old .end-low)
+
+  steps-in-same : (n at : ℕ) → 64 ≤ at → stepsInBy offsetsFrom n (migratedMst mst) at ≡ stepsInBy oldOffsetsFrom n mst at
+  unfolding stepsInBy
+  steps-in-same zero at h = refl
+  steps-in-same (suc n) at h = rw (next-same at h, steps-in-same n (nextStepBy oldOffsetsFrom mst at) (next-low at h), same-end)
+
+  arrives-in-same : (n at : ℕ) → 64 ≤ at → arrivesInBy offsetsFrom n (migratedMst mst) at ≡ arrivesInBy oldOffsetsFrom n mst at
+  unfolding arrivesInBy
+  arrives-in-same zero at h = rw same-end
+  arrives-in-same (suc n) at h = rw (next-same at h, arrives-in-same n (nextStepBy oldOffsetsFrom mst at) (next-low at h), same-end)
+
+  pub steps-are-same : stepsBy offsetsFrom (migratedMst mst) ≡ stepsBy oldOffsetsFrom mst
+  unfolding stepsBy
+  steps-are-same = rw same-end (steps-in-same (oldEndOf mst - 64) 64 (omega arith))
+
+  arrives-same : arrivesBy offsetsFrom (migratedMst mst) ≡ arrivesBy oldOffsetsFrom mst
+  unfolding arrivesBy
+  arrives-same = rw same-end (arrives-in-same (oldEndOf mst - 64) 64 (omega arith))
+
+  -- ---- a sound store
+
+  place-sound-same : (l : List ℕ) (m : ℕ) (p : Place) → 64 ≤ placeAddress p
+      → entrySoundBy offsetsFrom (migratedMst mst) l m (At p) ≡ entrySoundBy oldOffsetsFrom mst l m (At p)
+  unfolding entrySoundBy
+  place-sound-same l m p low = rw (fine-same m p low) (go (fineBy oldOffsetsFrom mst m p) refl)
+    where
+      by : (k : Mark) → p .mark ≡ k → fineBy oldOffsetsFrom mst m p ≡ true
+          → implies (isChanged k) (settledFineBy offsetsFrom (migratedMst mst) m p && elem (backBy offsetsFrom (migratedMst mst) p) l)
+          ≡ implies (isChanged k) (settledFineBy oldOffsetsFrom mst m p && elem (backBy oldOffsetsFrom mst p) l)
+      by Settled e f = refl
+      by Changed e f = rw (settled-fine-same m p low (back-low m p low f e), back-same m p low)
+      by New e f = refl
+
+      go : (b : Bool) → fineBy oldOffsetsFrom mst m p ≡ b
+          → (b && elem (placeAddress p) l && implies (isChanged (p .mark)) (settledFineBy offsetsFrom (migratedMst mst) m p && elem (backBy offsetsFrom (migratedMst mst) p) l))
+          ≡ (b && elem (placeAddress p) l && implies (isChanged (p .mark)) (settledFineBy oldOffsetsFrom mst m p && elem (backBy oldOffsetsFrom mst p) l))
+      go false e = refl
+      go true e = rw (by (p .mark) refl e)
+
+  entry-sound-same : (l : List ℕ) (m : ℕ)
+      → entrySoundBy offsetsFrom (migratedMst mst) l m (entryAt xrf (oldEndOf mst) m) ≡ entrySoundBy oldOffsetsFrom mst l m (entryAt xrf (oldEndOf mst) m)
+  unfolding entrySoundBy
+  entry-sound-same l m = go (entryAt xrf (oldEndOf mst) m) (entry-low m)
+    where
+      go : (e : Entry) → ((p : Place) → e ≡ At p → 64 ≤ placeAddress p) → entrySoundBy offsetsFrom (migratedMst mst) l m e ≡ entrySoundBy oldOffsetsFrom mst l m e
+      go Gone low = refl
+      go Malformed low = refl
+      go (At p) low = place-sound-same l m p (low p refl)
+
+  body-same : bodySoundBy offsetsFrom (store (migratedMst mst) xrf) ≡ bodySoundBy oldOffsetsFrom (store mst xrf)
+  unfolding bodySoundBy
+  body-same =
+      rw (
+        arrives-same,
+        steps-are-same,
+        migrated-next mst (capacityOf (length xrf)) old,
+        same-end,
+        allTo-same (nextOf mst - 1)
+            (λ m. entrySoundBy offsetsFrom (migratedMst mst) (stepsBy oldOffsetsFrom mst) m (entryAt xrf (oldEndOf mst) m))
+            (λ m. entrySoundBy oldOffsetsFrom mst (stepsBy oldOffsetsFrom mst) m (entryAt xrf (oldEndOf mst) m))
+            (λ m low high. entry-sound-same (stepsBy oldOffsetsFrom mst) m),
+      )
+
+  pub sound-same : soundBy offsetsFrom (store (migratedMst mst) xrf) ≡ soundBy oldOffsetsFrom (store mst xrf)
+  unfolding soundBy
+  sound-same = rw (right-both .0, right-both .1, lengths-same, body-same)

@@ -1,0 +1,72 @@
+-- By the rule of today the readings are the library's own.
+use Prim.Native.Nat.{ℕ, zero, suc, _+_, _-_, _≤_}
+use mathlib.Core.Path.{_≡_, refl, ap}
+use mathlib.Core.Bool.{Bool, cond, _&&_}
+use mathlib.Core.List.{List, [], _∷_}
+use lib.Dec.{eqb, leb}
+use Rattle.layout.specs.declared.entry.Entry.{Entry}
+use Rattle.layout.specs.declared.entry.Entry.the-variants.{Gone, Malformed, At}
+use Rattle.files.specs.Control.{offsetsFrom, nextOf, endOf}
+use Rattle.store.specs.Store.{Store}
+use Rattle.store.specs.Reading.{entryFor, recordFine, settledFine, versionFine}
+use Rattle.views.specs.Views.{viewAnswer, settledViewAnswer, viewOf, settledViewOf}
+use Rattle.soundness.specs.Sound.{allTo, stepRight, nextStep, stepsIn, arrivesIn, steps, arrives, placeSound, entrySound, entriesSound, bodySound, soundOf}
+use Rattle.soundness.proofs.Counting.{allTo-same}
+use Rattle.migrating.specs.Readings.{fineBy, settledFineBy, viewBy, settledViewBy, nextStepBy, stepsInBy, arrivesInBy, stepsBy, arrivesBy, entrySoundBy, bodySoundBy, soundBy}
+use Rattle.migrating.specs.Theorems.{AsToday}
+
+module _ (mst : List ℕ) where
+  next-today : (at : ℕ) → nextStepBy offsetsFrom mst at ≡ nextStep mst at
+  unfolding nextStepBy nextStep stepRight
+  next-today at = refl
+
+  steps-in-today : (n at : ℕ) → stepsInBy offsetsFrom n mst at ≡ stepsIn n mst at
+  unfolding stepsInBy stepsIn
+  steps-in-today zero at = refl
+  steps-in-today (suc n) at = rw (next-today at, steps-in-today n (nextStep mst at))
+
+  arrives-in-today : (n at : ℕ) → arrivesInBy offsetsFrom n mst at ≡ arrivesIn n mst at
+  unfolding arrivesInBy arrivesIn
+  arrives-in-today zero at = refl
+  arrives-in-today (suc n) at = rw (next-today at, arrives-in-today n (nextStep mst at))
+
+  pub steps-today : stepsBy offsetsFrom mst ≡ steps mst 64
+  unfolding stepsBy steps
+  steps-today = steps-in-today (endOf mst - 64) 64
+
+  arrives-today : arrivesBy offsetsFrom mst ≡ arrives mst 64
+  unfolding arrivesBy arrives
+  arrives-today = arrives-in-today (endOf mst - 64) 64
+
+  entry-today : (l : List ℕ) (m : ℕ) (e : Entry) → entrySoundBy offsetsFrom mst l m e ≡ entrySound mst l m e
+  unfolding entrySoundBy entrySound placeSound fineBy settledFineBy recordFine settledFine
+  entry-today l m Gone = refl
+  entry-today l m Malformed = refl
+  entry-today l m (At p) = refl
+
+body-today : (s : Store) → bodySoundBy offsetsFrom s ≡ bodySound s
+unfolding bodySoundBy bodySound entriesSound
+body-today s =
+    rw (
+      arrives-today (s .mst),
+      steps-today (s .mst),
+      allTo-same (nextOf (s .mst) - 1)
+          (λ m. entrySoundBy offsetsFrom (s .mst) (steps (s .mst) 64) m (entryFor s m))
+          (λ m. entrySound (s .mst) (steps (s .mst) 64) m (entryFor s m))
+          (λ m low high. entry-today (s .mst) (steps (s .mst) 64) m (entryFor s m)),
+    )
+
+sound-today : (s : Store) → soundBy offsetsFrom s ≡ soundOf s
+unfolding soundBy soundOf
+sound-today s = rw (body-today s)
+
+view-today : (s : Store) (m tag occ : ℕ) → viewBy offsetsFrom s m tag occ ≡ viewOf s m tag occ
+unfolding viewBy viewOf viewAnswer fineBy recordFine
+view-today s m tag occ = refl
+
+settled-today : (s : Store) (m tag occ : ℕ) → settledViewBy offsetsFrom s m tag occ ≡ settledViewOf s m tag occ
+unfolding settledViewBy settledViewOf settledViewAnswer fineBy settledFineBy recordFine settledFine versionFine
+settled-today s m tag occ = refl
+
+pub as-today : (s : Store) → AsToday s
+as-today s = record { view = view-today s; settled = settled-today s; steps-are = steps-today (s .mst); sound = sound-today s }
