@@ -10,12 +10,15 @@ use Rattle.store.specs.Store.{Store}
 use Rattle.store.specs.Answer.{numberOf, after}
 use Rattle.store.specs.Reading.{lengthsPermitted, controlFine}
 use Rattle.views.specs.Views.{viewAnswer, settledViewAnswer, shownAt, viewOf, settledViewOf}
+use Rattle.views.specs.Fields.{fieldAnswer, fieldOf, settledFieldAnswer, settledFieldOf, handedOut}
+use Rattle.asking.specs.Listing.{allFieldsAnswer, allFieldsOf, allFieldsLeaves, settledAllFieldsAnswer, settledAllFieldsOf, settledAllFieldsLeaves}
+use Rattle.asking.specs.State.{nextFreeAnswer, nextFreeOf, stateAnswer, stateOf}
 use Rattle.writing.specs.Refusals.{createAnswer, updateAnswer, deleteAnswer, settleAnswer, revertAnswer}
 use Rattle.writing.specs.Calls.{createOf, createLeaves, updateLeaves, deleteLeaves, settleLeaves, revertLeaves}
 use Rattle.soundness.specs.Sound.{checkAnswer}
 use Rattle.ledger.specs.Call.{Call, format, view, viewSettled, create, update, delete, settle, revert, check, migrate}
 use Rattle.ledger.specs.StoreRun.{answerS, nextS, resultS}
-use Rattle.ledger.specs.EvenCount.{Refused2, EvenRefused}
+use Rattle.ledger.specs.EvenCount.{Refused2, ShowsNothing, EvenIsRefused}
 
 module _ (s : Store) (l : lengthsPermitted s ≡ true) (c : controlFine s ≡ false) where
   refused : (call : Call) → (call ≡ format → ⊥) → (call ≡ migrate → ⊥) → Refused2 s call
@@ -31,5 +34,19 @@ module _ (s : Store) (l : lengthsPermitted s ≡ true) (c : controlFine s ≡ fa
   refused check no-format no-migrate = record { answer = rw (l, c); nothing = refl }
   refused migrate no-format no-migrate = absurd (no-migrate refl)
 
-pub even-refused : EvenRefused
-even-refused s l even = refused s l (even-wrong (s .mst) (capacityOf (length (s .xrf))) even)
+  shows-nothing : ShowsNothing s
+  unfolding fieldOf fieldAnswer settledFieldOf settledFieldAnswer handedOut allFieldsOf allFieldsLeaves allFieldsAnswer settledAllFieldsOf settledAllFieldsLeaves settledAllFieldsAnswer nextFreeOf nextFreeAnswer stateOf stateAnswer after numberOf
+  shows-nothing =
+      record {
+        field = λ m i. rw (l, c);
+        settled-field = λ m i. rw (l, c);
+        fields = λ m k. (rw (l, c), rw (l, c));
+        settled-fields = λ m k. (rw (l, c), rw (l, c));
+        next = rw (l, c);
+        state = λ m. rw (l, c);
+      }
+
+pub even-refused : EvenIsRefused
+even-refused s l even =
+    let c = even-wrong (s .mst) (capacityOf (length (s .xrf))) even in
+    record { listed = refused s l c; beside = shows-nothing s l c }

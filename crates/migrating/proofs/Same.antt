@@ -25,36 +25,64 @@ use Rattle.files.specs.CrossReference.{entryAt}
 use Rattle.files.proofs.ControlRecord.{control-facts, migrated-part, migrated-length, migrated-next, migrated-end, migrated-right}
 use Rattle.files.proofs.CrossReference.{entry-well-placed}
 use Rattle.record.specs.Record.{recordRight, backAddress, backFine}
+use Rattle.record.specs.Directory.{tagAt, posAt, lenAt}
 use Rattle.record.specs.Fields.{findOf}
-use Rattle.record.specs.declared.fields.Found.{Found}
 use Rattle.record.proofs.Facts.{well-formed-both}
 use Rattle.store.specs.Store.{store}
-use Rattle.store.specs.Answer.{numberOf, after}
+use Rattle.store.specs.Answer.{Refusal, refuse, lowest, numberOf, after}
 use Rattle.store.specs.Reading.{lengthsPermitted, mfnInRange, placeIn, isMalformed, isGone}
 use Rattle.store.specs.declared.answer.Answer.{Answer}
-use Rattle.store.specs.declared.answer.Answer.the-variants.{Done, BadLength, BadControl, NoMfn, BadEntry, Gone as GoneAnswer, BadRecord, Deleted, NeverSettled, NoField}
+use Rattle.store.specs.declared.answer.Answer.the-variants.{Done, BadLength, BadControl, NoMfn, BadEntry, Gone as GoneAnswer, BadRecord, Deleted, NeverSettled}
 use Rattle.store.proofs.Gates.{Refusing, refusing-not-done, after-done, after-refused, after-cases, holds, back-changed}
-use Rattle.views.specs.Views.{isMissing, foundStart, foundLength, shownAt, shownBytes}
+use Rattle.views.specs.Views.{foundStart, foundLength, shownAt}
+use Rattle.views.specs.Fields.{handedOut}
+use Rattle.asking.specs.State.{stateShown}
+use Rattle.asking.specs.Listing.{Lists, listedOver}
 use Rattle.soundness.specs.Sound.{allTo, elem, implies}
 use Rattle.soundness.proofs.Counting.{allTo-same}
-use Rattle.migrating.specs.Readings.{recordBy, leaderBy, backBy, fineBy, settledFineBy, bothFineBy, settledRecordBy, settledAddressBy, viewBy, settledViewBy, mfrlBy, nextStepBy, stepsInBy, arrivesInBy, stepsBy, arrivesBy, entrySoundBy, bodySoundBy, soundBy}
+use Rattle.migrating.specs.Readings.{recordBy, leaderBy, backBy, fineBy, settledFineBy, bothFineBy, namedBy, stateBy, onCurrentBy, settledRecordBy, settledAddressBy, onSettledBy, foundRows, foundShown, viewBy, settledViewBy, indexRows, indexShown, fieldBy, settledFieldBy, listShown, mfrlBy, nextStepBy, stepsInBy, arrivesInBy, stepsBy, arrivesBy, entrySoundBy, bodySoundBy, soundBy}
+use Rattle.migrating.specs.Theorems.{SameBytes}
 
--- ---- a view by what is read: where the tables ask the same, the same is shown
+-- ---- a call by what is read: where the tables ask the same, the same is shown
 
 -- 1, 2, 4, 6, 7 and 8, and the rows behind them
 abbrev table : Bool → Bool → Entry → Bool → Answer → Answer
 table lengths known e ok rest =
     cond (not lengths) BadLength (cond (not known) NoMfn (cond (isMalformed e) BadEntry (cond (isGone e) GoneAnswer (cond (not ok) BadRecord rest))))
 
--- a refused view shows nothing, wherever it looked
-shown-refused : (a : Answer) → Refusing a → (at at′ : ℕ) (f f′ : Found) → shownAt a at f ≡ shownAt a at′ f′
+-- a call that is refused shows the same, wherever it looked
+abbrev pub EmptyRefused : {A : Type 0} → (Answer → ℕ → List ℕ → A) → Type 0
+EmptyRefused show = (a : Answer) → Refusing a → (at at′ : ℕ) (rec rec′ : List ℕ) → show a at rec ≡ show a at′ rec′
+
+pub found-empty : (tag occ : ℕ) → EmptyRefused (foundShown tag occ)
 unfolding shownAt
-shown-refused a h at at′ f f′ =
+found-empty tag occ a h at at′ rec rec′ =
     rw (
-      after-refused a (at + foundStart f) 0 h,
-      after-refused a (foundLength f) 0 h,
-      after-refused a (at′ + foundStart f′) 0 h,
-      after-refused a (foundLength f′) 0 h,
+      after-refused a (at + foundStart (findOf rec tag occ)) 0 h,
+      after-refused a (foundLength (findOf rec tag occ)) 0 h,
+      after-refused a (at′ + foundStart (findOf rec′ tag occ)) 0 h,
+      after-refused a (foundLength (findOf rec′ tag occ)) 0 h,
+    )
+
+pub index-empty : (i : ℕ) → EmptyRefused (indexShown i)
+unfolding handedOut
+index-empty i a h at at′ rec rec′ =
+    rw (
+      after-refused a (tagAt rec i) 0 h,
+      after-refused a (at + (leaderOf rec .base + posAt rec i)) 0 h,
+      after-refused a (lenAt rec i) 0 h,
+      after-refused a (tagAt rec′ i) 0 h,
+      after-refused a (at′ + (leaderOf rec′ .base + posAt rec′ i)) 0 h,
+      after-refused a (lenAt rec′ i) 0 h,
+    )
+
+pub list-empty : (l : Lists) → EmptyRefused (listShown l)
+list-empty l a h at at′ rec rec′ =
+    rw (
+      after-refused a (leaderOf rec .nvf) 0 h,
+      after-refused a (listedOver at rec l) l h,
+      after-refused a (leaderOf rec′ .nvf) 0 h,
+      after-refused a (listedOver at′ rec′ l) l h,
     )
 
 module _ (lengths known : Bool) where
@@ -81,22 +109,22 @@ module _ (lengths known : Bool) where
   wrong-refused p = no-place BadRecord (λ z. omega arith)
 
   -- two readings of one entry
-  module _ (ok ok′ : Place → Bool) (rest rest′ : Place → Answer) (at at′ : Place → ℕ) (f f′ : Place → Found) where
+  module _ {A : Type 0} (ok ok′ : Place → Bool) (rest rest′ : Place → Answer) (show show′ : Answer → Place → A) where
     shown-same : (e : Entry)
+        → ((a : Answer) → Refusing a → (p : Place) → show a p ≡ show′ a p)
         → ((p : Place) → e ≡ At p → ok p ≡ ok′ p)
-        → ((p : Place) → e ≡ At p → ok′ p ≡ true → (rest p ≡ rest′ p) × (at p ≡ at′ p) × (f p ≡ f′ p))
-        → shownAt (table lengths known e (ok (placeIn e)) (rest (placeIn e))) (at (placeIn e)) (f (placeIn e))
-        ≡ shownAt (table lengths known e (ok′ (placeIn e)) (rest′ (placeIn e))) (at′ (placeIn e)) (f′ (placeIn e))
-    shown-same Gone same more = shown-refused _ gone-refused _ _ _ _
-    shown-same Malformed same more = shown-refused _ malformed-refused _ _ _ _
-    shown-same (At p) same more = rw (same p refl) (go (ok′ p) (more p refl))
+        → ((p : Place) → e ≡ At p → ok′ p ≡ true → (rest p ≡ rest′ p) × ((a : Answer) → show a p ≡ show′ a p))
+        → show (table lengths known e (ok (placeIn e)) (rest (placeIn e))) (placeIn e) ≡ show′ (table lengths known e (ok′ (placeIn e)) (rest′ (placeIn e))) (placeIn e)
+    shown-same Gone empty same more = empty _ gone-refused _
+    shown-same Malformed empty same more = empty _ malformed-refused _
+    shown-same (At p) empty same more = rw (same p refl) (go (ok′ p) (more p refl))
       where
-        go : (b : Bool) → (b ≡ true → (rest p ≡ rest′ p) × (at p ≡ at′ p) × (f p ≡ f′ p))
-            → shownAt (table lengths known (At p) b (rest p)) (at p) (f p) ≡ shownAt (table lengths known (At p) b (rest′ p)) (at′ p) (f′ p)
-        go false h = shown-refused _ (wrong-refused p) _ _ _ _
-        go true h = let q = h refl in rw (q .0, q .1, q .2)
+        go : (b : Bool) → (b ≡ true → (rest p ≡ rest′ p) × ((a : Answer) → show a p ≡ show′ a p))
+            → show (table lengths known (At p) b (rest p)) p ≡ show′ (table lengths known (At p) b (rest′ p)) p
+        go false h = empty _ (wrong-refused p) p
+        go true h = let q = h refl in rw (q .0) (q .1 _)
 
-  -- a view that is done read a record at a place
+  -- a call that is done read a record at a place
   table-done : (e : Entry) (ok : Bool) (rest : Answer) → table lengths known e ok rest ≡ Done → (e ≡ At (placeIn e)) × (ok ≡ true)
   unfolding numberOf
   table-done e ok rest h =
@@ -168,8 +196,8 @@ module _ (mst xrf : List ℕ) (old : oldControlRight mst (capacityOf (length xrf
         go New e = (record-same (placeAddress p) low, refl)
 
     -- the record that the settled view reads stands behind the control record
-    settled-low : fineBy oldOffsetsFrom mst m p ≡ true → 64 ≤ settledAddressBy oldOffsetsFrom mst p
-    settled-low f = go (p .mark) refl
+    settled-address-low : fineBy oldOffsetsFrom mst m p ≡ true → 64 ≤ settledAddressBy oldOffsetsFrom mst p
+    settled-address-low f = go (p .mark) refl
       where
         go : (k : Mark) → p .mark ≡ k → 64 ≤ cond (isChanged k) (backBy oldOffsetsFrom mst p) (placeAddress p)
         go Settled e = low
@@ -210,76 +238,112 @@ module _ (mst xrf : List ℕ) (old : oldControlRight mst (capacityOf (length xrf
   abbrev settledAtNow : Place → ℕ
   settledAtNow p = cond (isChanged (p .mark)) (backNow p) (placeAddress p)
 
-  module _ (m tag occ : ℕ) where
+  pub state-same : (m : ℕ) → stateBy offsetsFrom (store (migratedMst mst) xrf) m ≡ stateBy oldOffsetsFrom (store mst xrf) m
+  unfolding stateBy
+  state-same m =
+      rw (right-both .0, right-both .1, lengths-same, known-same m, same-end)
+      (shown-same (lengthsPermitted (store mst xrf)) (mfnInRange mst m)
+      (fineBy offsetsFrom (migratedMst mst) m) (fineBy oldOffsetsFrom mst m)
+      (λ p. Done) (λ p. Done)
+      (λ a p. stateShown a (p .mark) (p .deleted)) (λ a p. stateShown a (p .mark) (p .deleted))
+      (entryAt xrf (oldEndOf mst) m)
+      (λ a h p. refl)
+      (λ p e. fine-same m p (entry-low m p e))
+      (λ p e f. (refl, λ a. refl)))
+
+  -- a call that shows a version, whatever it asks and shows of the record
+  module _ (m : ℕ) (rows : List ℕ → List Refusal) where
     -- the rows behind 8, of a record that is read
     abbrev currentRest : List ℕ → Place → Answer
-    currentRest rec p = cond (p .deleted) Deleted (cond (isMissing (findOf rec tag occ)) NoField Done)
+    currentRest rec p = cond (p .deleted) Deleted (lowest (rows rec))
 
     abbrev settledRest : List ℕ → Place → Answer
-    settledRest rec p =
-        cond (p .deleted && isSettled (p .mark)) Deleted (cond (isNew (p .mark)) NeverSettled (cond (isMissing (findOf rec tag occ)) NoField Done))
+    settledRest rec p = cond (p .deleted && isSettled (p .mark)) Deleted (cond (isNew (p .mark)) NeverSettled (lowest (rows rec)))
 
-    pub view-same : viewBy offsetsFrom (store (migratedMst mst) xrf) m tag occ ≡ viewBy oldOffsetsFrom (store mst xrf) m tag occ
-    unfolding viewBy
-    view-same =
-        rw (right-both .0, right-both .1, lengths-same, known-same m, same-end)
-        (shown-same (lengthsPermitted (store mst xrf)) (mfnInRange mst m)
-        (fineBy offsetsFrom (migratedMst mst) m) (fineBy oldOffsetsFrom mst m)
-        (λ p. currentRest (readNow (placeAddress p)) p) (λ p. currentRest (recordBy oldOffsetsFrom mst (placeAddress p)) p)
-        placeAddress placeAddress
-        (λ p. findOf (readNow (placeAddress p)) tag occ)
-        (λ p. findOf (recordBy oldOffsetsFrom mst (placeAddress p)) tag occ)
-        (entryAt xrf (oldEndOf mst) m)
-        (λ p e. fine-same m p (entry-low m p e))
-        (λ p e f. let r = read-same (placeAddress p) (entry-low m p e) in (rw r refl, refl, rw r refl)))
+    module _ {A : Type 0} (show : Answer → ℕ → List ℕ → A) (empty : EmptyRefused show) where
+      pub current-same : onCurrentBy offsetsFrom (store (migratedMst mst) xrf) m rows show ≡ onCurrentBy oldOffsetsFrom (store mst xrf) m rows show
+      current-same =
+          rw (right-both .0, right-both .1, lengths-same, known-same m, same-end)
+          (shown-same (lengthsPermitted (store mst xrf)) (mfnInRange mst m)
+          (fineBy offsetsFrom (migratedMst mst) m) (fineBy oldOffsetsFrom mst m)
+          (λ p. currentRest (readNow (placeAddress p)) p) (λ p. currentRest (recordBy oldOffsetsFrom mst (placeAddress p)) p)
+          (λ a p. show a (placeAddress p) (readNow (placeAddress p)))
+          (λ a p. show a (placeAddress p) (recordBy oldOffsetsFrom mst (placeAddress p)))
+          (entryAt xrf (oldEndOf mst) m)
+          (λ a h p. empty a h _ _ _ _)
+          (λ p e. fine-same m p (entry-low m p e))
+          (λ p e f. let r = read-same (placeAddress p) (entry-low m p e) in (rw r refl, λ a. rw r refl)))
 
-    pub settled-view-same : settledViewBy offsetsFrom (store (migratedMst mst) xrf) m tag occ ≡ settledViewBy oldOffsetsFrom (store mst xrf) m tag occ
-    unfolding settledViewBy
-    settled-view-same =
-        rw (right-both .0, right-both .1, lengths-same, known-same m, same-end)
-        (shown-same (lengthsPermitted (store mst xrf)) (mfnInRange mst m)
-        (bothFineBy offsetsFrom (migratedMst mst) m) (bothFineBy oldOffsetsFrom mst m)
-        (λ p. settledRest (settledNow p) p) (λ p. settledRest (settledRecordBy oldOffsetsFrom mst p) p)
-        settledAtNow (settledAddressBy oldOffsetsFrom mst)
-        (λ p. findOf (settledNow p) tag occ)
-        (λ p. findOf (settledRecordBy oldOffsetsFrom mst p) tag occ)
-        (entryAt xrf (oldEndOf mst) m)
-        (λ p e. both-same m p (entry-low m p e))
-        (λ p e f.
-        let r : (settledNow p ≡ settledRecordBy oldOffsetsFrom mst p) × (settledAtNow p ≡ settledAddressBy oldOffsetsFrom mst p)
-        = rw same-end at (settled-record-same m p (entry-low m p e) (and-left (fineBy oldOffsetsFrom mst m p) _ f)) in
-        (rw (r .0) refl, r .1, rw (r .0) refl)))
+      pub settled-same : onSettledBy offsetsFrom (store (migratedMst mst) xrf) m rows show ≡ onSettledBy oldOffsetsFrom (store mst xrf) m rows show
+      settled-same =
+          rw (right-both .0, right-both .1, lengths-same, known-same m, same-end)
+          (shown-same (lengthsPermitted (store mst xrf)) (mfnInRange mst m)
+          (bothFineBy offsetsFrom (migratedMst mst) m) (bothFineBy oldOffsetsFrom mst m)
+          (λ p. settledRest (settledNow p) p) (λ p. settledRest (settledRecordBy oldOffsetsFrom mst p) p)
+          (λ a p. show a (settledAtNow p) (settledNow p))
+          (λ a p. show a (settledAddressBy oldOffsetsFrom mst p) (settledRecordBy oldOffsetsFrom mst p))
+          (entryAt xrf (oldEndOf mst) m)
+          (λ a h p. empty a h _ _ _ _)
+          (λ p e. both-same m p (entry-low m p e))
+          (λ p e f.
+          let r : (settledNow p ≡ settledRecordBy oldOffsetsFrom mst p) × (settledAtNow p ≡ settledAddressBy oldOffsetsFrom mst p)
+          = rw same-end at (settled-record-same m p (entry-low m p e) (and-left (fineBy oldOffsetsFrom mst m p) _ f)) in
+          (rw (r .0) refl, λ a. rw (r .0, r .1) refl)))
 
-    -- the bytes shown stand behind the control record
-    bytes-same : (a : Answer) (at : ℕ) (f : Found) → (a ≡ Done → 64 ≤ at) → shownBytes (migratedMst mst) (shownAt a at f) ≡ shownBytes mst (shownAt a at f)
-    unfolding shownAt
-    bytes-same a at f low =
-        ⊎-elim
-        (λ d. rw (after-done a (at + foundStart f) 0 (d .0), after-done a (foundLength f) 0 (d .0)) (migrated-part mst (at + foundStart f) (foundLength f) (omega (arith, low (d .0)))))
-        (λ r. rw (after-refused a (at + foundStart f) 0 (r .0), after-refused a (foundLength f) 0 (r .0)) refl)
-        (after-cases {A = ℕ} a 1 0)
+    -- where it is done, the version stands behind the control record
+    abbrev place : Place
+    place = placeIn (entryAt xrf (oldEndOf mst) m)
 
-    pub view-bytes-same : shownBytes (migratedMst mst) (viewBy oldOffsetsFrom (store mst xrf) m tag occ) ≡ shownBytes mst (viewBy oldOffsetsFrom (store mst xrf) m tag occ)
-    unfolding viewBy
-    view-bytes-same =
-        let p : Place = placeIn (entryAt xrf (oldEndOf mst) m) in
-        rw (right-both .1)
-        (bytes-same _ _ _
-        (λ d.
-        let q = table-done (lengthsPermitted (store mst xrf)) (mfnInRange mst m) (entryAt xrf (oldEndOf mst) m) (fineBy oldOffsetsFrom mst m p)
-        (currentRest (recordBy oldOffsetsFrom mst (placeAddress p)) p) d in
-        entry-low m p (q .0)))
+    abbrev currentAsked : List Refusal
+    currentAsked =
+        namedBy oldOffsetsFrom (store mst xrf) m (fineBy oldOffsetsFrom mst m place)
+        (refuse Deleted (place .deleted) ∷ rows (recordBy oldOffsetsFrom mst (placeAddress place)))
 
-    pub settled-bytes-same : shownBytes (migratedMst mst) (settledViewBy oldOffsetsFrom (store mst xrf) m tag occ) ≡ shownBytes mst (settledViewBy oldOffsetsFrom (store mst xrf) m tag occ)
-    unfolding settledViewBy
-    settled-bytes-same =
-        let p : Place = placeIn (entryAt xrf (oldEndOf mst) m) in
-        rw (right-both .1)
-        (bytes-same _ _ _
-        (λ d.
-        let q = table-done (lengthsPermitted (store mst xrf)) (mfnInRange mst m) (entryAt xrf (oldEndOf mst) m) (bothFineBy oldOffsetsFrom mst m p)
-        (settledRest (settledRecordBy oldOffsetsFrom mst p) p) d in
-        settled-low m p (entry-low m p (q .0)) (and-left (fineBy oldOffsetsFrom mst m p) _ (q .1))))
+    current-low : lowest currentAsked ≡ Done → 64 ≤ placeAddress place
+    current-low d =
+        let q = table-done (lengthsPermitted (store mst xrf)) (mfnInRange mst m) (entryAt xrf (oldEndOf mst) m) (fineBy oldOffsetsFrom mst m place)
+        (currentRest (recordBy oldOffsetsFrom mst (placeAddress place)) place) (rw (right-both .1) at d) in
+        entry-low m place (q .0)
+
+    abbrev settledAsked : List Refusal
+    settledAsked =
+        namedBy oldOffsetsFrom (store mst xrf) m (bothFineBy oldOffsetsFrom mst m place)
+        (refuse Deleted (place .deleted && isSettled (place .mark))
+        ∷ refuse NeverSettled (isNew (place .mark))
+        ∷ rows (settledRecordBy oldOffsetsFrom mst place))
+
+    settled-low : lowest settledAsked ≡ Done → 64 ≤ settledAddressBy oldOffsetsFrom mst place
+    settled-low d =
+        let q = table-done (lengthsPermitted (store mst xrf)) (mfnInRange mst m) (entryAt xrf (oldEndOf mst) m) (bothFineBy oldOffsetsFrom mst m place)
+        (settledRest (settledRecordBy oldOffsetsFrom mst place) place) (rw (right-both .1) at d) in
+        settled-address-low m place (entry-low m place (q .0)) (and-left (fineBy oldOffsetsFrom mst m place) _ (q .1))
+
+  -- ---- the bytes shown
+
+  bytes-same : (a : Answer) (at n len : ℕ) → (a ≡ Done → 64 ≤ at) → SameBytes (store mst xrf) (store (migratedMst mst) xrf) (after a (at + n) 0) (after a len 0)
+  bytes-same a at n len low =
+      ⊎-elim
+      (λ d. rw (after-done a (at + n) 0 (d .0), after-done a len 0 (d .0)) (migrated-part mst (at + n) len (omega (arith, low (d .0)))))
+      (λ r. rw (after-refused a (at + n) 0 (r .0), after-refused a len 0 (r .0)) refl)
+      (after-cases {A = ℕ} a 1 0)
+
+  module _ (m tag occ : ℕ) where
+    pub view-bytes-same : SameBytes (store mst xrf) (store (migratedMst mst) xrf) (viewBy oldOffsetsFrom (store mst xrf) m tag occ .start) (viewBy oldOffsetsFrom (store mst xrf) m tag occ .len)
+    unfolding viewBy shownAt
+    view-bytes-same = bytes-same _ _ _ _ (current-low m (foundRows tag occ))
+
+    pub settled-bytes-same : SameBytes (store mst xrf) (store (migratedMst mst) xrf) (settledViewBy oldOffsetsFrom (store mst xrf) m tag occ .start) (settledViewBy oldOffsetsFrom (store mst xrf) m tag occ .len)
+    unfolding settledViewBy shownAt
+    settled-bytes-same = bytes-same _ _ _ _ (settled-low m (foundRows tag occ))
+
+  module _ (m i : ℕ) where
+    pub field-bytes-same : SameBytes (store mst xrf) (store (migratedMst mst) xrf) (fieldBy oldOffsetsFrom (store mst xrf) m i .start) (fieldBy oldOffsetsFrom (store mst xrf) m i .len)
+    unfolding fieldBy handedOut
+    field-bytes-same = bytes-same _ _ _ _ (current-low m (indexRows i))
+
+    pub settled-field-bytes-same : SameBytes (store mst xrf) (store (migratedMst mst) xrf) (settledFieldBy oldOffsetsFrom (store mst xrf) m i .start) (settledFieldBy oldOffsetsFrom (store mst xrf) m i .len)
+    unfolding settledFieldBy handedOut
+    settled-field-bytes-same = bytes-same _ _ _ _ (settled-low m (indexRows i))
 
   -- ---- the steps
 

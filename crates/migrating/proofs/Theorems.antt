@@ -2,7 +2,7 @@
 -- gives (Today).
 use Prim.Native.Nat.{ℕ}
 use native.Mathlib.Omega.{arith}
-use mathlib.Core.Path.{_≡_, refl, sym, ap, _∙_}
+use mathlib.Core.Path.{_≡_, refl, _∙_}
 use mathlib.Core.Bool.{true, false, not}
 use lib.ListN.{length}
 use Rattle.word.proofs.Tests.{tests}
@@ -16,13 +16,11 @@ use Rattle.store.specs.Reading.{lengthsPermitted, controlFine}
 use Rattle.store.specs.declared.answer.Answer.the-variants.{Done, BadLength, BadControl}
 use Rattle.store.proofs.Gates.{holds, after-done}
 use Rattle.soundness.specs.Sound.{soundOf}
-use Rattle.views.specs.Views.{shownBytes}
-use Rattle.views.specs.declared.views.Shown.{Shown}
 use Rattle.migrating.specs.Migrate.{oldControlFine, migrateAnswer, migrateLeaves}
-use Rattle.migrating.specs.Readings.{soundBy, viewBy, settledViewBy}
-use Rattle.migrating.specs.Theorems.{AsToday, ChangesCount, Keeps, Migrates}
+use Rattle.migrating.specs.Readings.{foundRows, foundShown, viewBy, settledViewBy, indexRows, indexShown, fieldBy, settledFieldBy, listRows, listShown, allFieldsBy, settledAllFieldsBy, soundBy}
+use Rattle.migrating.specs.Theorems.{GivenBy, AsToday, ChangesCount, Keeps, Migrates}
 use Rattle.migrating.proofs.Today.{as-today}
-use Rattle.migrating.proofs.Same.{lengths-same, view-same, settled-view-same, view-bytes-same, settled-bytes-same, steps-are-same, sound-same}
+use Rattle.migrating.proofs.Same.{found-empty, index-empty, list-empty, lengths-same, state-same, current-same, settled-same, view-bytes-same, settled-bytes-same, field-bytes-same, settled-field-bytes-same, steps-are-same, sound-same}
 
 module _ (s : Store) where
   -- ---- what was asked
@@ -67,6 +65,21 @@ module _ (s : Store) where
     new : AsToday (store (migratedMst (s .mst)) (s .xrf))
     new = as-today (store (migratedMst (s .mst)) (s .xrf))
 
+    given : GivenBy oldOffsetsFrom s (store (migratedMst (s .mst)) (s .xrf))
+    unfolding viewBy settledViewBy fieldBy settledFieldBy allFieldsBy settledAllFieldsBy
+    given =
+        record {
+          state = λ m. new .state m ∙ state-same (s .mst) (s .xrf) old m;
+          view = λ m tag occ. new .view m tag occ ∙ current-same (s .mst) (s .xrf) old m (foundRows tag occ) (foundShown tag occ) (found-empty tag occ);
+          settled = λ m tag occ. new .settled m tag occ ∙ settled-same (s .mst) (s .xrf) old m (foundRows tag occ) (foundShown tag occ) (found-empty tag occ);
+          field = λ m i. new .field m i ∙ current-same (s .mst) (s .xrf) old m (indexRows i) (indexShown i) (index-empty i);
+          settled-field = λ m i. new .settled-field m i ∙ settled-same (s .mst) (s .xrf) old m (indexRows i) (indexShown i) (index-empty i);
+          all-fields = λ m l. new .all-fields m l ∙ current-same (s .mst) (s .xrf) old m (listRows l) (listShown l) (list-empty l);
+          settled-all-fields = λ m l. new .settled-all-fields m l ∙ settled-same (s .mst) (s .xrf) old m (listRows l) (listShown l) (list-empty l);
+          steps-are = new .steps-are ∙ steps-are-same (s .mst) (s .xrf) old;
+          sound = new .sound ∙ sound-same (s .mst) (s .xrf) old;
+        }
+
     keeps : Keeps s (migrateLeaves s)
     keeps =
         rw leaves
@@ -74,16 +87,11 @@ module _ (s : Store) where
           right = migrated-right (s .mst) (capacityOf (length (s .xrf))) old;
           next = migrated-next (s .mst) (capacityOf (length (s .xrf))) old;
           end = migrated-end (s .mst) (capacityOf (length (s .xrf))) old;
-          steps-are = sym (new .steps-are) ∙ steps-are-same (s .mst) (s .xrf) old;
-          sound = sym (new .sound) ∙ sound-same (s .mst) (s .xrf) old;
-          view = λ m tag occ. sym (new .view m tag occ) ∙ view-same (s .mst) (s .xrf) old m tag occ;
-          view-bytes = λ m tag occ.
-              ap (λ (r : Shown). shownBytes (migratedMst (s .mst)) r) (sym (new .view m tag occ) ∙ view-same (s .mst) (s .xrf) old m tag occ)
-              ∙ view-bytes-same (s .mst) (s .xrf) old m tag occ;
-          settled = λ m tag occ. sym (new .settled m tag occ) ∙ settled-view-same (s .mst) (s .xrf) old m tag occ;
-          settled-bytes = λ m tag occ.
-              ap (λ (r : Shown). shownBytes (migratedMst (s .mst)) r) (sym (new .settled m tag occ) ∙ settled-view-same (s .mst) (s .xrf) old m tag occ)
-              ∙ settled-bytes-same (s .mst) (s .xrf) old m tag occ;
+          given = given;
+          view-bytes = λ m tag occ. rw (given .view m tag occ) (view-bytes-same (s .mst) (s .xrf) old m tag occ);
+          settled-bytes = λ m tag occ. rw (given .settled m tag occ) (settled-bytes-same (s .mst) (s .xrf) old m tag occ);
+          field-bytes = λ m i. rw (given .field m i) (field-bytes-same (s .mst) (s .xrf) old m i);
+          settled-field-bytes = λ m i. rw (given .settled-field m i) (settled-field-bytes-same (s .mst) (s .xrf) old m i);
         })
 
   -- ---- a store that is sound but for the old rule
@@ -100,7 +108,7 @@ migrates s =
       changes = changes s;
       keeps = keeps s;
       done = sound-done s;
-      sound = λ h. keeps s (sound-done s h) .sound ∙ h;
+      sound = λ h. keeps s (sound-done s h) .given .sound ∙ h;
       once = λ d.
           rw (leaves s d)
           (today-refused (store (migratedMst (s .mst)) (s .xrf))

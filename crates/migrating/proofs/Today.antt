@@ -1,6 +1,6 @@
 -- By the rule of today the readings are the library's own.
 use Prim.Native.Nat.{ℕ, zero, suc, _+_, _-_, _≤_}
-use mathlib.Core.Path.{_≡_, refl, ap}
+use mathlib.Core.Path.{_≡_, refl, sym}
 use mathlib.Core.Bool.{Bool, cond, _&&_}
 use mathlib.Core.List.{List, [], _∷_}
 use lib.Dec.{eqb, leb}
@@ -10,10 +10,13 @@ use Rattle.files.specs.Control.{offsetsFrom, nextOf, endOf}
 use Rattle.store.specs.Store.{Store}
 use Rattle.store.specs.Reading.{entryFor, recordFine, settledFine, versionFine}
 use Rattle.views.specs.Views.{viewAnswer, settledViewAnswer, viewOf, settledViewOf}
+use Rattle.views.specs.Fields.{fieldAnswer, fieldOf, settledFieldAnswer, settledFieldOf}
+use Rattle.asking.specs.State.{stateAnswer, stateOf}
+use Rattle.asking.specs.Listing.{Lists, allFieldsAnswer, allFieldsOf, allFieldsLeaves, settledAllFieldsAnswer, settledAllFieldsOf, settledAllFieldsLeaves}
 use Rattle.soundness.specs.Sound.{allTo, stepRight, nextStep, stepsIn, arrivesIn, steps, arrives, placeSound, entrySound, entriesSound, bodySound, soundOf}
 use Rattle.soundness.proofs.Counting.{allTo-same}
-use Rattle.migrating.specs.Readings.{fineBy, settledFineBy, viewBy, settledViewBy, nextStepBy, stepsInBy, arrivesInBy, stepsBy, arrivesBy, entrySoundBy, bodySoundBy, soundBy}
-use Rattle.migrating.specs.Theorems.{AsToday}
+use Rattle.migrating.specs.Readings.{fineBy, settledFineBy, stateBy, viewBy, settledViewBy, fieldBy, settledFieldBy, allFieldsBy, settledAllFieldsBy, nextStepBy, stepsInBy, arrivesInBy, stepsBy, arrivesBy, entrySoundBy, bodySoundBy, soundBy}
+use Rattle.migrating.specs.Theorems.{AsToday, allFieldsIn, settledAllFieldsIn}
 
 module _ (mst : List ℕ) where
   next-today : (at : ℕ) → nextStepBy offsetsFrom mst at ≡ nextStep mst at
@@ -60,13 +63,48 @@ sound-today : (s : Store) → soundBy offsetsFrom s ≡ soundOf s
 unfolding soundBy soundOf
 sound-today s = rw (body-today s)
 
-view-today : (s : Store) (m tag occ : ℕ) → viewBy offsetsFrom s m tag occ ≡ viewOf s m tag occ
-unfolding viewBy viewOf viewAnswer fineBy recordFine
-view-today s m tag occ = refl
+module _ (s : Store) (m : ℕ) where
+  state-today : stateOf s m ≡ stateBy offsetsFrom s m
+  unfolding stateBy stateOf stateAnswer fineBy recordFine
+  state-today = refl
 
-settled-today : (s : Store) (m tag occ : ℕ) → settledViewBy offsetsFrom s m tag occ ≡ settledViewOf s m tag occ
-unfolding settledViewBy settledViewOf settledViewAnswer fineBy settledFineBy recordFine settledFine versionFine
-settled-today s m tag occ = refl
+  module _ (tag occ : ℕ) where
+    view-today : viewOf s m tag occ ≡ viewBy offsetsFrom s m tag occ
+    unfolding viewBy viewOf viewAnswer fineBy recordFine
+    view-today = refl
+
+    settled-today : settledViewOf s m tag occ ≡ settledViewBy offsetsFrom s m tag occ
+    unfolding settledViewBy settledViewOf settledViewAnswer fineBy settledFineBy recordFine settledFine versionFine
+    settled-today = refl
+
+  module _ (i : ℕ) where
+    field-today : fieldOf s m i ≡ fieldBy offsetsFrom s m i
+    unfolding fieldBy fieldOf fieldAnswer fineBy recordFine
+    field-today = refl
+
+    settled-field-today : settledFieldOf s m i ≡ settledFieldBy offsetsFrom s m i
+    unfolding settledFieldBy settledFieldOf settledFieldAnswer fineBy settledFineBy recordFine settledFine versionFine
+    settled-field-today = refl
+
+  module _ (l : Lists) where
+    all-fields-today : allFieldsIn s m l ≡ allFieldsBy offsetsFrom s m l
+    unfolding allFieldsBy allFieldsOf allFieldsLeaves allFieldsAnswer fineBy recordFine
+    all-fields-today = refl
+
+    settled-all-fields-today : settledAllFieldsIn s m l ≡ settledAllFieldsBy offsetsFrom s m l
+    unfolding settledAllFieldsBy settledAllFieldsOf settledAllFieldsLeaves settledAllFieldsAnswer fineBy settledFineBy recordFine settledFine versionFine
+    settled-all-fields-today = refl
 
 pub as-today : (s : Store) → AsToday s
-as-today s = record { view = view-today s; settled = settled-today s; steps-are = steps-today (s .mst); sound = sound-today s }
+as-today s =
+    record {
+      state = state-today s;
+      view = view-today s;
+      settled = settled-today s;
+      field = field-today s;
+      settled-field = settled-field-today s;
+      all-fields = all-fields-today s;
+      settled-all-fields = settled-all-fields-today s;
+      steps-are = sym (steps-today (s .mst));
+      sound = sym (sound-today s);
+    }

@@ -1,4 +1,5 @@
--- A store read by a rule: what the pages of `store`, `views` and `soundness` say of one, over the number that NXTMFP counts the end's offset from.
+-- A store read by a rule: what the pages of `store`, `views`, `asking` and `soundness` say of one, over the number that NXTMFP counts the end's
+-- offset from.
 -- With 1 each definition is theirs of a like name, as Theorems states; with 0 it says what a card of the old rule holds.
 use Prim.Native.Nat.{ℕ, zero, suc, _+_, _-_}
 use mathlib.Core.Bool.{Bool, true, false, not, _&&_, cond}
@@ -21,9 +22,17 @@ use Rattle.record.specs.Fields.{findOf}
 use Rattle.store.specs.Store.{Store}
 use Rattle.store.specs.Answer.{Refusal, refuse, lowest}
 use Rattle.store.specs.Reading.{lengthsPermitted, mfnInRange, placeIn, isMalformed, isGone}
-use Rattle.store.specs.declared.answer.Answer.the-variants.{BadLength, BadControl, NoMfn, BadEntry, Gone as GoneAnswer, BadRecord, Deleted, NeverSettled, NoField}
+use Rattle.store.specs.declared.answer.Answer.the-variants.{BadLength, BadControl, NoMfn, BadEntry, Gone as GoneAnswer, BadRecord, Deleted, NeverSettled, NoField, NoRoomInList}
+use Rattle.store.specs.declared.answer.Answer.{Answer}
+use Rattle.walking.specs.Walker.{atEnd}
 use Rattle.views.specs.Views.{isMissing, shownAt}
+use Rattle.views.specs.Fields.{handedOut}
 use Rattle.views.specs.declared.views.Shown.{Shown}
+use Rattle.views.specs.declared.walk.ShownField.{ShownField}
+use Rattle.asking.specs.State.{stateShown}
+use Rattle.asking.specs.Listing.{Lists, shortFor, counted, leaves}
+use Rattle.asking.specs.declared.state.RecordState.{RecordState}
+use Rattle.asking.specs.declared.listing.Listed.{Listed}
 use Rattle.soundness.specs.Sound.{allTo, elem, implies, headsRight, restFree}
 
 -- ---- entries and records
@@ -60,7 +69,7 @@ settledFineBy from mst m p =
 abbrev pub bothFineBy : ℕ → List ℕ → ℕ → Place → Bool
 bothFineBy from mst m p = fineBy from mst m p && cond (isChanged (p .mark)) (settledFineBy from mst m p) true
 
--- ---- the views
+-- ---- the calls that show something
 
 -- 1, 2, 4, 6, 7 and 8
 abbrev pub namedBy : ℕ → Store → ℕ → Bool → List Refusal → List Refusal
@@ -73,19 +82,20 @@ namedBy from s m ok rest =
     ∷ refuse BadRecord (not ok)
     ∷ rest
 
--- the current view: 9 and 12, and where the field lies
-abbrev pub viewRefusalsBy : ℕ → Store → ℕ → ℕ → ℕ → List Refusal
-viewRefusalsBy from s m tag occ =
-    namedBy from s m (fineBy from (s .mst) m (placeBy from s m))
-    (refuse Deleted (placeBy from s m .deleted)
-    ∷ refuse NoField (isMissing (findOf (recordBy from (s .mst) (placeAddress (placeBy from s m))) tag occ))
-    ∷ [])
+-- how a record stands
+unfoldable pub stateBy : ℕ → Store → ℕ → RecordState
+stateBy from s m =
+    stateShown (lowest (namedBy from s m (fineBy from (s .mst) m (placeBy from s m)) [])) (placeBy from s m .mark) (placeBy from s m .deleted)
 
-unfoldable pub viewBy : ℕ → Store → ℕ → ℕ → ℕ → Shown
-viewBy from s m tag occ =
-    shownAt (lowest (viewRefusalsBy from s m tag occ))
+-- a call that shows the current version: 9 and the rows that it asks of the record, and what it shows of the record at its address
+abbrev pub onCurrentBy : {A : Type 0} → ℕ → Store → ℕ → (List ℕ → List Refusal) → (Answer → ℕ → List ℕ → A) → A
+onCurrentBy from s m rows show =
+    show
+    (lowest
+    (namedBy from s m (fineBy from (s .mst) m (placeBy from s m))
+    (refuse Deleted (placeBy from s m .deleted) ∷ rows (recordBy from (s .mst) (placeAddress (placeBy from s m))))))
     (placeAddress (placeBy from s m))
-    (findOf (recordBy from (s .mst) (placeAddress (placeBy from s m))) tag occ)
+    (recordBy from (s .mst) (placeAddress (placeBy from s m)))
 
 -- the record of the settled view, and where it begins: the settled version under changed, else the current one
 abbrev pub settledRecordBy : ℕ → List ℕ → Place → List ℕ
@@ -94,20 +104,60 @@ settledRecordBy from mst p = cond (isChanged (p .mark)) (recordBy from mst (back
 abbrev pub settledAddressBy : ℕ → List ℕ → Place → ℕ
 settledAddressBy from mst p = cond (isChanged (p .mark)) (backBy from mst p) (placeAddress p)
 
--- the settled view: 9, 11 and 12, and where the field lies
-abbrev pub settledViewRefusalsBy : ℕ → Store → ℕ → ℕ → ℕ → List Refusal
-settledViewRefusalsBy from s m tag occ =
-    namedBy from s m (bothFineBy from (s .mst) m (placeBy from s m))
+-- a call that shows the settled version: 9, 11 and its rows, and what it shows
+abbrev pub onSettledBy : {A : Type 0} → ℕ → Store → ℕ → (List ℕ → List Refusal) → (Answer → ℕ → List ℕ → A) → A
+onSettledBy from s m rows show =
+    show
+    (lowest
+    (namedBy from s m (bothFineBy from (s .mst) m (placeBy from s m))
     (refuse Deleted (placeBy from s m .deleted && isSettled (placeBy from s m .mark))
     ∷ refuse NeverSettled (isNew (placeBy from s m .mark))
-    ∷ refuse NoField (isMissing (findOf (settledRecordBy from (s .mst) (placeBy from s m)) tag occ))
-    ∷ [])
+    ∷ rows (settledRecordBy from (s .mst) (placeBy from s m)))))
+    (settledAddressBy from (s .mst) (placeBy from s m))
+    (settledRecordBy from (s .mst) (placeBy from s m))
+
+-- a field by its tag and occurrence: 12, and where it lies
+abbrev pub foundRows : ℕ → ℕ → List ℕ → List Refusal
+foundRows tag occ rec = refuse NoField (isMissing (findOf rec tag occ)) ∷ []
+
+abbrev pub foundShown : ℕ → ℕ → Answer → ℕ → List ℕ → Shown
+foundShown tag occ a at rec = shownAt a at (findOf rec tag occ)
+
+unfoldable pub viewBy : ℕ → Store → ℕ → ℕ → ℕ → Shown
+viewBy from s m tag occ = onCurrentBy from s m (foundRows tag occ) (foundShown tag occ)
 
 unfoldable pub settledViewBy : ℕ → Store → ℕ → ℕ → ℕ → Shown
-settledViewBy from s m tag occ =
-    shownAt (lowest (settledViewRefusalsBy from s m tag occ))
-    (settledAddressBy from (s .mst) (placeBy from s m))
-    (findOf (settledRecordBy from (s .mst) (placeBy from s m)) tag occ)
+settledViewBy from s m tag occ = onSettledBy from s m (foundRows tag occ) (foundShown tag occ)
+
+-- a field by its index: 12, its tag, and where it lies
+abbrev pub indexRows : ℕ → List ℕ → List Refusal
+indexRows i rec = refuse NoField (atEnd rec i) ∷ []
+
+abbrev pub indexShown : ℕ → Answer → ℕ → List ℕ → ShownField
+indexShown i a at rec = handedOut a at rec i
+
+unfoldable pub fieldBy : ℕ → Store → ℕ → ℕ → ShownField
+fieldBy from s m i = onCurrentBy from s m (indexRows i) (indexShown i)
+
+unfoldable pub settledFieldBy : ℕ → Store → ℕ → ℕ → ShownField
+settledFieldBy from s m i = onSettledBy from s m (indexRows i) (indexShown i)
+
+-- all fields: 17, how many there are, and what the lent lists have afterwards
+pub record AllFields : Type 0 where
+  pub told : Listed
+  pub left : Lists
+
+abbrev pub listRows : Lists → List ℕ → List Refusal
+listRows l rec = refuse NoRoomInList (shortFor rec l) ∷ []
+
+abbrev pub listShown : Lists → Answer → ℕ → List ℕ → AllFields
+listShown l a at rec = record { told = counted a rec; left = leaves a at rec l }
+
+unfoldable pub allFieldsBy : ℕ → Store → ℕ → Lists → AllFields
+allFieldsBy from s m l = onCurrentBy from s m (listRows l) (listShown l)
+
+unfoldable pub settledAllFieldsBy : ℕ → Store → ℕ → Lists → AllFields
+settledAllFieldsBy from s m l = onSettledBy from s m (listRows l) (listShown l)
 
 -- ---- a sound store
 

@@ -4,23 +4,45 @@ use mathlib.Core.Path.{_≡_}
 use mathlib.Core.Bool.{true}
 use lib.ListN.{length, getD}
 use Rattle.word.specs.Integer.{u16At}
+use Rattle.word.specs.Overwrite.{part}
 use Rattle.files.specs.Control.{offsetsFrom, oldOffsetsFrom, nextOf, endOf, oldEndOf}
 use Rattle.files.specs.NamedBytes.{OffsetByte}
 use Rattle.store.specs.Store.{Store}
 use Rattle.store.specs.Reading.{lengthsPermitted, controlFine}
 use Rattle.store.specs.declared.answer.Answer.the-variants.{Done, BadControl}
-use Rattle.views.specs.Views.{viewOf, settledViewOf, shownBytes}
+use Rattle.views.specs.Views.{viewOf, settledViewOf}
+use Rattle.views.specs.Fields.{fieldOf, settledFieldOf}
+use Rattle.asking.specs.State.{stateOf}
+use Rattle.asking.specs.Listing.{Lists, allFieldsOf, allFieldsLeaves, settledAllFieldsOf, settledAllFieldsLeaves}
 use Rattle.soundness.specs.Sound.{steps, soundOf}
 use Rattle.migrating.specs.Migrate.{migrateAnswer, migrateLeaves}
-use Rattle.migrating.specs.Readings.{viewBy, settledViewBy, stepsBy, soundBy}
+use Rattle.migrating.specs.Readings.{stateBy, viewBy, settledViewBy, fieldBy, settledFieldBy, AllFields, allFieldsBy, settledAllFieldsBy, stepsBy, soundBy}
 
--- ---- the readings by a rule are the library's own where the rule is that of today
+-- ---- what the library gives of a store is what a rule gives of one
 
-pub record AsToday (s : Store) : Type 0 where
-  pub view : (m tag occ : ℕ) → viewBy offsetsFrom s m tag occ ≡ viewOf s m tag occ
-  pub settled : (m tag occ : ℕ) → settledViewBy offsetsFrom s m tag occ ≡ settledViewOf s m tag occ
-  pub steps-are : stepsBy offsetsFrom (s .mst) ≡ steps (s .mst) 64
-  pub sound : soundBy offsetsFrom s ≡ soundOf s
+-- all fields in one call, both that it tells
+abbrev pub allFieldsIn : Store → ℕ → Lists → AllFields
+allFieldsIn s m l = record { told = allFieldsOf s m l; left = allFieldsLeaves s m l }
+
+abbrev pub settledAllFieldsIn : Store → ℕ → Lists → AllFields
+settledAllFieldsIn s m l = record { told = settledAllFieldsOf s m l; left = settledAllFieldsLeaves s m l }
+
+pub record GivenBy (from : ℕ) (s s′ : Store) : Type 0 where
+  -- how every MFN's record stands, and every view of it: by tag and occurrence, by index, all fields in one call
+  pub state : (m : ℕ) → stateOf s′ m ≡ stateBy from s m
+  pub view : (m tag occ : ℕ) → viewOf s′ m tag occ ≡ viewBy from s m tag occ
+  pub settled : (m tag occ : ℕ) → settledViewOf s′ m tag occ ≡ settledViewBy from s m tag occ
+  pub field : (m i : ℕ) → fieldOf s′ m i ≡ fieldBy from s m i
+  pub settled-field : (m i : ℕ) → settledFieldOf s′ m i ≡ settledFieldBy from s m i
+  pub all-fields : (m : ℕ) (l : Lists) → allFieldsIn s′ m l ≡ allFieldsBy from s m l
+  pub settled-all-fields : (m : ℕ) (l : Lists) → settledAllFieldsIn s′ m l ≡ settledAllFieldsBy from s m l
+  -- the steps, and whether the store is sound
+  pub steps-are : steps (s′ .mst) 64 ≡ stepsBy from (s .mst)
+  pub sound : soundOf s′ ≡ soundBy from s
+
+-- the rule of today gives what the library gives
+abbrev pub AsToday : Store → Type 0
+AsToday s = GivenBy offsetsFrom s s
 
 -- ---- which bytes change
 
@@ -31,20 +53,22 @@ pub record ChangesCount (s s′ : Store) : Type 0 where
   pub kept : (i : ℕ) → (OffsetByte i → ⊥) → getD (s′ .mst) i 0 ≡ getD (s .mst) i 0
   pub xrf : s′ .xrf ≡ s .xrf
 
+-- a part of the MST is as it was
+abbrev pub SameBytes : Store → Store → ℕ → ℕ → Type 0
+SameBytes s s′ start len = part (s′ .mst) start len ≡ part (s .mst) start len
+
 -- ---- A MIGRATION THAT IS DONE: what the old rule gave of the card is what the library now gives of it
 
 pub record Keeps (s s′ : Store) : Type 0 where
   pub right : controlFine s′ ≡ true
   pub next : nextOf (s′ .mst) ≡ nextOf (s .mst)
   pub end : endOf (s′ .mst) ≡ oldEndOf (s .mst)
-  -- the same steps, and it is sound exactly if it was sound but for the old rule
-  pub steps-are : steps (s′ .mst) 64 ≡ stepsBy oldOffsetsFrom (s .mst)
-  pub sound : soundOf s′ ≡ soundBy oldOffsetsFrom s
-  -- every view of every MFN: the answer, the place and the bytes
-  pub view : (m tag occ : ℕ) → viewOf s′ m tag occ ≡ viewBy oldOffsetsFrom s m tag occ
-  pub view-bytes : (m tag occ : ℕ) → shownBytes (s′ .mst) (viewOf s′ m tag occ) ≡ shownBytes (s .mst) (viewBy oldOffsetsFrom s m tag occ)
-  pub settled : (m tag occ : ℕ) → settledViewOf s′ m tag occ ≡ settledViewBy oldOffsetsFrom s m tag occ
-  pub settled-bytes : (m tag occ : ℕ) → shownBytes (s′ .mst) (settledViewOf s′ m tag occ) ≡ shownBytes (s .mst) (settledViewBy oldOffsetsFrom s m tag occ)
+  pub given : GivenBy oldOffsetsFrom s s′
+  -- and the bytes that it shows are the same
+  pub view-bytes : (m tag occ : ℕ) → SameBytes s s′ (viewOf s′ m tag occ .start) (viewOf s′ m tag occ .len)
+  pub settled-bytes : (m tag occ : ℕ) → SameBytes s s′ (settledViewOf s′ m tag occ .start) (settledViewOf s′ m tag occ .len)
+  pub field-bytes : (m i : ℕ) → SameBytes s s′ (fieldOf s′ m i .start) (fieldOf s′ m i .len)
+  pub settled-field-bytes : (m i : ℕ) → SameBytes s s′ (settledFieldOf s′ m i .start) (settledFieldOf s′ m i .len)
 
 -- ---- THE CLAIM
 
