@@ -20,7 +20,7 @@ use Rattle.word.specs.Signed.{signedOf, bitsOf}
 use Rattle.word.proofs.TwosComplement.{back-of}
 use Rattle.layout.specs.Sizes.{mstBlocks, offsetMost, mstPermitted, xrfPermitted, addressOf, blockAt, offsetAt}
 use Rattle.layout.specs.Entry.{entryOf, encodeOf}
-use Rattle.files.specs.Control.{offsetsFrom, storedOffset, readOffset, nextOf, endFrom, endOf, numbersRight, endRightFrom, controlRightFrom, controlRight, oldControlRight, withNext, withEnd, formattedMst, migratedMst}
+use Rattle.files.specs.Control.{offsetsFrom, storedOffset, readOffset, nextOf, endFrom, endOf, numbersRight, endRightFrom, controlRightFrom, controlRight, withNext, withEnd, formattedMst, migratedMst}
 use Rattle.files.specs.CrossReference.{xrfBlock, slotAt, headBits, headRight, slotFree, entryAt, withEntry, withHeads, formattedXrf}
 use Rattle.files.specs.Inner.{controlOf}
 use Rattle.files.specs.declared.control.Control.the-variants.{Right, Wrong}

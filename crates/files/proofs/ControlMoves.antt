@@ -11,7 +11,7 @@ use lib.ListN.{length, getD}
 use Rattle.word.specs.Integer.{u16At, le}
 use Rattle.word.proofs.Overwrite.{lt-or-ge, overwrite-other}
 use Rattle.layout.specs.Sizes.{mstMost, addressLimit}
-use Rattle.files.specs.Control.{endBytes, nextOf, endOf, controlRight, oldControlRight, withNext, withEnd, migratedMst}
+use Rattle.files.specs.Control.{endBytes, nextOf, endOf, controlRight, withNext, withEnd, migratedMst}
 use Rattle.files.specs.NamedBytes.{Within, NextByte, EndByte, OffsetByte, ControlByte, next-mfn, the-end}
 use Rattle.files.proofs.ControlRecord.{next-length, next-of-next, end-of-next, control-right-next, end-length, next-of-end, end-of-end, control-right-end}
 

@@ -1,9 +1,7 @@
 -- AN EVEN NXTMFP IS REFUSED: it is not right by the rule of today, and 2 stands behind 1 in every table.
-use Prim.Native.Nat.{ℕ, _%_}
 use mathlib.Core.Path.{_≡_, refl}
 use mathlib.Core.Bool.{true, false}
 use lib.ListN.{length}
-use Rattle.word.specs.Integer.{u16At}
 use Rattle.layout.specs.Sizes.{capacityOf}
 use Rattle.files.proofs.ControlRecord.{even-wrong}
 use Rattle.store.specs.Store.{Store}

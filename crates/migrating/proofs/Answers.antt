@@ -4,7 +4,7 @@ use mathlib.Core.Path.{_≡_, sym, _∙_}
 use mathlib.Core.Bool.{Bool, true, false, not}
 use mathlib.Core.List.{List}
 use lib.ListN.{length}
-use borrow.Author.Tests.{not-true, not-false}
+use borrow.Author.Tests.{not-false}
 use Rattle.word.specs.Integer.{u16At}
 use Rattle.layout.specs.Sizes.{offsetMost, capacityOf}
 use Rattle.files.specs.Control.{oldControlRight, migratedMst}

@@ -6,13 +6,13 @@ use native.Mathlib.Omega.{arith}
 use mathlib.Core.Path.{_≡_, refl, sym, ap, _∙_}
 use mathlib.Core.Logic.{⊎-elim}
 use mathlib.Core.Bool.{Bool, true, false, not, _&&_, cond}
-use mathlib.Core.List.{List, [], _∷_}
+use mathlib.Core.List.{List, _∷_}
 use lib.Dec.{leb}
 use lib.ListN.{length}
 use Rattle.word.specs.Overwrite.{part}
 use Rattle.word.proofs.Tests.{tests, and-left}
 use Rattle.layout.specs.Sizes.{endMoved, recordLength, capacityOf}
-use Rattle.layout.specs.Entry.{placed, placeAddress, isSettled, isChanged, isNew}
+use Rattle.layout.specs.Entry.{placeAddress, isSettled, isChanged, isNew}
 use Rattle.layout.specs.Leader.{leaderOf}
 use Rattle.layout.specs.declared.entry.Mark.{Mark}
 use Rattle.layout.specs.declared.entry.Mark.the-variants.{Settled, Changed, New}
@@ -24,7 +24,7 @@ use Rattle.files.specs.Control.{offsetsFrom, oldOffsetsFrom, nextOf, endFrom, e
 use Rattle.files.specs.CrossReference.{entryAt}
 use Rattle.files.proofs.ControlRecord.{control-facts, migrated-part, migrated-length, migrated-next, migrated-end, migrated-right}
 use Rattle.files.proofs.CrossReference.{entry-well-placed}
-use Rattle.record.specs.Record.{recordRight, backAddress, backFine}
+use Rattle.record.specs.Record.{backAddress}
 use Rattle.record.specs.Directory.{tagAt, posAt, lenAt}
 use Rattle.record.specs.Fields.{findOf}
 use Rattle.record.proofs.Facts.{well-formed-both}
@@ -32,13 +32,13 @@ use Rattle.store.specs.Store.{store}
 use Rattle.store.specs.Answer.{Refusal, refuse, lowest, numberOf, after}
 use Rattle.store.specs.Reading.{lengthsPermitted, mfnInRange, placeIn, isMalformed, isGone}
 use Rattle.store.specs.declared.answer.Answer.{Answer}
-use Rattle.store.specs.declared.answer.Answer.the-variants.{Done, BadLength, BadControl, NoMfn, BadEntry, Gone as GoneAnswer, BadRecord, Deleted, NeverSettled}
+use Rattle.store.specs.declared.answer.Answer.the-variants.{Done, BadLength, NoMfn, BadEntry, Gone as GoneAnswer, BadRecord, Deleted, NeverSettled}
 use Rattle.store.proofs.Gates.{Refusing, refusing-not-done, after-done, after-refused, after-cases, holds, back-changed}
 use Rattle.views.specs.Views.{foundStart, foundLength, shownAt}
 use Rattle.views.specs.Fields.{handedOut}
 use Rattle.asking.specs.State.{stateShown}
 use Rattle.asking.specs.Listing.{Lists, listedOver}
-use Rattle.soundness.specs.Sound.{allTo, elem, implies}
+use Rattle.soundness.specs.Sound.{elem, implies}
 use Rattle.soundness.proofs.Counting.{allTo-same}
 use Rattle.migrating.specs.Readings.{recordBy, leaderBy, backBy, fineBy, settledFineBy, bothFineBy, namedBy, stateBy, onCurrentBy, settledRecordBy, settledAddressBy, onSettledBy, foundRows, foundShown, viewBy, settledViewBy, indexRows, indexShown, fieldBy, settledFieldBy, listShown, mfrlBy, nextStepBy, stepsInBy, arrivesInBy, stepsBy, arrivesBy, entrySoundBy, bodySoundBy, soundBy}
 use Rattle.migrating.specs.Theorems.{SameBytes}

@@ -1,9 +1,8 @@
 -- THE CLAIM of specs/Theorems holds of every store: the two cards read the same (Same), and by the rule of today that is what the library
 -- gives (Today).
-use Prim.Native.Nat.{ℕ}
 use native.Mathlib.Omega.{arith}
 use mathlib.Core.Path.{_≡_, refl, _∙_}
-use mathlib.Core.Bool.{true, false, not}
+use mathlib.Core.Bool.{true}
 use lib.ListN.{length}
 use Rattle.word.proofs.Tests.{tests}
 use Rattle.layout.specs.Sizes.{capacityOf}
@@ -15,7 +14,6 @@ use Rattle.store.specs.Answer.{numberOf}
 use Rattle.store.specs.Reading.{lengthsPermitted, controlFine}
 use Rattle.store.specs.declared.answer.Answer.the-variants.{Done, BadLength, BadControl}
 use Rattle.store.proofs.Gates.{holds, after-done}
-use Rattle.soundness.specs.Sound.{soundOf}
 use Rattle.migrating.specs.Migrate.{oldControlFine, migrateAnswer, migrateLeaves}
 use Rattle.migrating.specs.Readings.{foundRows, foundShown, viewBy, settledViewBy, indexRows, indexShown, fieldBy, settledFieldBy, listRows, listShown, allFieldsBy, settledAllFieldsBy, soundBy}
 use Rattle.migrating.specs.Theorems.{GivenBy, AsToday, ChangesCount, Keeps, Migrates}

@@ -1,9 +1,7 @@
 -- By the rule of today the readings are the library's own.
-use Prim.Native.Nat.{ℕ, zero, suc, _+_, _-_, _≤_}
+use Prim.Native.Nat.{ℕ, zero, suc, _-_}
 use mathlib.Core.Path.{_≡_, refl, sym}
-use mathlib.Core.Bool.{Bool, cond, _&&_}
-use mathlib.Core.List.{List, [], _∷_}
-use lib.Dec.{eqb, leb}
+use mathlib.Core.List.{List}
 use Rattle.layout.specs.declared.entry.Entry.{Entry}
 use Rattle.layout.specs.declared.entry.Entry.the-variants.{Gone, Malformed, At}
 use Rattle.files.specs.Control.{offsetsFrom, nextOf, endOf}
@@ -13,7 +11,7 @@ use Rattle.views.specs.Views.{viewAnswer, settledViewAnswer, viewOf, settledVie
 use Rattle.views.specs.Fields.{fieldAnswer, fieldOf, settledFieldAnswer, settledFieldOf}
 use Rattle.asking.specs.State.{stateAnswer, stateOf}
 use Rattle.asking.specs.Listing.{Lists, allFieldsAnswer, allFieldsOf, allFieldsLeaves, settledAllFieldsAnswer, settledAllFieldsOf, settledAllFieldsLeaves}
-use Rattle.soundness.specs.Sound.{allTo, stepRight, nextStep, stepsIn, arrivesIn, steps, arrives, placeSound, entrySound, entriesSound, bodySound, soundOf}
+use Rattle.soundness.specs.Sound.{stepRight, nextStep, stepsIn, arrivesIn, steps, arrives, placeSound, entrySound, entriesSound, bodySound, soundOf}
 use Rattle.soundness.proofs.Counting.{allTo-same}
 use Rattle.migrating.specs.Readings.{fineBy, settledFineBy, stateBy, viewBy, settledViewBy, fieldBy, settledFieldBy, allFieldsBy, settledAllFieldsBy, nextStepBy, stepsInBy, arrivesInBy, stepsBy, arrivesBy, entrySoundBy, bodySoundBy, soundBy}
 use Rattle.migrating.specs.Theorems.{AsToday, allFieldsIn, settledAllFieldsIn}
