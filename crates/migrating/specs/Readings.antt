@@ -1,6 +1,6 @@
 -- A store read by a rule: what the pages of `store`, `views`, `asking` and `soundness` say of one, over the number that NXTMFP counts the end's
--- offset from.
--- With 1 each definition is theirs of a like name, as Theorems states; with 0 it says what a card of the old rule holds.
+-- offset from. With 1 it shows what theirs show, has their steps and is as sound, as Theorems states; with 0 it says what a card of the old rule
+-- holds.
 use Prim.Native.Nat.{ℕ, zero, suc, _+_, _-_}
 use mathlib.Core.Bool.{Bool, true, false, not, _&&_, cond}
 use mathlib.Core.List.{List, [], _∷_}
