@@ -30,10 +30,10 @@ use Rattle.record.specs.Fields.{findOf}
 use Rattle.record.proofs.Facts.{well-formed-both}
 use Rattle.store.specs.Store.{store}
 use Rattle.store.specs.Answer.{Refusal, refuse, lowest, numberOf, after}
-use Rattle.store.specs.Reading.{lengthsPermitted, mfnInRange, placeIn, isMalformed, isGone}
+use Rattle.store.specs.Reading.{lengthsPermitted, mfnInRange, placeIn}
 use Rattle.store.specs.declared.answer.Answer.{Answer}
 use Rattle.store.specs.declared.answer.Answer.the-variants.{Done, BadLength, NoMfn, BadEntry, Gone as GoneAnswer, BadRecord, Deleted, NeverSettled}
-use Rattle.store.proofs.Gates.{Refusing, refusing-not-done, after-done, after-refused, after-cases, holds, back-changed}
+use Rattle.store.proofs.Gates.{Refusing, after-done, after-refused, after-cases, holds, namedList, list-done, back-changed}
 use Rattle.views.specs.Views.{foundStart, foundLength, shownAt}
 use Rattle.views.specs.Fields.{handedOut}
 use Rattle.asking.specs.State.{stateShown}
@@ -45,10 +45,9 @@ use Rattle.migrating.specs.Theorems.{SameBytes}
 
 -- ---- a call by what is read: where the tables ask the same, the same is shown
 
--- 1, 2, 4, 6, 7 and 8, and the rows behind them
+-- 1, 4, 6, 7 and 8, and the rows behind them; both control records are right
 abbrev table : Bool → Bool → Entry → Bool → Answer → Answer
-table lengths known e ok rest =
-    cond (not lengths) BadLength (cond (not known) NoMfn (cond (isMalformed e) BadEntry (cond (isGone e) GoneAnswer (cond (not ok) BadRecord rest))))
+table lengths known e ok rest = cond (not lengths) BadLength (namedList known e ok rest)
 
 -- a call that is refused shows the same, wherever it looked
 abbrev pub EmptyRefused : {A : Type 0} → (Answer → ℕ → List ℕ → A) → Type 0
@@ -129,13 +128,8 @@ module _ (lengths known : Bool) where
   unfolding numberOf
   table-done e ok rest h =
       let a = holds lengths BadLength _ (λ z. omega arith) h in
-      let b = holds known NoMfn _ (λ z. omega arith) (a .1) in
-      go e (b .1)
-    where
-      go : (e : Entry) → cond (isMalformed e) BadEntry (cond (isGone e) GoneAnswer (cond (not ok) BadRecord rest)) ≡ Done → (e ≡ At (placeIn e)) × (ok ≡ true)
-      go Gone k = absurd (refusing-not-done GoneAnswer (λ z. omega arith) k)
-      go Malformed k = absurd (refusing-not-done BadEntry (λ z. omega arith) k)
-      go (At p) k = (refl, holds ok BadRecord rest (λ z. omega arith) k .0)
+      let q = list-done known e ok rest (a .1) in
+      (q .1, q .2)
 
 -- ---- the two cards
 
@@ -145,8 +139,15 @@ module _ (mst xrf : List ℕ) (old : oldControlRight mst (capacityOf (length xrf
 
   -- ---- a record
 
+  -- of the migrated card, with the end that both have
+  abbrev readNow : ℕ → List ℕ
+  readNow at = part (migratedMst mst) at (oldEndOf mst - at)
+
+  read-same : (at : ℕ) → 64 ≤ at → readNow at ≡ recordBy oldOffsetsFrom mst at
+  read-same at h = migrated-part mst at (oldEndOf mst - at) h
+
   record-same : (at : ℕ) → 64 ≤ at → recordBy offsetsFrom (migratedMst mst) at ≡ recordBy oldOffsetsFrom mst at
-  record-same at h = rw same-end (migrated-part mst at (endFrom oldOffsetsFrom mst - at) h)
+  record-same at h = rw same-end (read-same at h)
 
   module _ (m : ℕ) (p : Place) (low : 64 ≤ placeAddress p) where
     fine-same : fineBy offsetsFrom (migratedMst mst) m p ≡ fineBy oldOffsetsFrom mst m p
@@ -222,13 +223,7 @@ module _ (mst xrf : List ℕ) (old : oldControlRight mst (capacityOf (length xrf
   right-both : (controlRightFrom offsetsFrom (migratedMst mst) (capacityOf (length xrf)) ≡ true) × (controlRightFrom oldOffsetsFrom mst (capacityOf (length xrf)) ≡ true)
   right-both = (migrated-right mst (capacityOf (length xrf)) old, old)
 
-  -- a record of the migrated card, with the end that both have
-  abbrev readNow : ℕ → List ℕ
-  readNow at = part (migratedMst mst) at (oldEndOf mst - at)
-
-  read-same : (at : ℕ) → 64 ≤ at → readNow at ≡ recordBy oldOffsetsFrom mst at
-  read-same at h = migrated-part mst at (oldEndOf mst - at) h
-
+  -- the settled version of the migrated card, with the end that both have
   abbrev backNow : Place → ℕ
   backNow p = backAddress (leaderOf (readNow (placeAddress p)))
 

@@ -324,7 +324,7 @@ unfolding backFine backRight
 back-new end p l e h = let q = simp (h, tests) at e in no-back-facts l (q .0)
 
 -- 4, 6, 7 and 8 by whether the MFN is known, the kind of entry and whether 8's question is answered
-abbrev namedList : Bool → Entry → Bool → Answer → Answer
+abbrev pub namedList : Bool → Entry → Bool → Answer → Answer
 namedList known e ok rest =
     cond (not known) NoMfn (cond (isMalformed e) BadEntry (cond (isGone e) GoneAnswer (cond (not ok) BadRecord rest)))
 
@@ -333,18 +333,22 @@ entry-placed Gone h k = absurd (false-true (sym k))
 entry-placed Malformed h k = absurd (false-true (sym h))
 entry-placed (At p) h k = refl
 
+-- where none of them applies, the entry has a place
+pub list-done : (known : Bool) (e : Entry) (ok : Bool) (rest : Answer) → namedList known e ok rest ≡ Done
+    → (known ≡ true) × (e ≡ At (placeIn e)) × (ok ≡ true) × (rest ≡ Done)
+unfolding numberOf
+list-done known e ok rest h =
+    let a = holds known NoMfn _ (λ z. omega arith) h in
+    let b = passed (isMalformed e) BadEntry _ (λ z. omega arith) (a .1) in
+    let c = passed (isGone e) GoneAnswer _ (λ z. omega arith) (b .1) in
+    let d = holds ok BadRecord rest (λ z. omega arith) (c .1) in
+    (a .0, entry-placed e (b .0) (c .0), d .0, d .1)
+
 module _ (mst xrf : List ℕ) where
   pub named-done : (m : ℕ) (ok : Bool) (rest : Answer)
-      → cond (not (mfnInRange mst m)) NoMfn
-      (cond (isMalformed (entryFor (store mst xrf) m)) BadEntry (cond (isGone (entryFor (store mst xrf) m)) GoneAnswer (cond (not ok) BadRecord rest))) ≡ Done
+      → namedList (mfnInRange mst m) (entryFor (store mst xrf) m) ok rest ≡ Done
       → (mfnInRange mst m ≡ true) × (entryFor (store mst xrf) m ≡ At (placeFor (store mst xrf) m)) × (ok ≡ true) × (rest ≡ Done)
-  unfolding numberOf
-  named-done m ok rest e =
-      let a = holds (mfnInRange mst m) NoMfn _ (λ z. omega arith) e in
-      let b = passed (isMalformed (entryFor (store mst xrf) m)) BadEntry _ (λ z. omega arith) (a .1) in
-      let c = passed (isGone (entryFor (store mst xrf) m)) GoneAnswer _ (λ z. omega arith) (b .1) in
-      let d = holds ok BadRecord rest (λ z. omega arith) (c .1) in
-      (a .0, entry-placed (entryFor (store mst xrf) m) (b .0) (c .0), d .0, d .1)
+  named-done m ok rest e = list-done (mfnInRange mst m) (entryFor (store mst xrf) m) ok rest e
 
 -- the record was not found, for a: that is the answer, whatever the refusals after it
 pub record RefusedFacts (mst xrf : List ℕ) (m : ℕ) (ok : Bool) (a : Answer) : Type 0 where
