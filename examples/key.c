@@ -3,10 +3,10 @@
  *
  * The key keeps a card in two static buffers. This program formats it, catalogues
  * two books, changes a title by mistake while the index still describes the right
- * one, takes the change back, deletes the other book, and checks the card. Then it
- * migrates a card of the old rule, and looks terms up in a search index. On a key, each
- * call that writes would follow one touch of the sensor; firmware/main.c does so. It
- * compiles unchanged for both:
+ * one, takes the change back, deletes the other book, settles what is left in one call,
+ * and checks the card. Then it migrates a card of the old rule, and looks terms up in a
+ * search index. On a key, each call that writes would follow one touch of the sensor;
+ * firmware/main.c does so. It compiles unchanged for both:
  *
  *   cc -std=c11 -Wall -Wextra -Werror -Iinclude examples/key.c target/staticlib/libisis.a -o key
  *   firmware/run cortex-m0 examples/key.c
@@ -197,6 +197,16 @@ int main(void)
     failed |= report("delete it (touch 6)", isis_delete(mst, sizeof mst, xrf, sizeof xrf, other));
     failed |= show_state(other);
     if (show_fields(isis_field_settled, other) != 0)
+        failed = 1;
+
+    /* The index is up to date again, and all is settled in one call. Each MFN has an answer of
+     * its own; the first has nothing pending. */
+    const uint32_t mfns[] = { mfn, other };
+    uint32_t answers[2];
+    failed |= report("settle both (touch 7)", isis_settle_list(mst, sizeof mst, xrf, sizeof xrf, mfns, 2, answers, 2));
+    printf("    MFN %u: answer %u, MFN %u: answer %u\n", (unsigned)mfn, (unsigned)answers[0], (unsigned)other,
+           (unsigned)answers[1]);
+    if (answers[0] != ISIS_NOT_PENDING || answers[1] != ISIS_DONE)
         failed = 1;
 
     failed |= report("check the whole card", isis_check(mst, sizeof mst, xrf, sizeof xrf));

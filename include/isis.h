@@ -14,7 +14,7 @@
  * the end: its block, and in bytes 12 and 13 its offset in the block plus 1
  * (NXTMFP), as desktop programs write it. Cards written before isis.h 2.0 have the
  * offset itself there; isis_migrate makes them cards of today, and until then every
- * other function but isis_format answers 2 to them.
+ * other function but isis_format answers 2 to them, isis_settle_list for each MFN.
  *
  * Every function may be called on any bytes with any arguments; it stays inside
  * what it is lent and always ends. C's own rules are all that is asked for:
@@ -55,7 +55,7 @@ extern "C" {
 
 /* The interface. The first number rises when a function that was here changes, the second when something is added. */
 #define ISIS_VERSION_MAJOR 2
-#define ISIS_VERSION_MINOR 0
+#define ISIS_VERSION_MINOR 1
 
 /* The format. */
 #define ISIS_BLOCK           512     /* bytes of a block, of either file */
@@ -72,6 +72,7 @@ extern "C" {
 #define ISIS_SHORT_TERM_MAX  10      /* bytes of the longest term of the first tree */
 #define ISIS_TERM_MAX        30      /* bytes of the longest term */
 #define ISIS_NODES_MAX       16      /* the most nodes on one way down from a root */
+#define ISIS_SETTLE_MAX      4096    /* the most MFNs that isis_settle_list takes */
 
 /* Bytes that a draft of so many fields and so many bytes of data takes in the MST: always even. */
 #define ISIS_NEED(fields, data) ((ISIS_LEADER + ISIS_DIRECTORY_ENTRY * (fields) + (data) + 1) / 2 * 2)
@@ -110,7 +111,8 @@ enum isis_answer {
     ISIS_NO_FIELD        = 12, /* no field of that tag and occurrence, or of that index */
     ISIS_NO_ROOM         = 13, /* the record does not fit before the end of the MST */
     ISIS_NOT_SOUND       = 14, /* check: the store is not sound */
-    ISIS_NO_ROOM_IN_LIST = 17, /* a list that is lent for outputs is too short for them */
+    ISIS_NO_ROOM_IN_LIST = 17, /* a list that is lent for outputs is too short for them; isis_settle_list: the two
+                                  lists are not equally long, or over-long */
     ISIS_BAD_TERM        = 20, /* lookup: the term is not 1 to 30 bytes long, or ends with a space */
     ISIS_BAD_INDEX       = 21, /* lookup, index check: a rule of the index is broken, see isis_lookup */
     ISIS_NO_TERM         = 22  /* lookup: the index does not hold the term */
@@ -239,6 +241,19 @@ uint32_t isis_delete(uint8_t *mst, isis_size mst_len, uint8_t *xrf, isis_size xr
  * Touches bytes 6 to 11 of the record and the four bytes of its entry in the XRF.
  */
 uint32_t isis_settle(uint8_t *mst, isis_size mst_len, uint8_t *xrf, isis_size xrf_len, uint32_t mfn);
+
+/*
+ * Settles each MFN of a list, in order, as isis_settle does, and writes its answer
+ * (0, 1, 2, 4, 6, 7, 8 or 10) to the same place of answers. So the same MFN again
+ * after a 0 gets 10, unless an earlier check refuses it, and on buffers of a length
+ * that is not permitted every answer is 1. The call itself answers 0, or 17, before
+ * anything is read, if the two lists are not equally long or have more than
+ * ISIS_SETTLE_MAX elements; then nothing is changed, answers included.
+ * Touches bytes 6 to 11 of each record that is settled and the four bytes of its
+ * entry in the XRF, and all of answers.
+ */
+uint32_t isis_settle_list(uint8_t *mst, isis_size mst_len, uint8_t *xrf, isis_size xrf_len,
+                          const uint32_t *mfns, isis_size mfns_len, uint32_t *answers, isis_size answers_len);
 
 /*
  * Makes the settled version of a record current again, whatever was done since;

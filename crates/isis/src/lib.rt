@@ -12,6 +12,8 @@ ghost use Rattle.asking.specs.Listing.{lists, allFieldsOf, allFieldsLeaves, set
 ghost use Rattle.asking.specs.State.{nextFreeOf, stateOf, markNumber, deletedNumber};
 ghost use Rattle.soundness.specs.Sound.{checkAnswer};
 ghost use Rattle.migrating.specs.Migrate.{migrateAnswer, migrateLeaves};
+ghost use Rattle.settling.specs.SettleList.{settleListAnswer, settleListLeaves, settleListTells};
+ghost use lib.ListN.{length};
 ghost use Rattle.index.specs.Files.{index};
 ghost use Rattle.index.specs.Lookup.{answerOf, blockOf, wordOf, lookupOf};
 ghost use Rattle.index_check.specs.Sound.{indexAnswer};
@@ -257,6 +259,21 @@ pub extern "C" fn isis_revert(mst: &mut [u8], xrf: &mut [u8], mfn: u32) -> u32
     ensures left { λ _. ⌜ store (now (mst .exit)) (now (xrf .exit)) ≡ revertLeaves (store (now (mst .entry)) (now (xrf .entry))) mfn ⌝ }
 {
     number(writing::settling::revert(mst, xrf, Mfn(mfn)))
+}
+
+// Settles each MFN of a list, in order; its answer goes to the same place of `answers`.
+#[no_mangle]
+pub extern "C" fn isis_settle_list(
+    mst: &mut [u8],
+    xrf: &mut [u8],
+    mfns: &[u32],
+    answers: &mut [u32],
+) -> u32
+    ensures answers { λ r. ⌜ r ≡ numberOf (settleListAnswer (length (now (mfns .entry))) (length (now (answers .entry)))) ⌝ }
+    ensures left { λ _. ⌜ store (now (mst .exit)) (now (xrf .exit)) ≡ settleListLeaves (store (now (mst .entry)) (now (xrf .entry))) (now (mfns .entry)) (length (now (answers .entry))) ⌝ }
+    ensures told { λ _. ⌜ now (answers .exit) ≡ settleListTells (store (now (mst .entry)) (now (xrf .entry))) (now (mfns .entry)) (now (answers .entry)) ⌝ }
+{
+    number(settling::settle_list::settle_list(mst, xrf, mfns, answers))
 }
 
 // Counts the end of an old card from one.

@@ -9,11 +9,12 @@ use mathlib.Core.List.{List, [], _∷_}
 use lib.ListN.{length}
 use Rattle.word.proofs.Tests.{false-true}
 use Rattle.record.specs.Fields.{Field}
-use Rattle.ledger.specs.Call.{Call, format, settle, revert}
+use Rattle.settling.specs.Theorems.{among}
+use Rattle.ledger.specs.Call.{Call, format, settle, revert, settleList}
 use Rattle.ledger.specs.Ledger.{Marking, new, changed, Item, held, Ledger, nextMfn, lengthsFine, itemOf, keptFields, keptMark, isNewMark}
 use Rattle.ledger.specs.LedgerSteps.{Effect, itemSet, itemAdded, applied, lengthWith, versionMark, version, endWith, effectOf, nextL, afterL}
 use Rattle.ledger.specs.History.{Every, every-none, every-more, LeavesPending, LeavesNew}
-use Rattle.ledger.proofs.Effects.{Known, Does, reads, empties, adds, changes, settles, reverts, after-call, set-long, set-own, set-other, added-long, added-other}
+use Rattle.ledger.proofs.Effects.{Known, Does, reads, empties, adds, changes, settles, settles-each, reverts, after-call, after-each, set-long, set-own, set-other, added-long, added-other}
 
 -- MFN m is there, under a mark of some kind
 pub record Marked (P : Marking → Type 0) (m : ℕ) (L : Ledger) : Type 0 where
@@ -48,7 +49,7 @@ module _ (P : Marking → Type 0) (m : ℕ) (L : Ledger) where
       }
 
   module _ (w : Marked P m L) where
-    marked-other : (k : ℕ) (i : Item) (e : ℕ) → 1 ≤ k → (k ≡ m → ⊥) → Marked P m (applied L (itemSet k i e))
+    pub marked-other : (k : ℕ) (i : Item) (e : ℕ) → 1 ≤ k → (k ≡ m → ⊥) → Marked P m (applied L (itemSet k i e))
     unfolding lengthsFine
     marked-other k i e low ne =
         record {
@@ -75,8 +76,8 @@ module _ (P : Marking → Type 0) (m : ℕ) (L : Ledger) where
 -- a kind of mark that a new version keeps, through a call that neither formats nor settles m; a revert of m keeps it only by being refused
 module _ (P : Marking → Type 0) (keeps : (fs : List Field) (k : Marking) (n : ℕ) → P k → P (versionMark fs k n)) (m : ℕ) where
   pub marked-kept : (L : Ledger) → Marked P m L → (c : Call) → (c ≡ format → ⊥) → (c ≡ settle m → ⊥)
-      → ((k : Marking) → P k → c ≡ revert m → isNewMark k ≡ false → ⊥) → Marked P m (nextL L c)
-  marked-kept L w c no-format no-settle no-revert = after-call (Marked P m) L c w (go (effectOf L c))
+      → ((ms : List ℕ) (lent : ℕ) → c ≡ settleList ms lent → among m ms ≡ false) → ((k : Marking) → P k → c ≡ revert m → isNewMark k ≡ false → ⊥) → Marked P m (nextL L c)
+  marked-kept L w c no-format no-settle no-list no-revert = after-call (Marked P m) L c w (go (effectOf L c))
     where
       own : (k : ℕ) (fs : List Field) (d a : Bool) → 1 ≤ k → Dec (k ≡ m) → Marked P m (applied L (version L k fs d a))
       own k fs d a low (yes z) =
@@ -93,6 +94,10 @@ module _ (P : Marking → Type 0) (keeps : (fs : List Field) (k : Marking) (n : 
       go _ (adds f fs n e) = marked-more P m L w (held fs false (new n)) e
       go _ (changes k known fs d a) = own k fs d a (known .low) (ℕ-discrete k m)
       go _ (settles k known e fs d) = elsewhere k _ _ (known .low) (λ z. no-settle (e ∙ ap settle z))
+      go _ (settles-each ms lent e) =
+          after-each (Marked P m) ms
+          (λ K k a v known. marked-other P m K v k _ _ (known .low) (λ z. false-true (sym (no-list ms lent e) ∙ ap (λ (o : ℕ). among o ms) (sym z) ∙ a)))
+          L w
       go _ (reverts k known e r fs) =
           elsewhere k _ _ (known .low)
           (λ z.
@@ -119,7 +124,7 @@ fresh-new k f = rw (f .is)
 
 -- a settled version stays, and so does it that there is none
 pub over-kept : (old : List Field) (m : ℕ) (L : Ledger) → Marked (Over old) m L → (c : Call) → LeavesPending m c → Marked (Over old) m (nextL L c)
-over-kept old m L w c q = marked-kept (Over old) (over-version old) m L w c (q .no-format) (q .no-settle) (λ k p e n. q .no-revert e)
+over-kept old m L w c q = marked-kept (Over old) (over-version old) m L w c (q .no-format) (q .no-settle) (q .no-list) (λ k p e n. q .no-revert e)
 
 pub fresh-kept : (m : ℕ) (L : Ledger) → Marked Fresh m L → (c : Call) → LeavesNew m c → Marked Fresh m (nextL L c)
-fresh-kept m L w c q = marked-kept Fresh fresh-version m L w c (q .no-format) (q .no-settle) (λ k p e n. false-true (sym n ∙ fresh-new k p))
+fresh-kept m L w c q = marked-kept Fresh fresh-version m L w c (q .no-format) (q .no-settle) (q .no-list) (λ k p e n. false-true (sym n ∙ fresh-new k p))

@@ -18,11 +18,13 @@ use Rattle.store.specs.declared.answer.Answer.the-variants.{Done, BadLength, No
 use Rattle.store.proofs.Gates.{number-done, after-done, after-refused}
 use Rattle.store.proofs.Lowest.{Applies}
 use Rattle.store.specs.Store.{store}
+use Rattle.settling.specs.Theorems.{among}
+use Rattle.settling.proofs.Theorems.{among-first, among-behind}
 use Rattle.drafts.specs.Draft.{Draft, fieldsIn}
-use Rattle.ledger.specs.Call.{Call, format, view, viewSettled, create, update, delete, settle, revert, check, migrate}
+use Rattle.ledger.specs.Call.{Call, format, view, viewSettled, create, update, delete, settle, revert, check, migrate, settleList}
 use Rattle.ledger.specs.Ledger.{new, Item, gone, held, Ledger, nextMfn, lengthsFine, mfnIn, itemOf, keptMark, isSettledMark, isNewMark}
-use Rattle.ledger.specs.LedgerAnswers.{appends, refusalsL, numberL, replyL}
-use Rattle.ledger.specs.LedgerSteps.{Effect, stays, emptied, itemSet, itemAdded, applied, version, settledAs, effectOf, nextL}
+use Rattle.ledger.specs.LedgerAnswers.{appends, settledItem, settledOne, settledEach, refusalsL, numberL, replyL}
+use Rattle.ledger.specs.LedgerSteps.{Effect, stays, emptied, itemSet, itemAdded, eachSettled, applied, version, settledAs, effectOf, nextL}
 use Rattle.ledger.proofs.Ascending.{number-lowest}
 
 -- the lengths are right, and MFN m was created
@@ -50,6 +52,8 @@ pub data Does (L : Ledger) (c : Call) : Effect → Type 0 where
   changes : (k : ℕ) → Known L k → (fs : List Field) (deleted appended : Bool) → Does L c (version L k fs deleted appended)
   -- MFN k becomes settled
   settles : (k : ℕ) → Known L k → c ≡ settle k → (fs : List Field) (deleted : Bool) → Does L c (settledAs L k fs deleted)
+  -- each MFN of a list does
+  settles-each : (ms : List ℕ) (lent : ℕ) → c ≡ settleList ms lent → Does L c (eachSettled ms)
   reverts : (k : ℕ) → Known L k → c ≡ revert k → isNewMark (keptMark (itemOf L k)) ≡ false → (fs : List Field) → Does L c (settledAs L k fs false)
 
 module _ (L : Ledger) (c : Call) (d : numberL L c ≡ Done) where
@@ -74,6 +78,10 @@ pub create-lengths : (L : Ledger) (f : Draft) → numberL L (create f) ≡ Done 
 unfolding refusalsL replyL
 create-lengths L f d = permitted L (create f) d (λ e. inl (refl, e))
 
+pub settle-known : (L : Ledger) (m : ℕ) → numberL L (settle m) ≡ Done → Known L m
+unfolding refusalsL replyL
+settle-known L m d = known L (settle m) d m (λ e. inl (refl, e)) (λ e. inr (inl (refl, e)))
+
 pub does : (L : Ledger) (c : Call) → numberL L c ≡ Done → Does L c (effectOf L c)
 unfolding effectOf refusalsL replyL
 does L format d = empties refl
@@ -85,23 +93,43 @@ does L (update m f) d =
     (appends (keptMark (itemOf L m)) (needFor (fieldsIn f)))
 does L (delete m) d =
     changes m (known L (delete m) d m (λ e. inl (refl, e)) (λ e. inr (inl (refl, e)))) _ _ (isSettledMark (keptMark (itemOf L m)))
-does L (settle m) d = settles m (known L (settle m) d m (λ e. inl (refl, e)) (λ e. inr (inl (refl, e)))) refl _ _
+does L (settle m) d = settles m (settle-known L m d) refl _ _
 does L (revert m) d =
     reverts m (known L (revert m) d m (λ e. inl (refl, e)) (λ e. inr (inl (refl, e)))) refl
     (row L (revert m) d NeverSettled (isNewMark (keptMark (itemOf L m))) (λ e. inr (inr (inr (inr (inl (refl, e))))))) _
 does L check d = reads
 does L migrate d = reads
+does L (settleList ms lent) d = settles-each ms lent refl
 
 -- what holds where the call is refused, and after what it does where it is done, holds after it
-pub after-call : (P : Ledger → Type 0) (L : Ledger) (c : Call) → P L → (Does L c (effectOf L c) → P (applied L (effectOf L c))) → P (nextL L c)
+after-either : (P : Ledger → Type 0) (L : Ledger) (c : Call) → P L → (numberL L c ≡ Done → P (applied L (effectOf L c))) → P (nextL L c)
 unfolding nextL
-after-call P L c p f = go (ℕ-discrete (numberOf (numberL L c)) 0)
+after-either P L c p f = go (ℕ-discrete (numberOf (numberL L c)) 0)
   where
     go : Dec (numberOf (numberL L c) ≡ 0) → P (after (numberL L c) (applied L (effectOf L c)) L)
     go (yes z) =
         let d : numberL L c ≡ Done = number-done (numberL L c) z in
-        rw (after-done (numberL L c) (applied L (effectOf L c)) L d) (f (does L c d))
+        rw (after-done (numberL L c) (applied L (effectOf L c)) L d) (f d)
     go (no z) = rw (after-refused (numberL L c) (applied L (effectOf L c)) L z) p
+
+pub after-call : (P : Ledger → Type 0) (L : Ledger) (c : Call) → P L → (Does L c (effectOf L c) → P (applied L (effectOf L c))) → P (nextL L c)
+after-call P L c p f = after-either P L c p (λ d. f (does L c d))
+
+-- ---- a list of MFNs: what holds after each settle that is done holds after the list
+
+pub one-is : (L : Ledger) (m : ℕ) → settledOne L m ≡ nextL L (settle m)
+unfolding settledOne nextL numberL refusalsL replyL effectOf
+one-is L m = refl
+
+pub after-each : (P : Ledger → Type 0) (ms : List ℕ)
+    → ((K : Ledger) (m : ℕ) → among m ms ≡ true → P K → Known K m → P (applied K (itemSet m (settledItem (itemOf K m)) (K .end))))
+    → (L : Ledger) → P L → P (settledEach L ms)
+unfolding settledEach effectOf
+after-each P [] f L p = p
+after-each P (m ∷ ms) f L p = after-each P ms (λ K k a. f K k (among-behind k m ms a)) (settledOne L m) (rw (one-is L m) first)
+  where
+    first : P (nextL L (settle m))
+    first = after-either P L (settle m) p (λ d. f L m (among-first m ms) p (settle-known L m d))
 
 -- ---- an item set, or added: its own, and those of the others
 

@@ -12,7 +12,7 @@ use Rattle.store.specs.Store.{Store}
 use Rattle.drafts.specs.Draft.{Draft}
 use Rattle.ledger.specs.Call.{Call, view, viewSettled, create, revert, Outcome, plain}
 use Rattle.ledger.specs.Ledger.{Marking, settled, held, Ledger, nextMfn, itemOf}
-use Rattle.ledger.specs.LedgerAnswers.{numberL, Given, nothing, theMfn, theField, givesL, outcomeOf, answerL}
+use Rattle.ledger.specs.LedgerAnswers.{numberL, Given, nothing, theMfn, theField, theAnswers, givesL, outcomeOf, answerL}
 use Rattle.ledger.specs.LedgerSteps.{nextL, afterL}
 use Rattle.ledger.specs.StoreRun.{answerS, nextS, afterS}
 use Rattle.ledger.specs.LedgerOf.{markingAt, ledgerOf, SoundStore}
@@ -43,13 +43,14 @@ number-is L c = go (givesL L c)
     go nothing = refl
     go (theMfn m) = refl
     go (theField bytes) = refl
+    go (theAnswers each) = refl
 
 module _ (s : Store) (h : SoundStore s) where
   pub holds-own : Kept s (ledgerOf s)
   unfolding afterS afterL
   holds-own = answers-are-the-ledgers s h [] .kept
 
-  done-is : (c : Call) → answerS s c .answer ≡ Done → numberL (ledgerOf s) c ≡ Done
+  pub done-is : (c : Call) → answerS s c .answer ≡ Done → numberL (ledgerOf s) c ≡ Done
   done-is c e = sym (number-is (ledgerOf s) c) ∙ sym (ap (λ (o : Outcome). o .answer) (answered holds-own c)) ∙ e
 
   -- after a call and a list

@@ -22,3 +22,4 @@ pub mod SettledView
 pub mod Touched
 pub mod Claims
 pub mod EvenCount
+pub mod Singles

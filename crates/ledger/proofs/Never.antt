@@ -1,5 +1,5 @@
 -- In a list of calls from format, 1, 2, 6, 7, 8 and 14 never come from document 01's own calls: the lengths stay right, and nothing makes a record
--- gone. From a migration nothing but 2 comes.
+-- gone. From a migration nothing but 2 comes, from a list of MFNs 0 and 17, and in it what its settles answer.
 use Prim.Native.Nat.{ℕ, _+_, _-_, _≤_, _<_}
 use native.Mathlib.Omega.{arith}
 use native.Mathlib.Decide.{ℕ-discrete}
@@ -15,13 +15,14 @@ use Rattle.store.specs.Reading.{lengthsPermitted}
 use Rattle.store.specs.declared.answer.Answer.{Answer}
 use Rattle.store.specs.declared.answer.Answer.the-variants.{Done, NoMfn}
 use Rattle.store.specs.Store.{store}
-use Rattle.ledger.specs.Call.{Call, format, view, viewSettled, create, update, delete, settle, revert, check, migrate, Outcome}
+use Rattle.store.proofs.Gates.{after-cases}
+use Rattle.ledger.specs.Call.{Call, format, view, viewSettled, create, update, delete, settle, revert, check, migrate, settleList, Outcome}
 use Rattle.ledger.specs.Ledger.{new, Item, gone, held, Ledger, nextMfn, empty, lengthsFine, mfnIn, itemOf, isGoneItem}
-use Rattle.ledger.specs.LedgerAnswers.{measured, named, refusalsL, numberL, answerL, replyL}
+use Rattle.ledger.specs.LedgerAnswers.{measured, named, settleRows, settledOne, answersEach, refusalsL, numberL, givesL, answerL, replyL}
 use Rattle.ledger.specs.LedgerSteps.{Effect, itemSet, itemAdded, applied, effectOf, nextL, answersL}
 use Rattle.ledger.specs.StoreRun.{nextS, answersS}
-use Rattle.ledger.specs.History.{MayCome, AllMayCome, none, more, NeverCome}
-use Rattle.ledger.proofs.Effects.{Known, Does, reads, empties, adds, changes, settles, reverts, in-range, after-call, set-long, set-own, set-other, added-long, added-own, added-other}
+use Rattle.ledger.specs.History.{MayCome, EachOwn, no-answer, one-more, AllMayCome, none, more, NeverCome}
+use Rattle.ledger.proofs.Effects.{Known, Does, reads, empties, adds, changes, settles, settles-each, reverts, in-range, after-call, one-is, after-each, set-long, set-own, set-other, added-long, added-own, added-other}
 use Rattle.ledger.proofs.Theorem.{demand-3}
 use Rattle.ledger.proofs.History.{number-is}
 
@@ -77,6 +78,7 @@ module _ (L : Ledger) (w : Whole L) where
   rows-may (revert m) = no-length (no-gone m refl (may refl (may refl (no-row refl))))
   rows-may check = no-length (no-row refl)
   rows-may migrate = no-length (row (λ e. refl) (λ e. absurd (false-true (sym e))))
+  rows-may (settleList ms lent) = may refl (no-row refl)
 
   answer-may : (c : Call) → MayCome c (answerL L c .answer)
   unfolding numberL
@@ -109,21 +111,49 @@ module _ (L : Ledger) (w : Whole L) where
   unfolding empty lengthsFine
   same-lengths = w .lengths
 
-  whole-next : (c : Call) → Whole (nextL L c)
-  whole-next c = after-call Whole L c w (go (effectOf L c))
-    where
-      go : (e : Effect) → Does L c e → Whole (applied L e)
-      go _ reads = w
-      go _ (empties e) = whole-empty (L .mstLength) (L .xrfLength) same-lengths
-      go _ (adds f fs n e) = whole-more (held fs false (new n)) e refl
-      go _ (changes k known fs d a) = whole-set k _ _ known refl
-      go _ (settles k known e fs d) = whole-set k _ _ known refl
-      go _ (reverts k known e r fs) = whole-set k _ _ known refl
+whole-next : (L : Ledger) → Whole L → (c : Call) → Whole (nextL L c)
+whole-next L w c = after-call Whole L c w (go (effectOf L c))
+  where
+    go : (e : Effect) → Does L c e → Whole (applied L e)
+    go _ reads = w
+    go _ (empties e) = whole-empty (L .mstLength) (L .xrfLength) (same-lengths L w)
+    go _ (adds f fs n e) = whole-more L w (held fs false (new n)) e refl
+    go _ (changes k known fs d a) = whole-set L w k _ _ known refl
+    go _ (settles k known e fs d) = whole-set L w k _ _ known refl
+    go _ (settles-each ms lent e) = after-each Whole ms (λ K m a v known. whole-set K v m _ _ known refl) L w
+    go _ (reverts k known e r fs) = whole-set L w k _ _ known refl
+
+-- ---- the answers that a call lists
+
+-- each settle's, along the list
+each-own : (L : Ledger) → Whole L → (ms : List ℕ) → EachOwn (answersEach L ms)
+unfolding answersEach refusalsL replyL
+each-own L w [] = no-answer
+each-own L w (m ∷ ms) = one-more (own L w m) (each-own (settledOne L m) (rw (one-is L m) (whole-next L w (settle m))) ms)
+  where
+    own : (L : Ledger) → Whole L → (m : ℕ) → MayCome (settle m) (lowest (settleRows L m))
+    own L w m = lowest-may (settle m) (settleRows L m) (rows-may L w (settle m))
+
+-- a call but a list of MFNs lists none
+lists-own : (L : Ledger) → Whole L → (c : Call) → EachOwn (answerL L c .answers)
+unfolding answerL givesL replyL
+lists-own L w format = no-answer
+lists-own L w (view m tag occ) = no-answer
+lists-own L w (viewSettled m tag occ) = no-answer
+lists-own L w (create d) = no-answer
+lists-own L w (update m d) = no-answer
+lists-own L w (delete m) = no-answer
+lists-own L w (settle m) = no-answer
+lists-own L w (revert m) = no-answer
+lists-own L w check = no-answer
+lists-own L w migrate = no-answer
+lists-own L w (settleList ms lent) =
+    ⊎-elim (λ d. rw (d .1) (each-own L w ms)) (λ r. rw (r .1) no-answer) (after-cases (numberL L (settleList ms lent)) (answersEach L ms) [])
 
 all-may-come : (L : Ledger) → Whole L → (cs : List Call) → AllMayCome cs (answersL L cs)
 unfolding answersL
 all-may-come L w [] = none
-all-may-come L w (c ∷ cs) = more (answer-may L w c) (all-may-come (nextL L c) (whole-next L w c) cs)
+all-may-come L w (c ∷ cs) = more (answer-may L w c) (lists-own L w c) (all-may-come (nextL L c) (whole-next L w c) cs)
 
 permitted : (mst xrf : List ℕ) → lengthsPermitted (store mst xrf) ≡ true → lengthsFine (empty (length mst) (length xrf)) ≡ true
 unfolding lengthsPermitted lengthsFine empty

@@ -2,7 +2,7 @@
 -- the ledger's before and after.
 use Prim.Native.Nat.{ℕ, _+_, _≤_}
 use native.Mathlib.Omega.{arith}
-use mathlib.Core.Path.{_≡_, refl, sym, _∙_}
+use mathlib.Core.Path.{_≡_, refl, sym, ap, _∙_}
 use mathlib.Core.Bool.{Bool, true, false, not, cond}
 use mathlib.Core.List.{List, []}
 use mathlib.Core.Logic.{⊎-elim}
@@ -14,14 +14,15 @@ use Rattle.word.proofs.Tests.{false-true}
 use Rattle.store.specs.Answer.{after, numberOf}
 use Rattle.store.specs.declared.answer.Answer.the-variants.{BadLength, NoMfn}
 use Rattle.store.specs.Store.{Store}
+use Rattle.settling.specs.Theorems.{among}
 use Rattle.ledger.specs.Call.{Call, view, viewSettled}
 use Rattle.ledger.specs.Ledger.{Item, held, new, Ledger, nextMfn, lengthsFine, mfnIn, itemOf}
-use Rattle.ledger.specs.LedgerAnswers.{refusalsL, numberL, theField, givesL, outcomeOf, answerL, replyL}
+use Rattle.ledger.specs.LedgerAnswers.{settledEach, refusalsL, numberL, theField, givesL, outcomeOf, answerL, replyL}
 use Rattle.ledger.specs.LedgerSteps.{Effect, itemSet, itemAdded, applied, touches, effectOf, nextL}
 use Rattle.ledger.specs.StoreRun.{nextS}
 use Rattle.ledger.specs.LedgerOf.{ledgerOf, SoundStore}
 use Rattle.ledger.specs.History.{SameViews}
-use Rattle.ledger.proofs.Effects.{Does, reads, empties, adds, changes, settles, reverts, in-range, after-call, set-long, set-other, added-long, added-other}
+use Rattle.ledger.proofs.Effects.{Does, reads, empties, adds, changes, settles, settles-each, reverts, in-range, after-call, after-each, set-long, set-other, added-long, added-other}
 use Rattle.ledger.proofs.History.{answered, called, holds-own}
 
 -- what two ledgers keep of MFN o is the same
@@ -61,16 +62,28 @@ module _ (L : Ledger) (o : ℕ) where
         item = λ h. let r = in-range L o h in added-other L i e o (r .0) (r .1);
       }
 
+-- one ledger after the other
+same-next : {L K M : Ledger} {o : ℕ} → Same L o K → Same K o M → Same L o M
+same-next r q = record { lengths = q .lengths ∙ r .lengths; known = q .known ∙ r .known; item = λ e. q .item (r .known ∙ e) ∙ r .item e }
+
+module _ (L : Ledger) (o : ℕ) where
+  same-each : (ms : List ℕ) → among o ms ≡ false → Same L o (settledEach L ms)
+  same-each ms t =
+      after-each (Same L o) ms
+      (λ K k a r known. same-next r (same-set K o k _ _ (known .low) (λ z. false-true (sym t ∙ ap (λ (n : ℕ). among n ms) (sym z) ∙ a))))
+      L (same-self L o)
+
   others-same : (c : Call) → touches L (effectOf L c) o ≡ false → Same L o (nextL L c)
-  others-same c t = after-call (Same L o) L c same-self (λ d. go (effectOf L c) d t)
+  others-same c t = after-call (Same L o) L c (same-self L o) (λ d. go (effectOf L c) d t)
     where
       go : (e : Effect) → Does L c e → touches L e o ≡ false → Same L o (applied L e)
-      go _ reads t = same-self
+      go _ reads t = same-self L o
       go _ (empties e) t = absurd (false-true (sym t))
-      go _ (adds f fs n e) t = same-more (held fs false (new n)) e (eqb-false (nextMfn L) o t)
-      go _ (changes k known fs d a) t = same-set k _ _ (known .low) (eqb-false k o t)
-      go _ (settles k known e fs d) t = same-set k _ _ (known .low) (eqb-false k o t)
-      go _ (reverts k known e r fs) t = same-set k _ _ (known .low) (eqb-false k o t)
+      go _ (adds f fs n e) t = same-more L o (held fs false (new n)) e (eqb-false (nextMfn L) o t)
+      go _ (changes k known fs d a) t = same-set L o k _ _ (known .low) (eqb-false k o t)
+      go _ (settles k known e fs d) t = same-set L o k _ _ (known .low) (eqb-false k o t)
+      go _ (reverts k known e r fs) t = same-set L o k _ _ (known .low) (eqb-false k o t)
+      go _ (settles-each ms lent e) t = same-each ms t
 
 -- an MFN that is not there shows nothing
 unknown-same : (fine : Bool) (x y : List ℕ)

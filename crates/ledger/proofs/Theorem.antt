@@ -5,12 +5,13 @@
 use Prim.Native.Nat.{ℕ}
 use mathlib.Core.Path.{_≡_, refl, sym, ap, _∙_}
 use mathlib.Core.Bool.{Bool, true, false}
-use mathlib.Core.List.{List, []}
+use mathlib.Core.List.{List, [], _∷_}
 use lib.ListN.{length}
 use Rattle.files.specs.Control.{nextOf, endOf, formattedMst}
 use Rattle.files.specs.CrossReference.{formattedXrf}
 use Rattle.drafts.proofs.Draftable.{draft-draftable}
-use Rattle.store.specs.Answer.{after}
+use Rattle.store.specs.Answer.{lowest, after}
+use Rattle.settling.specs.SettleList.{settleEachAnswers, settleEachLeaves, settleListRefusals, settleListAnswer, settleListLeaves}
 use Rattle.store.specs.Reading.{lengthsPermitted, mfnInRange}
 use Rattle.writing.specs.Refusals.{formatAnswer, createAnswer, updateAnswer, deleteAnswer, settleAnswer, revertAnswer}
 use Rattle.writing.specs.Calls.{formatLeaves, createOf, createLeaves, updateLeaves, deleteLeaves, settleLeaves, revertLeaves}
@@ -21,9 +22,9 @@ use Rattle.soundness.proofs.SoundEntries.{Sound, stands, body-sound, EntryStand
 use Rattle.soundness.proofs.Asked.{create-asked, update-asked, delete-asked, settle-asked, revert-asked}
 use Rattle.store.specs.Store.{Store, store}
 use Rattle.drafts.specs.Draft.{Draft}
-use Rattle.ledger.specs.Call.{Call, format, view, viewSettled, create, update, delete, settle, revert, check, migrate, outcome, plain}
+use Rattle.ledger.specs.Call.{Call, format, view, viewSettled, create, update, delete, settle, revert, check, migrate, settleList, Outcome, outcome, plain, listed}
 use Rattle.ledger.specs.Ledger.{Ledger, nextMfn, empty}
-use Rattle.ledger.specs.LedgerAnswers.{numberL, givesL, outcomeOf, answerL, replyL}
+use Rattle.ledger.specs.LedgerAnswers.{settleRows, settledOne, settledEach, answersEach, refusalsL, numberL, givesL, outcomeOf, answerL, replyL}
 use Rattle.ledger.specs.LedgerSteps.{stays, applied, effectOf, nextL, answersL, afterL}
 use Rattle.ledger.specs.StoreRun.{answerS, nextS, answersS, afterS, resultS}
 use Rattle.ledger.specs.LedgerOf.{ledgerOf, SoundStore}
@@ -35,6 +36,7 @@ use Rattle.ledger.proofs.Formatting.{formatted, formatted-sound, format
 use Rattle.ledger.proofs.Creating.{create-left}
 use Rattle.ledger.proofs.Either.{Left, either}
 use Rattle.ledger.proofs.Versions.{update-left, delete-left, settle-left, revert-left}
+use Rattle.ledger.proofs.Effects.{one-is}
 use Rattle.ledger.proofs.Lists.{Step, Run, run-all}
 
 module _ (t : Store) (h : SoundStore t) where
@@ -86,30 +88,77 @@ module _ (t : Store) (h : SoundStore t) where
       ap (λ (n : ℕ). outcome (createAnswer t d) (after (createAnswer t d) n 0) [])
       (sym (next-is t opened))
 
-  pub step : (c : Call) → Step t c
-  unfolding answerS answerL givesL nextS effectOf formatLeaves createLeaves updateLeaves deleteLeaves settleLeaves revertLeaves replyL resultS
-  step format = written format (formatAnswer t) _ (format-answer t opened) refl refl (λ d. emptied-left)
-  step (view m tag occ) = asked (view m tag occ) (view-outcome t opened m tag occ (see m)) refl refl
-  step (viewSettled m tag occ) = asked (viewSettled m tag occ) (settled-view-outcome t opened m tag occ (see m)) refl refl
-  step (create d) =
-      written (create d) (createAnswer t d) _ (create-answer t opened d (λ e. create-row s (below-capacity s e))) (create-gives d) refl
-      (λ e. create-left (t .mst) (t .xrf) d s (create-asked s d e))
-  step (update m d) =
-      written (update m d) (updateAnswer t m d) _ (update-answer t opened m (see m) d) refl refl
-      (λ e.
-      let a = update-asked s m d e in
-      update-left (t .mst) (t .xrf) s m opened (a .here) d (draft-draftable (d .tags) (d .lens) (d .bytes) (a .draft)) (a .live) (a .room))
-  step (delete m) =
-      written (delete m) (deleteAnswer t m) _ (delete-answer t opened m (see m)) refl refl
-      (λ e. let a = delete-asked s m e in delete-left (t .mst) (t .xrf) s m opened (a .here) (a .live) (a .room))
-  step (settle m) =
+  -- one MFN is settled
+  settle-step : (m : ℕ) → Step t (settle m)
+  unfolding answerS givesL nextS effectOf settleLeaves replyL resultS
+  settle-step m =
       written (settle m) (settleAnswer t m) _ (settle-answer t opened m (see m)) refl refl
       (λ e. settle-left (t .mst) (t .xrf) s m opened (settle-asked s m e .here))
+
+-- ---- a list of MFNs: each is settled by one step
+
+record Each (t : Store) (ms : List ℕ) : Type 0 where
+  answers : settleEachAnswers t ms ≡ answersEach (ledgerOf t) ms
+  last : ledgerOf (settleEachLeaves t ms) ≡ settledEach (ledgerOf t) ms
+  sound : SoundStore (settleEachLeaves t ms)
+
+-- what the step of one says of the fold
+first-answer : (t : Store) (m : ℕ) → Step t (settle m) → settleAnswer t m ≡ lowest (settleRows (ledgerOf t) m)
+unfolding answerS resultS answerL numberL refusalsL givesL replyL
+first-answer t m one = ap (λ (o : Outcome). o .answer) (one .answer)
+
+first-left : (t : Store) (m : ℕ) → Step t (settle m) → Left (settleLeaves t m) (settledOne (ledgerOf t) m)
+unfolding nextS resultS
+first-left t m one = record { ledger = one .next ∙ sym (one-is (ledgerOf t) m); sound = one .sound }
+
+each : (t : Store) → SoundStore t → (ms : List ℕ) → Each t ms
+unfolding settleEachAnswers settleEachLeaves answersEach settledEach
+each t h [] = record { answers = refl; last = refl; sound = h }
+each t h (m ∷ ms) =
+    let one = settle-step t h m in
+    let l = first-left t m one in
+    let rest = each (settleLeaves t m) (l .sound) ms in
+    record {
+      answers = rw (first-answer t m one, rest .answers, l .ledger);
+      last = rest .last ∙ ap (λ (L : Ledger). settledEach L ms) (l .ledger);
+      sound = rest .sound;
+    }
+
+-- and the list is refused by the same two lengths
+list-step : (t : Store) → SoundStore t → (ms : List ℕ) (lent : ℕ) → Step t (settleList ms lent)
+unfolding answerS nextS resultS answerL nextL numberL refusalsL givesL replyL effectOf settleListAnswer settleListLeaves
+list-step t h ms lent =
+    let r = each t h ms in
+    let a = lowest (settleListRefusals (length ms) lent) in
+    let l = either a a t (settleEachLeaves t ms) (settledEach (ledgerOf t) ms) refl h (λ d. record { ledger = r .last; sound = r .sound }) in
+    record { answer = ap (λ (each : List Answer). listed a (after a each [])) (r .answers); next = l .ledger; sound = l .sound }
+
+-- ---- every call
+
+module _ (t : Store) (h : SoundStore t) where
+  pub step : (c : Call) → Step t c
+  unfolding answerS answerL givesL nextS effectOf formatLeaves createLeaves updateLeaves deleteLeaves settleLeaves revertLeaves replyL resultS
+  step format = written t h format (formatAnswer t) _ (format-answer t (opened t h)) refl refl (λ d. emptied-left t h)
+  step (view m tag occ) = asked t h (view m tag occ) (view-outcome t (opened t h) m tag occ (see t h m)) refl refl
+  step (viewSettled m tag occ) = asked t h (viewSettled m tag occ) (settled-view-outcome t (opened t h) m tag occ (see t h m)) refl refl
+  step (create d) =
+      written t h (create d) (createAnswer t d) _ (create-answer t (opened t h) d (λ e. create-row (s t h) (below-capacity (s t h) e))) (create-gives t h d) refl
+      (λ e. create-left (t .mst) (t .xrf) d (s t h) (create-asked (s t h) d e))
+  step (update m d) =
+      written t h (update m d) (updateAnswer t m d) _ (update-answer t (opened t h) m (see t h m) d) refl refl
+      (λ e.
+      let a = update-asked (s t h) m d e in
+      update-left (t .mst) (t .xrf) (s t h) m (opened t h) (a .here) d (draft-draftable (d .tags) (d .lens) (d .bytes) (a .draft)) (a .live) (a .room))
+  step (delete m) =
+      written t h (delete m) (deleteAnswer t m) _ (delete-answer t (opened t h) m (see t h m)) refl refl
+      (λ e. let a = delete-asked (s t h) m e in delete-left (t .mst) (t .xrf) (s t h) m (opened t h) (a .here) (a .live) (a .room))
+  step (settle m) = settle-step t h m
   step (revert m) =
-      written (revert m) (revertAnswer t m) _ (revert-answer t opened m (see m)) refl refl
-      (λ e. let a = revert-asked s m e in revert-left (t .mst) (t .xrf) s m opened (a .here) (a .changed))
-  step check = asked check (ap plain (check-answer t opened (body-sound (t .mst) (t .xrf) s))) refl refl
-  step migrate = asked migrate (ap plain (migrate-answer t opened)) (migrate-left t opened) refl
+      written t h (revert m) (revertAnswer t m) _ (revert-answer t (opened t h) m (see t h m)) refl refl
+      (λ e. let a = revert-asked (s t h) m e in revert-left (t .mst) (t .xrf) (s t h) m (opened t h) (a .here) (a .changed))
+  step check = asked t h check (ap plain (check-answer t (opened t h) (body-sound (t .mst) (t .xrf) (s t h)))) refl refl
+  step migrate = asked t h migrate (ap plain (migrate-answer t (opened t h))) (migrate-left t (opened t h)) refl
+  step (settleList ms lent) = list-step t h ms lent
 
   -- what the control record says
   end-is : endOf (t .mst) ≡ ledgerOf t .end
@@ -118,7 +167,7 @@ module _ (t : Store) (h : SoundStore t) where
 
   pub kept : (L : Ledger) → ledgerOf t ≡ L → Kept t L
   kept L e =
-      record { sound = h; ledger = e; next = sym (next-is t opened) ∙ ap nextMfn e; end = end-is ∙ ap (λ (K : Ledger). K .end) e }
+      record { sound = h; ledger = e; next = sym (next-is t (opened t h)) ∙ ap nextMfn e; end = end-is ∙ ap (λ (K : Ledger). K .end) e }
 
 -- ---- THE THEOREM
 

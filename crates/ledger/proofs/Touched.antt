@@ -3,6 +3,7 @@
 use Prim.Native.Nat.{ℕ}
 use mathlib.Core.Path.{_≡_, refl}
 use mathlib.Core.Logic.{⊎-elim}
+use lib.ListN.{length}
 use Rattle.files.specs.Control.{nextOf}
 use Rattle.store.specs.Store.{Store}
 use Rattle.store.specs.Answer.{after}
@@ -13,10 +14,12 @@ use Rattle.writing.specs.Refusals.{createAnswer, updateAnswer, deleteAnswer, se
 use Rattle.writing.specs.Calls.{createLeaves, updateLeaves, deleteLeaves, settleLeaves, revertLeaves}
 use Rattle.soundness.specs.Touching.{MayChange, TouchesOnly}
 use Rattle.soundness.proofs.Touching.{calls-touch-only, nothing-touched}
-use Rattle.ledger.specs.Call.{format, view, viewSettled, create, update, delete, settle, revert, check, migrate}
+use Rattle.settling.specs.SettleList.{settleEachLeaves, settleListAnswer, settleListLeaves}
+use Rattle.settling.proofs.Theorems.{changes-only}
+use Rattle.ledger.specs.Call.{format, view, viewSettled, create, update, delete, settle, revert, check, migrate, settleList}
 use Rattle.ledger.specs.StoreRun.{nextS, resultS}
 use Rattle.ledger.specs.LedgerSteps.{effectOf}
-use Rattle.ledger.specs.Touched.{Touches}
+use Rattle.ledger.specs.Touched.{Touches, ListTouches}
 use Rattle.ledger.proofs.Reading.{next-is}
 use Rattle.ledger.proofs.Answering.{migrate-left}
 use Rattle.ledger.proofs.Theorem.{opened}
@@ -30,13 +33,23 @@ either s new a m done = ⊎-elim (λ d. done (d .0)) (λ r. same-touched s (afte
 
 pub touches : Touches
 unfolding nextS resultS effectOf createLeaves updateLeaves deleteLeaves settleLeaves revertLeaves
-touches s format sound other = absurd (other refl)
-touches s (view m tag occ) sound other = same-touched s s 0 refl
-touches s (viewSettled m tag occ) sound other = same-touched s s 0 refl
-touches s (create d) sound other = rw (next-is s (opened s sound)) (either s _ (createAnswer s d) (nextOf (s .mst)) (calls-touch-only s sound .create d))
-touches s (update m d) sound other = either s _ (updateAnswer s m d) m (calls-touch-only s sound .update m d)
-touches s (delete m) sound other = either s _ (deleteAnswer s m) m (calls-touch-only s sound .delete m)
-touches s (settle m) sound other = either s _ (settleAnswer s m) m (calls-touch-only s sound .settle m)
-touches s (revert m) sound other = either s _ (revertAnswer s m) m (calls-touch-only s sound .revert m)
-touches s check sound other = same-touched s s 0 refl
-touches s migrate sound other = same-touched s _ 0 (migrate-left s (opened s sound))
+touches s format sound other no-list = absurd (other refl)
+touches s (view m tag occ) sound other no-list = same-touched s s 0 refl
+touches s (viewSettled m tag occ) sound other no-list = same-touched s s 0 refl
+touches s (create d) sound other no-list = rw (next-is s (opened s sound)) (either s _ (createAnswer s d) (nextOf (s .mst)) (calls-touch-only s sound .create d))
+touches s (update m d) sound other no-list = either s _ (updateAnswer s m d) m (calls-touch-only s sound .update m d)
+touches s (delete m) sound other no-list = either s _ (deleteAnswer s m) m (calls-touch-only s sound .delete m)
+touches s (settle m) sound other no-list = either s _ (settleAnswer s m) m (calls-touch-only s sound .settle m)
+touches s (revert m) sound other no-list = either s _ (revertAnswer s m) m (calls-touch-only s sound .revert m)
+touches s check sound other no-list = same-touched s s 0 refl
+touches s migrate sound other no-list = same-touched s _ 0 (migrate-left s (opened s sound))
+touches s (settleList ms lent) sound other no-list = absurd (no-list ms lent refl)
+
+-- a list of MFNs, refused or not
+pub list-touches : ListTouches
+unfolding nextS resultS settleListLeaves
+list-touches s ms lent =
+    ⊎-elim
+    (λ d. rw (d .1) (changes-only s ms))
+    (λ r. rw (r .1) (record { mst-length = refl; xrf-length = refl; mst-kept = λ i off. refl; xrf-kept = λ i off. refl }))
+    (after-cases (settleListAnswer (length ms) lent) (settleEachLeaves s ms) s)

@@ -17,6 +17,8 @@ pub data Call : Type 0 where
   check : Call
   -- request C-12
   migrate : Call
+  -- request C-13: the MFNs, and how long the lent list of answers is
+  settleList : List ℕ → ℕ → Call
 
 -- what a call answers
 pub record Outcome : Type 0 where
@@ -27,12 +29,15 @@ pub record Outcome : Type 0 where
   pub shown : List ℕ
   -- how many: 0 from a call that counts nothing
   pub count : ℕ
-  -- the answers of the calls that it is made of: empty from a call that is one
+  -- the answers that it lists: empty but from a list that is settled
   pub answers : List Answer
 
--- an answer with an MFN and a field, and one with neither
+-- an answer with an MFN and a field, one with neither, and one with a list of answers
 abbrev pub outcome : Answer → ℕ → List ℕ → Outcome
 outcome a m bytes = record { answer = a; mfn = m; shown = bytes; count = 0; answers = [] }
 
 abbrev pub plain : Answer → Outcome
 plain a = outcome a 0 []
+
+abbrev pub listed : Answer → List Answer → Outcome
+listed a each = record { answer = a; mfn = 0; shown = []; count = 0; answers = each }

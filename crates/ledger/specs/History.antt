@@ -4,7 +4,7 @@ use Prim.Native.Nat.{ℕ, _+_, _<_}
 use mathlib.Core.Path.{_≡_}
 use mathlib.Core.Bool.{Bool, true, false, _&&_, _||_}
 use mathlib.Core.List.{List, [], _∷_, _++_}
-use lib.Dec.{eqb, ltb}
+use lib.Dec.{ltb}
 use Rattle.layout.specs.declared.entry.Mark.the-variants.{Settled}
 use Rattle.layout.specs.declared.entry.Place.{Place}
 use Rattle.layout.specs.declared.entry.Entry.the-variants.{At}
@@ -14,8 +14,9 @@ use Rattle.store.specs.Reading.{mfnInRange, entryFor, placeFor}
 use Rattle.store.specs.declared.answer.Answer.{Answer}
 use Rattle.store.specs.declared.answer.Answer.the-variants.{Done, BadControl, NeverSettled, NoRoom}
 use Rattle.store.specs.Store.{Store, store}
+use Rattle.settling.specs.Theorems.{among}
 use Rattle.drafts.specs.Draft.{Draft, fieldsIn}
-use Rattle.ledger.specs.Call.{Call, format, view, viewSettled, create, update, delete, settle, revert, check, migrate, Outcome, plain}
+use Rattle.ledger.specs.Call.{Call, format, view, viewSettled, create, update, delete, settle, revert, check, migrate, settleList, Outcome, plain}
 use Rattle.ledger.specs.Ledger.{itemOf, keptFields, keptMark, isSettledMark}
 use Rattle.ledger.specs.LedgerAnswers.{appends, refusalsL}
 use Rattle.ledger.specs.LedgerSteps.{touches, effectOf}
@@ -42,11 +43,12 @@ pub data UpdatesOrDeletes (m : ℕ) : Call → Type 0 where
   updates : (d : Draft) → UpdatesOrDeletes m (update m d)
   deletes : UpdatesOrDeletes m (delete m)
 
--- it neither settles nor reverts m, nor formats
+-- it neither settles nor reverts m, alone or in a list, nor formats
 pub record LeavesPending (m : ℕ) (c : Call) : Type 0 where
   pub no-format : c ≡ format → ⊥
   pub no-settle : c ≡ settle m → ⊥
   pub no-revert : c ≡ revert m → ⊥
+  pub no-list : (ms : List ℕ) (lent : ℕ) → c ≡ settleList ms lent → among m ms ≡ false
 
 -- after such a change c of m, and such a list of calls cs
 pub record SettledVersion (s : Store) (m : ℕ) (c : Call) (cs : List Call) : Type 0 where
@@ -65,10 +67,11 @@ SettledIsCurrent s m = placeFor s m .mark ≡ Settled → (tag occ : ℕ) → an
 
 -- ---- never settled
 
--- a call neither settles m nor formats
+-- a call neither settles m, alone or in a list, nor formats
 pub record LeavesNew (m : ℕ) (c : Call) : Type 0 where
   pub no-format : c ≡ format → ⊥
   pub no-settle : c ≡ settle m → ⊥
+  pub no-list : (ms : List ℕ) (lent : ℕ) → c ≡ settleList ms lent → among m ms ≡ false
 
 -- after a create that is done and returned m, and such a list of calls: revert of m answers 11, and so does its settled view
 pub record NeverSettledYet (s : Store) (d : Draft) (m : ℕ) (cs : List Call) : Type 0 where
@@ -109,6 +112,10 @@ neverOwn = 1 ∷ 2 ∷ 6 ∷ 7 ∷ 8 ∷ 14 ∷ []
 abbrev pub neverMigrating : List ℕ
 neverMigrating = 0 ∷ 1 ∷ 3 ∷ 4 ∷ 5 ∷ 6 ∷ 7 ∷ 8 ∷ 9 ∷ 10 ∷ 11 ∷ 12 ∷ 13 ∷ 14 ∷ 17 ∷ []
 
+-- for a list of MFNs, every number but 0 and 17
+abbrev pub neverListed : List ℕ
+neverListed = 1 ∷ 2 ∷ 3 ∷ 4 ∷ 5 ∷ 6 ∷ 7 ∷ 8 ∷ 9 ∷ 10 ∷ 11 ∷ 12 ∷ 13 ∷ 14 ∷ []
+
 abbrev pub neverFrom : Call → List ℕ
 neverFrom format = neverOwn
 neverFrom (view m tag occ) = neverOwn
@@ -120,19 +127,22 @@ neverFrom (settle m) = neverOwn
 neverFrom (revert m) = neverOwn
 neverFrom check = neverOwn
 neverFrom migrate = neverMigrating
-
-abbrev pub among : ℕ → List ℕ → Bool
-among n [] = false
-among n (k ∷ ks) = eqb n k || among n ks
+neverFrom (settleList ms lent) = neverListed
 
 -- an answer may come from a call
 abbrev pub MayCome : Call → Answer → Type 0
 MayCome c a = among (numberOf a) (neverFrom c) ≡ false
 
+-- the answers that it lists are those of document 01's own calls
+pub data EachOwn : List Answer → Type 0 where
+  no-answer : EachOwn []
+  one-more : {a : Answer} {rest : List Answer} → among (numberOf a) neverOwn ≡ false → EachOwn rest → EachOwn (a ∷ rest)
+
 -- and every answer of a list from its call
 pub data AllMayCome : List Call → List Outcome → Type 0 where
   none : AllMayCome [] []
-  more : {c : Call} {cs : List Call} {o : Outcome} {os : List Outcome} → MayCome c (o .answer) → AllMayCome cs os → AllMayCome (c ∷ cs) (o ∷ os)
+  more : {c : Call} {cs : List Call} {o : Outcome} {os : List Outcome} → MayCome c (o .answer) → EachOwn (o .answers) → AllMayCome cs os
+      → AllMayCome (c ∷ cs) (o ∷ os)
 
 -- from format on
 abbrev pub NeverCome : List ℕ → List ℕ → Type 0

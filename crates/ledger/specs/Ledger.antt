@@ -4,7 +4,7 @@ use Prim.Native.Nat.{ℕ, _+_, _-_}
 use mathlib.Core.Bool.{Bool, true, false, _&&_}
 use mathlib.Core.List.{List, []}
 use lib.Dec.{leb, ltb}
-use lib.ListN.{length, getD}
+use lib.ListN.{length, getD, set}
 use Rattle.layout.specs.Sizes.{mstPermitted, xrfPermitted}
 use Rattle.record.specs.Fields.{Field}
 
@@ -32,6 +32,10 @@ nextMfn L = length (L .items) + 1
 -- format empties it: end 64, next MFN 1
 unfoldable pub empty : ℕ → ℕ → Ledger
 empty mst xrf = record { mstLength = mst; xrfLength = xrf; end = 64; items = [] }
+
+-- one item and the end are set
+abbrev pub withItem : Ledger → ℕ → Item → ℕ → Ledger
+withItem L m i e = record { mstLength = L .mstLength; xrfLength = L .xrfLength; end = e; items = set (L .items) (m - 1) i }
 
 -- both buffer lengths are permitted
 unfoldable pub lengthsFine : Ledger → Bool

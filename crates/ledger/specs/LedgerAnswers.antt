@@ -6,6 +6,7 @@ use mathlib.Core.Bool.{Bool, true, false, not, _&&_, _||_}
 use mathlib.Core.List.{List, [], _∷_}
 use mathlib.Core.Option.{Option, some, none}
 use lib.Dec.{eqb, ltb}
+use lib.ListN.{length}
 use Rattle.layout.specs.Sizes.{capacityOf}
 use Rattle.record.specs.Fields.{fieldNamed}
 use Rattle.drafts.specs.Bytes.{needFor}
@@ -13,8 +14,9 @@ use Rattle.store.specs.Answer.{Refusal, refuse, lowest, after}
 use Rattle.store.specs.declared.answer.Answer.{Answer}
 use Rattle.store.specs.declared.answer.Answer.the-variants.{BadLength, BadControl, BadDraft, NoMfn, NoSlot, Gone, Deleted, NotPending, NeverSettled, NoField, NoRoom}
 use Rattle.drafts.specs.Draft.{isRight, fieldsIn}
-use Rattle.ledger.specs.Call.{Call, format, view, viewSettled, create, update, delete, settle, revert, check, migrate, Outcome, outcome, plain}
-use Rattle.ledger.specs.Ledger.{Marking, Ledger, nextMfn, lengthsFine, mfnIn, itemOf, isGoneItem, keptFields, keptDeleted, keptMark, isSettledMark, isNewMark, keptLength, settledFields}
+use Rattle.settling.specs.SettleList.{settleListRefusals}
+use Rattle.ledger.specs.Call.{Call, format, view, viewSettled, create, update, delete, settle, revert, check, migrate, settleList, Outcome, outcome, plain, listed}
+use Rattle.ledger.specs.Ledger.{Marking, settled, Item, held, Ledger, nextMfn, withItem, lengthsFine, mfnIn, itemOf, isGoneItem, keptFields, keptDeleted, keptMark, isSettledMark, isNewMark, keptLength, settledFields}
 
 -- ---- the rows that calls share
 
@@ -46,12 +48,35 @@ abbrev pub bytesOf : Option (List ℕ) → List ℕ
 bytesOf none = []
 bytesOf (some bytes) = bytes
 
--- ---- what a call that is done gives: an MFN, a field, or nothing but its answer
+-- ---- settling one MFN, and each of a list in order
+
+abbrev pub settleRows : Ledger → ℕ → List Refusal
+settleRows L m = measured L (named L m (refuse NotPending (isSettledMark (keptMark (itemOf L m))) ∷ []))
+
+-- mark settled; deleted or live stays
+abbrev pub settledItem : Item → Item
+settledItem i = held (keptFields i) (keptDeleted i) settled
+
+-- the ledger after one, done or refused
+unfoldable pub settledOne : Ledger → ℕ → Ledger
+settledOne L m = after (lowest (settleRows L m)) (withItem L m (settledItem (itemOf L m)) (L .end)) L
+
+-- after each of a list, and the answers
+unfoldable pub settledEach : Ledger → List ℕ → Ledger
+settledEach L [] = L
+settledEach L (m ∷ ms) = settledEach (settledOne L m) ms
+
+unfoldable pub answersEach : Ledger → List ℕ → List Answer
+answersEach L [] = []
+answersEach L (m ∷ ms) = lowest (settleRows L m) ∷ answersEach (settledOne L m) ms
+
+-- ---- what a call that is done gives: an MFN, a field, a list of answers, or nothing but its answer
 
 pub data Given : Type 0 where
   nothing : Given
   theMfn : ℕ → Given
   theField : List ℕ → Given
+  theAnswers : List Answer → Given
 
 -- ---- the table: the refusals of a call, and what it gives where none applies
 
@@ -105,7 +130,7 @@ replyL L (delete m) =
     (refuse Deleted (keptDeleted (itemOf L m))
     ∷ roomFor L (isSettledMark (keptMark (itemOf L m))) (needFor (keptFields (itemOf L m))))))
     nothing
-replyL L (settle m) = reply (measured L (named L m (refuse NotPending (isSettledMark (keptMark (itemOf L m))) ∷ []))) nothing
+replyL L (settle m) = reply (settleRows L m) nothing
 replyL L (revert m) =
     reply
     (measured L
@@ -117,6 +142,8 @@ replyL L (revert m) =
 replyL L check = reply (measured L []) nothing
 -- every store of the list is one of today
 replyL L migrate = reply (measured L (refuse BadControl true ∷ [])) nothing
+-- 17 by the two lengths of the lists alone
+replyL L (settleList ms lent) = reply (settleListRefusals (length ms) lent) (theAnswers (answersEach L ms))
 
 unfoldable pub refusalsL : Ledger → Call → List Refusal
 refusalsL L c = replyL L c .refusals
@@ -128,11 +155,12 @@ givesL L c = replyL L c .gives
 unfoldable pub numberL : Ledger → Call → Answer
 numberL L c = lowest (refusalsL L c)
 
--- refused: MFN 0 and an empty field
+-- refused: MFN 0, an empty field and no answers
 abbrev pub outcomeOf : Answer → Given → Outcome
 outcomeOf a nothing = plain a
 outcomeOf a (theMfn m) = outcome a (after a m 0) []
 outcomeOf a (theField bytes) = outcome a 0 (after a bytes [])
+outcomeOf a (theAnswers each) = listed a (after a each [])
 
 unfoldable pub answerL : Ledger → Call → Outcome
 answerL L c = outcomeOf (numberL L c) (givesL L c)

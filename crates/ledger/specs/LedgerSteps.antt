@@ -1,18 +1,18 @@
--- What a call does to the ledger where it is done. One description of it (`Effect`): it stays, it is emptied, one item and the end are set, or
--- one item is added and the end set. Document 01, "The ledger of demand 3".
+-- What a call does to the ledger where it is done. One description of it (`Effect`): it stays, it is emptied, one item and the end are set, one
+-- item is added and the end set, or a list of MFNs is settled. Document 01, "The ledger of demand 3".
 use Prim.Native.Nat.{ℕ, _+_, _-_}
 use mathlib.Core.Bool.{Bool, true, false, cond}
 use mathlib.Core.List.{List, [], _∷_, _++_}
 use lib.Dec.{eqb}
-use lib.ListN.{set}
 use Rattle.layout.specs.Sizes.{endMoved}
 use Rattle.record.specs.Fields.{Field}
 use Rattle.drafts.specs.Bytes.{needFor}
 use Rattle.store.specs.Answer.{after}
 use Rattle.drafts.specs.Draft.{fieldsIn}
-use Rattle.ledger.specs.Call.{Call, format, view, viewSettled, create, update, delete, settle, revert, check, migrate, Outcome}
-use Rattle.ledger.specs.Ledger.{Marking, settled, new, changed, Item, held, Ledger, nextMfn, empty, itemOf, keptFields, keptDeleted, keptMark, isSettledMark, keptLength, settledFields}
-use Rattle.ledger.specs.LedgerAnswers.{appends, numberL, answerL}
+use Rattle.settling.specs.Theorems.{among}
+use Rattle.ledger.specs.Call.{Call, format, view, viewSettled, create, update, delete, settle, revert, check, migrate, settleList, Outcome}
+use Rattle.ledger.specs.Ledger.{Marking, settled, new, changed, Item, held, Ledger, nextMfn, empty, withItem, itemOf, keptFields, keptDeleted, keptMark, isSettledMark, keptLength, settledFields}
+use Rattle.ledger.specs.LedgerAnswers.{appends, settledItem, settledEach, numberL, answerL}
 
 pub data Effect : Type 0 where
   stays : Effect
@@ -21,13 +21,16 @@ pub data Effect : Type 0 where
   itemSet : ℕ → Item → ℕ → Effect
   -- the next MFN's, and the end
   itemAdded : Item → ℕ → Effect
+  -- each of a list of MFNs, in order, those included that are refused
+  eachSettled : List ℕ → Effect
 
 -- the ledger after it
 abbrev pub applied : Ledger → Effect → Ledger
 applied L stays = L
 applied L emptied = empty (L .mstLength) (L .xrfLength)
-applied L (itemSet m i e) = record { mstLength = L .mstLength; xrfLength = L .xrfLength; end = e; items = set (L .items) (m - 1) i }
+applied L (itemSet m i e) = withItem L m i e
 applied L (itemAdded i e) = record { mstLength = L .mstLength; xrfLength = L .xrfLength; end = e; items = L .items ++ (i ∷ []) }
+applied L (eachSettled ms) = settledEach L ms
 
 -- it is on MFN o: it sets or adds its item, or empties the ledger
 abbrev pub touches : Ledger → Effect → ℕ → Bool
@@ -35,13 +38,15 @@ touches L stays o = false
 touches L emptied o = true
 touches L (itemSet m i e) o = eqb m o
 touches L (itemAdded i e) o = eqb (nextMfn L) o
+touches L (eachSettled ms) o = among o ms
 
--- the MFN whose item it sets or adds; 0 where there is none
+-- the MFN whose item it sets or adds; 0 where there is none, or a list of them
 abbrev pub itemMfn : Ledger → Effect → ℕ
 itemMfn L stays = 0
 itemMfn L emptied = 0
 itemMfn L (itemSet m i e) = m
 itemMfn L (itemAdded i e) = nextMfn L
+itemMfn L (eachSettled ms) = 0
 
 -- ---- appended: the end grows by the need, and from an offset of 500 to 510 it goes on to the next multiple of 512; the record length is the
 -- need. What is not appended leaves both
@@ -83,12 +88,12 @@ effectOf L (create d) = itemAdded (held (fieldsIn d) false (new (needFor (fields
 effectOf L (update m d) = version L m (fieldsIn d) (keptDeleted (itemOf L m)) (appends (keptMark (itemOf L m)) (needFor (fieldsIn d)))
 -- its fields stay and it is deleted; appended where it is settled
 effectOf L (delete m) = version L m (keptFields (itemOf L m)) true (isSettledMark (keptMark (itemOf L m)))
--- mark settled; deleted or live stays
-effectOf L (settle m) = settledAs L m (keptFields (itemOf L m)) (keptDeleted (itemOf L m))
+effectOf L (settle m) = itemSet m (settledItem (itemOf L m)) (L .end)
 -- the settled fields become current, live, mark settled
 effectOf L (revert m) = settledAs L m (settledFields (itemOf L m)) false
 effectOf L check = stays
 effectOf L migrate = stays
+effectOf L (settleList ms lent) = eachSettled ms
 
 -- a refused call changes nothing
 unfoldable pub nextL : Ledger → Call → Ledger

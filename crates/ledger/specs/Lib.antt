@@ -8,3 +8,4 @@ pub mod Demand3
 pub mod History
 pub mod Touched
 pub mod EvenCount
+pub mod Singles

@@ -2,6 +2,7 @@
 -- the calls cite.
 use Prim.Native.Nat.{ℕ}
 use mathlib.Core.List.{List, [], _∷_}
+use lib.ListN.{length}
 use Rattle.writing.specs.Refusals.{formatAnswer, updateAnswer, deleteAnswer, settleAnswer, revertAnswer}
 use Rattle.writing.specs.Calls.{formatLeaves, createOf, createLeaves, updateLeaves, deleteLeaves, settleLeaves, revertLeaves}
 use Rattle.views.specs.Views.{viewOf, settledViewOf, shownBytes}
@@ -9,8 +10,10 @@ use Rattle.writing.specs.declared.create.Created.{Created}
 use Rattle.views.specs.declared.views.Shown.{Shown}
 use Rattle.soundness.specs.Sound.{checkAnswer}
 use Rattle.migrating.specs.Migrate.{migrateAnswer, migrateLeaves}
+use Rattle.settling.specs.SettleList.{settleEachAnswers, settleListAnswer, settleListLeaves}
+use Rattle.store.specs.Answer.{after}
 use Rattle.store.specs.Store.{Store}
-use Rattle.ledger.specs.Call.{Call, format, view, viewSettled, create, update, delete, settle, revert, check, migrate, Outcome, outcome, plain}
+use Rattle.ledger.specs.Call.{Call, format, view, viewSettled, create, update, delete, settle, revert, check, migrate, settleList, Outcome, outcome, plain, listed}
 
 -- what a view shows, and what a create returns
 abbrev pub shownOutcome : List ℕ → Shown → Outcome
@@ -18,6 +21,10 @@ shownOutcome mst r = outcome (r .answer) 0 (shownBytes mst r)
 
 abbrev pub createdOutcome : Created → Outcome
 createdOutcome r = outcome (r .answer) (r .mfn .0) []
+
+-- what a list of MFNs answers: the answers that are written are the outcome's, by their numbers
+abbrev pub listOutcome : Store → List ℕ → ℕ → Outcome
+listOutcome s ms lent = listed (settleListAnswer (length ms) lent) (after (settleListAnswer (length ms) lent) (settleEachAnswers s ms) [])
 
 -- what a call answers and the store that it leaves
 pub record Result : Type 0 where
@@ -38,6 +45,7 @@ resultS s (settle m) = result (plain (settleAnswer s m)) (settleLeaves s m)
 resultS s (revert m) = result (plain (revertAnswer s m)) (revertLeaves s m)
 resultS s check = result (plain (checkAnswer s)) s
 resultS s migrate = result (plain (migrateAnswer s)) (migrateLeaves s)
+resultS s (settleList ms lent) = result (listOutcome s ms lent) (settleListLeaves s ms lent)
 
 unfoldable pub answerS : Store → Call → Outcome
 answerS s c = resultS s c .outcome

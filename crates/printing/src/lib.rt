@@ -1,5 +1,5 @@
-// Prints what a replay reports: why it stopped and how many calls it ran; of each call the answer, the MFN returned, and the length and bytes of
-// the field shown; and NXTMFN, NXTMFB and NXTMFP afterwards.
+// Prints what a replay reports: why it stopped and how many calls it ran; of each call the answer, the MFN returned, the length of the field shown,
+// how many answers are listed, then the field and those answers; and NXTMFN, NXTMFB and NXTMFP afterwards.
 use libc::STDOUT_FILENO;
 use lists::numbers::at_most;
 use script::report::OUTCOME_SIZE;
@@ -30,34 +30,63 @@ fn print_stop(stop: Stop) {
     }
 }
 
-// Prints the outcome whose numbers stand at `i` and whose field at `from`, and gives where the next field stands.
-fn print_outcome(answers: &[u32], i: usize, shown: &[u8], from: usize) -> usize
-    requires { ⌜ (i + outcomeSize ≤ length (now answers)) × (from ≤ length (now shown)) ⌝ }
+// Prints the field of so many bytes that stands at `from`, and gives where the next one stands.
+fn print_field(shown: &[u8], from: usize, len: u32) -> usize
+    requires { ⌜ from ≤ length (now shown) ⌝ }
     ensures { λ r. ⌜ r ≤ length (now (shown .entry)) ⌝ }
 {
-    print_number(answers[i]);
-    io::write_all(STDOUT_FILENO, b" ");
-    print_number(answers[i + 1]);
-    io::write_all(STDOUT_FILENO, b" ");
-    print_number(answers[i + 2]);
-    let to = from + at_most(answers[i + 2], shown.len() - from);
+    let to = from + at_most(len, shown.len() - from);
     if from < to {
         io::write_all(STDOUT_FILENO, b" ");
         io::write_all(STDOUT_FILENO, &shown[from..to]);
+    }
+    to
+}
+
+// Prints a number behind another.
+fn print_next(n: u32) {
+    io::write_all(STDOUT_FILENO, b" ");
+    print_number(n);
+}
+
+// Prints the four numbers of the outcome that stands at `i`.
+fn print_numbers(answers: &[u32], i: usize)
+    requires { ⌜ i + outcomeSize ≤ length (now answers) ⌝ }
+{
+    print_number(answers[i]);
+    print_next(answers[i + 1]);
+    print_next(answers[i + 2]);
+    print_next(answers[i + 3]);
+}
+
+// Prints so many numbers from `from` on, ends the line, and gives where the next outcome stands.
+fn print_listed(answers: &[u32], from: usize, count: u32) -> usize
+    requires { ⌜ from ≤ length (now answers) ⌝ }
+    ensures { λ r. ⌜ r ≤ length (now (answers .entry)) ⌝ }
+{
+    let to = from + at_most(count, answers.len() - from);
+    let mut i = from;
+    while i < to {
+        print_next(answers[i]);
+        i += 1;
     }
     io::write_all(STDOUT_FILENO, b"\n");
     to
 }
 
+// Prints the outcomes of so many calls, one after the other.
 fn print_outcomes(calls: usize, answers: &[u32], shown: &[u8]) {
+    let mut left = calls;
     let mut i = 0;
     let mut from = 0;
-    while i < calls {
-        if answers.len() / OUTCOME_SIZE <= i {
+    while 0 < left {
+        if answers.len() - i < OUTCOME_SIZE {
             return;
         }
-        from = print_outcome(answers, OUTCOME_SIZE * i, shown, from);
-        i += 1;
+        print_numbers(answers, i);
+        from = print_field(shown, from, answers[i + 2]);
+        i = print_listed(answers, i + OUTCOME_SIZE, answers[i + 3]);
+        left -= 1;
     }
 }
 

@@ -16,8 +16,9 @@ use Rattle.replay.specs.Calls.{Script, callOf, leftOf, firstOp, firstCal
 use Rattle.script.specs.declared.calls.Counts.{Counts}
 use Rattle.script.specs.declared.calls.Op.{Op}
 
--- a draft is no longer than what is left
+-- MFNs and a draft are no longer than what is left
 pub record Fits (n : Counts) (s : Script) : Type 0 where
+  pub mfns-fit : n .mfns ≤ length (s .mfns)
   pub tags-fit : n .tags ≤ length (s .tags)
   pub lens-fit : n .lens ≤ length (s .lens)
   pub bytes-fit : n .bytes ≤ length (s .bytes)
@@ -25,7 +26,7 @@ pub record Fits (n : Counts) (s : Script) : Type 0 where
 fits-test : (n : Counts) (s : Script) → countsFit n (leftOf s) ≡ true → Fits n s
 fits-test n s e =
     let f = simp tests at e in
-    record { tags-fit = omega arith; lens-fit = omega arith; bytes-fit = omega arith }
+    record { mfns-fit = omega arith; tags-fit = omega arith; lens-fit = omega arith; bytes-fit = omega arith }
 
 -- an op that passed its test takes a draft that is there; one that did not takes none
 fits-passed : (s : Script) (o : Op) → Fits (takenBy (opFitting o (leftOf s))) s
@@ -33,7 +34,7 @@ fits-passed s o = go (countsFit (takenBy o) (leftOf s)) refl
   where
     go : (b : Bool) → countsFit (takenBy o) (leftOf s) ≡ b → Fits (takenBy (opIf b o)) s
     go true e = fits-test (takenBy o) s e
-    go false e = record { tags-fit = omega arith; lens-fit = omega arith; bytes-fit = omega arith }
+    go false e = record { mfns-fit = omega arith; tags-fit = omega arith; lens-fit = omega arith; bytes-fit = omega arith }
 
 pub first-fits : (s : Script) → Fits (takenBy (firstOp s)) s
 unfolding firstOp opIn

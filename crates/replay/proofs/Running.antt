@@ -20,7 +20,6 @@ use Rattle.ledger.specs.Call.{Call, Outcome}
 use Rattle.ledger.specs.StoreRun.{answerS, nextS, answersS, afterS}
 use Rattle.script.specs.Ops.{callSize, takenBy}
 use Rattle.replay.specs.Calls.{Script, script, firstOp, firstCall, restOf, restAfter, callsIn, callsOf}
-use Rattle.script.specs.Report.{outcomeSize}
 use Rattle.replay.specs.Replay.{numbersOf, outcomeNumbers, outcomeBytes, hasRoom, fitting, stopAt, stopFor}
 use Rattle.script.specs.Cursor.{moved, Within}
 use Rattle.replay.specs.Turns.{scriptAt, roomAt, Ran, Halted, Turned, Finished}
@@ -39,18 +38,13 @@ told s numbers bytes p = fitting numbers bytes (answersS s (callsOf p))
 
 numbers-more : (os : List Outcome) (o : Outcome) → outcomeNumbers (os ++ (o ∷ [])) ≡ outcomeNumbers os ++ numbersOf o
 unfolding outcomeNumbers
-numbers-more [] o = refl
-numbers-more (x ∷ os) o = ap (λ (l : List ℕ). numbersOf x ++ l) (numbers-more os o)
+numbers-more [] o = append-nil (numbersOf o)
+numbers-more (x ∷ os) o = ap (λ (l : List ℕ). numbersOf x ++ l) (numbers-more os o) ∙ sym (append-assoc (numbersOf x) (outcomeNumbers os) (numbersOf o))
 
 bytes-more : (os : List Outcome) (o : Outcome) → outcomeBytes (os ++ (o ∷ [])) ≡ outcomeBytes os ++ o .shown
 unfolding outcomeBytes
 bytes-more [] o = append-nil (o .shown)
 bytes-more (x ∷ os) o = ap (λ (l : List ℕ). x .shown ++ l) (bytes-more os o) ∙ sym (append-assoc (x .shown) (outcomeBytes os) (o .shown))
-
-numbers-length : (os : List Outcome) → length (outcomeNumbers os) ≡ outcomeSize * length os
-unfolding outcomeNumbers
-numbers-length [] = refl
-numbers-length (o ∷ os) = let r = numbers-length os in omega arith
 
 after-more : (s : Store) (cs : List Call) (c : Call) → afterS s (cs ++ (c ∷ [])) ≡ nextS (afterS s cs) c
 unfolding afterS
@@ -75,7 +69,7 @@ calls-some n s c e = rw e
 
 fitting-one : (numbers bytes : ℕ) (s : Store) (c : Call) (cs : List Call)
     → fitting numbers bytes (answersS s (c ∷ cs))
-    ≡ cond (hasRoom numbers bytes (answerS s c)) (answerS s c ∷ fitting (numbers - outcomeSize) (bytes - length (answerS s c .shown)) (answersS (nextS s c) cs)) []
+    ≡ cond (hasRoom numbers bytes (answerS s c)) (answerS s c ∷ fitting (numbers - length (numbersOf (answerS s c))) (bytes - length (answerS s c .shown)) (answersS (nextS s c) cs)) []
 unfolding fitting answersS
 fitting-one numbers bytes s c cs = refl
 
@@ -86,41 +80,42 @@ fitting-none numbers bytes s = refl
 -- ---- the invariant
 
 -- lists of calls are the same where their parts are
-script-same : {a b c d a′ b′ c′ d′ : List ℕ} → a ≡ a′ → b ≡ b′ → c ≡ c′ → d ≡ d′ → script a b c d ≡ script a′ b′ c′ d′
-script-same e f g h = rw (e, f, g, h)
+script-same : {a b c d e a′ b′ c′ d′ e′ : List ℕ} → a ≡ a′ → b ≡ b′ → c ≡ c′ → d ≡ d′ → e ≡ e′ → script a b c d e ≡ script a′ b′ c′ d′ e′
+script-same f g h i j = rw (f, g, h, i, j)
 
-module _ (ops tags lens bytes : List ℕ) where
+module _ (ops mfns tags lens bytes : List ℕ) where
   abbrev pub p : Script
-  p = script ops tags lens bytes
+  p = script ops mfns tags lens bytes
 
   -- as many calls as there are numbers bounds what is left
   abbrev pub leftCalls : Cursor → List Call
-  leftCalls at = callsIn (length ops - at .calls) (scriptAt ops tags lens bytes at)
+  leftCalls at = callsIn (length ops - at .calls) (scriptAt ops mfns tags lens bytes at)
 
   -- from s₀ and two rooms, after the calls before the cursor
   pub record Going (s₀ : Store) (answers₀ shown₀ : List ℕ) (s : Store) (answers shown : List ℕ) (at : Cursor) : Type 0 where
     -- what is reported, and the calls that were run
     pub done : List Outcome
     pub ran : List Call
-    pub within : Within ops tags lens bytes answers shown at
+    pub within : Within ops mfns tags lens bytes answers shown at
     -- the cursor counts them, and the rooms hold them
     pub answers-long : length answers ≡ length answers₀
     pub shown-long : length shown ≡ length shown₀
     pub done-count : length done ≡ at .calls
     pub ran-count : length ran ≡ at .calls
+    pub number-count : length (outcomeNumbers done) ≡ at .numbers
     pub byte-count : length (outcomeBytes done) ≡ at .shown
     pub numbers-are : answers ≡ overwrite answers₀ 0 (outcomeNumbers done)
     pub bytes-are : shown ≡ overwrite shown₀ 0 (outcomeBytes done)
     -- the store is what they leave
     pub store-is : s ≡ afterS s₀ ran
     -- and what is left of the list gives the rest of the calls and of what is told
-    pub rest-is : scriptAt ops tags lens bytes at ≡ restAfter (at .calls) p
+    pub rest-is : scriptAt ops mfns tags lens bytes at ≡ restAfter (at .calls) p
     pub calls-are : callsOf p ≡ ran ++ leftCalls at
     pub told-are : told s₀ (length answers₀) (length shown₀) p
-        ≡ done ++ fitting (length answers₀ - outcomeSize * at .calls) (length shown₀ - at .shown) (answersS s (leftCalls at))
+        ≡ done ++ fitting (length answers₀ - at .numbers) (length shown₀ - at .shown) (answersS s (leftCalls at))
 
   -- before the first turn
-  pub going-start : (s₀ : Store) (answers₀ shown₀ : List ℕ) (at : Cursor) → at ≡ record { calls = 0; tags = 0; lens = 0; bytes = 0; shown = 0 }
+  pub going-start : (s₀ : Store) (answers₀ shown₀ : List ℕ) (at : Cursor) → at ≡ record { calls = 0; mfns = 0; tags = 0; lens = 0; bytes = 0; numbers = 0; shown = 0 }
       → Going s₀ answers₀ shown₀ s₀ answers₀ shown₀ at
   unfolding outcomeNumbers outcomeBytes afterS restAfter callsOf
   going-start s₀ answers₀ shown₀ at e =
@@ -131,13 +126,15 @@ module _ (ops tags lens bytes : List ℕ) where
         within =
             record {
               ops-in = omega arith;
+              mfns-in = omega arith;
               drafts-in = record { tags-in = omega arith; lens-in = omega arith; bytes-in = omega arith };
-              room-in = record { numbers-in = omega arith; shown-in = omega arith };
+              room-in = record { reported = record { calls-in = omega arith; numbers-in = omega arith }; shown-in = omega arith };
             };
         answers-long = refl;
         shown-long = refl;
         done-count = refl;
         ran-count = refl;
+        number-count = refl;
         byte-count = refl;
         numbers-are = sym (overwrite-none answers₀ 0);
         bytes-are = sym (overwrite-none shown₀ 0);
@@ -148,23 +145,24 @@ module _ (ops tags lens bytes : List ℕ) where
       })
 
   -- the cursor after a call stands before the rest
-  rest-moved : (at : Cursor) (len : ℕ) → scriptAt ops tags lens bytes (moved at (takenBy (firstOp (scriptAt ops tags lens bytes at))) len) ≡ restOf (scriptAt ops tags lens bytes at)
+  rest-moved : (at : Cursor) (size len : ℕ) → scriptAt ops mfns tags lens bytes (moved at (takenBy (firstOp (scriptAt ops mfns tags lens bytes at))) size len) ≡ restOf (scriptAt ops mfns tags lens bytes at)
   unfolding restOf
-  rest-moved at len =
+  rest-moved at size len =
       let five : callSize * (at .calls + 1) ≡ callSize * at .calls + callSize = omega arith in
       script-same
       (ap (λ (n : ℕ). drop n ops) five ∙ sym (drop-drop callSize (callSize * at .calls) ops))
+      (sym (drop-drop _ (at .mfns) mfns))
       (sym (drop-drop _ (at .tags) tags))
       (sym (drop-drop _ (at .lens) lens))
       (sym (drop-drop _ (at .bytes) bytes))
 
   module _ (s₀ : Store) (answers₀ shown₀ : List ℕ) (s : Store) (answers shown : List ℕ) (at : Cursor) (g : Going s₀ answers₀ shown₀ s answers shown at) where
     abbrev rest : Script
-    rest = scriptAt ops tags lens bytes at
+    rest = scriptAt ops mfns tags lens bytes at
 
     -- what is reported from a cursor on
     abbrev toldFrom : Cursor → Store → List Outcome
-    toldFrom from x = fitting (length answers₀ - outcomeSize * from .calls) (length shown₀ - from .shown) (answersS x (leftCalls from))
+    toldFrom from x = fitting (length answers₀ - from .numbers) (length shown₀ - from .shown) (answersS x (leftCalls from))
 
     -- ---- the rest begins with a call
 
@@ -187,46 +185,49 @@ module _ (ops tags lens bytes : List ℕ) where
       -- it is reported where there is room, and then those behind it
       told-now : toldFrom at s
           ≡ cond (roomAt answers shown at o)
-          (o ∷ fitting (length answers₀ - outcomeSize * at .calls - outcomeSize) (length shown₀ - at .shown - length (o .shown)) (answersS (nextS s c) behind))
+          (o ∷ fitting (length answers₀ - at .numbers - length (numbersOf o)) (length shown₀ - at .shown - length (o .shown)) (answersS (nextS s c) behind))
           []
       told-now =
-          ap (λ (l : List Call). fitting (length answers₀ - outcomeSize * at .calls) (length shown₀ - at .shown) (answersS s l)) calls-now
-          ∙ fitting-one (length answers₀ - outcomeSize * at .calls) (length shown₀ - at .shown) s c behind
+          ap (λ (l : List Call). fitting (length answers₀ - at .numbers) (length shown₀ - at .shown) (answersS s l)) calls-now
+          ∙ fitting-one (length answers₀ - at .numbers) (length shown₀ - at .shown) s c behind
           ∙ rw (g .answers-long, g .shown-long)
 
       -- ---- and there is room for it
 
       module _ (room : roomAt answers shown at o ≡ true) where
         abbrev next : Cursor
-        next = moved at (takenBy (firstOp rest)) (length (o .shown))
+        next = moved at (takenBy (firstOp rest)) (length (numbersOf o)) (length (o .shown))
 
-        room-now : (outcomeSize ≤ length answers - outcomeSize * at .calls) × (length (o .shown) ≤ length shown - at .shown)
+        room-now : (length (numbersOf o) ≤ length answers - at .numbers) × (length (o .shown) ≤ length shown - at .shown)
         room-now = simp tests at room
 
         calls-next : leftCalls at ≡ c ∷ leftCalls next
-        calls-next = calls-now ∙ rw (rest-moved at (length (o .shown)))
+        calls-next = calls-now ∙ rw (rest-moved at (length (numbersOf o)) (length (o .shown)))
 
-        within-next : Within ops tags lens bytes (overwrite answers (outcomeSize * at .calls) (numbersOf o)) (overwrite shown (at .shown) (o .shown)) next
+        within-next : Within ops mfns tags lens bytes (overwrite answers (at .numbers) (numbersOf o)) (overwrite shown (at .shown) (o .shown)) next
         within-next =
             let d = first-fits rest in
             let w = g .within .drafts-in in
             let l = left-now in
             let r = room-now in
             let x = g .within .room-in in
+            let y = g .within .mfns-in in
+            let km = length-drop (at .mfns) mfns in
             let kt = length-drop (at .tags) tags in
             let kl = length-drop (at .lens) lens in
             let kb = length-drop (at .bytes) bytes in
-            let an : length (overwrite answers (outcomeSize * at .calls) (numbersOf o)) ≡ length answers = overwrite-length answers (outcomeSize * at .calls) (numbersOf o) (omega arith) in
+            let an : length (overwrite answers (at .numbers) (numbersOf o)) ≡ length answers = overwrite-length answers (at .numbers) (numbersOf o) (omega arith) in
             let sn : length (overwrite shown (at .shown) (o .shown)) ≡ length shown = overwrite-length shown (at .shown) (o .shown) (omega arith) in
             record {
               ops-in = omega arith;
+              mfns-in = omega arith;
               drafts-in = record { tags-in = omega arith; lens-in = omega arith; bytes-in = omega arith };
-              room-in = record { numbers-in = omega arith; shown-in = omega arith };
+              room-in = record { reported = record { calls-in = omega arith; numbers-in = omega arith }; shown-in = omega arith };
             }
 
-        numbers-next : overwrite answers (outcomeSize * at .calls) (numbersOf o) ≡ overwrite answers₀ 0 (outcomeNumbers (g .done ++ (o ∷ [])))
+        numbers-next : overwrite answers (at .numbers) (numbersOf o) ≡ overwrite answers₀ 0 (outcomeNumbers (g .done ++ (o ∷ [])))
         numbers-next =
-            let n : outcomeSize * at .calls ≡ 0 + length (outcomeNumbers (g .done)) = let k = numbers-length (g .done) in let m = g .done-count in omega arith in
+            let n : at .numbers ≡ 0 + length (outcomeNumbers (g .done)) = let m = g .number-count in omega arith in
             rw (n, g .numbers-are, numbers-more (g .done) o) (overwrite-next answers₀ 0 (outcomeNumbers (g .done)) (numbersOf o) (omega arith))
 
         bytes-next : overwrite shown (at .shown) (o .shown) ≡ overwrite shown₀ 0 (outcomeBytes (g .done ++ (o ∷ [])))
@@ -236,25 +237,26 @@ module _ (ops tags lens bytes : List ℕ) where
 
         told-next : toldFrom at s ≡ o ∷ toldFrom next (nextS s c)
         told-next =
-            let n : length answers₀ - outcomeSize * at .calls - outcomeSize ≡ length answers₀ - outcomeSize * (at .calls + 1) = omega arith in
+            let n : length answers₀ - at .numbers - length (numbersOf o) ≡ length answers₀ - (at .numbers + length (numbersOf o)) = omega arith in
             let m : length shown₀ - at .shown - length (o .shown) ≡ length shown₀ - (at .shown + length (o .shown)) = omega arith in
-            told-now ∙ rw (room, n, m, rest-moved at (length (o .shown)))
+            told-now ∙ rw (room, n, m, rest-moved at (length (numbersOf o)) (length (o .shown)))
 
-        pub going-more : Going s₀ answers₀ shown₀ (nextS s c) (overwrite answers (outcomeSize * at .calls) (numbersOf o)) (overwrite shown (at .shown) (o .shown)) next
+        pub going-more : Going s₀ answers₀ shown₀ (nextS s c) (overwrite answers (at .numbers) (numbersOf o)) (overwrite shown (at .shown) (o .shown)) next
         going-more =
             record {
               done = g .done ++ (o ∷ []);
               ran = g .ran ++ (c ∷ []);
               within = within-next;
-              answers-long = overwrite-length answers (outcomeSize * at .calls) (numbersOf o) (let r = room-now in let w = g .within .room-in .numbers-in in omega arith) ∙ g .answers-long;
+              answers-long = overwrite-length answers (at .numbers) (numbersOf o) (let r = room-now in let w = g .within .room-in .reported .numbers-in in omega arith) ∙ g .answers-long;
               shown-long = overwrite-length shown (at .shown) (o .shown) (let r = room-now in let w = g .within .room-in .shown-in in omega arith) ∙ g .shown-long;
               done-count = length-append (g .done) (o ∷ []) ∙ ap (λ (n : ℕ). n + 1) (g .done-count);
               ran-count = length-append (g .ran) (c ∷ []) ∙ ap (λ (n : ℕ). n + 1) (g .ran-count);
+              number-count = ap length (numbers-more (g .done) o) ∙ length-append (outcomeNumbers (g .done)) (numbersOf o) ∙ ap (λ (n : ℕ). n + length (numbersOf o)) (g .number-count);
               byte-count = ap length (bytes-more (g .done) o) ∙ length-append (outcomeBytes (g .done)) (o .shown) ∙ ap (λ (n : ℕ). n + length (o .shown)) (g .byte-count);
               numbers-are = numbers-next;
               bytes-are = bytes-next;
               store-is = ap (λ (x : Store). nextS x c) (g .store-is) ∙ sym (after-more s₀ (g .ran) c);
-              rest-is = rest-moved at (length (o .shown)) ∙ ap restOf (g .rest-is) ∙ sym (rest-more (at .calls) p) ∙ ap (λ (n : ℕ). restAfter n p) (sym (add-one (at .calls)));
+              rest-is = rest-moved at (length (numbersOf o)) (length (o .shown)) ∙ ap restOf (g .rest-is) ∙ sym (rest-more (at .calls) p) ∙ ap (λ (n : ℕ). restAfter n p) (sym (add-one (at .calls)));
               calls-are = g .calls-are ∙ ap (λ (l : List Call). g .ran ++ l) calls-next ∙ sym (append-assoc (g .ran) (c ∷ []) (leftCalls next));
               told-are = g .told-are ∙ ap (λ (l : List Outcome). g .done ++ l) told-next ∙ sym (append-assoc (g .done) (o ∷ []) (toldFrom next (nextS s c)));
             }
@@ -288,7 +290,7 @@ module _ (ops tags lens bytes : List ℕ) where
     unfolding stopFor
     finished-list e =
         let no-more : leftCalls at ≡ [] = calls-none (length ops - at .calls) rest e in
-        let none-left : toldFrom at s ≡ [] = rw no-more (fitting-none (length answers₀ - outcomeSize * at .calls) (length shown₀ - at .shown) s) in
+        let none-left : toldFrom at s ≡ [] = rw no-more (fitting-none (length answers₀ - at .numbers) (length shown₀ - at .shown) s) in
         let n : length (callsOf p) ≡ at .calls = ap length (g .calls-are ∙ ap (λ (l : List Call). g .ran ++ l) no-more ∙ append-nil (g .ran)) ∙ g .ran-count in
         finished none-left (stopAt rest)
         (rw (n, le-ltb (at .calls) (at .calls) (le-refl _)) (ap stopAt (g .rest-is)))
@@ -311,8 +313,8 @@ module _ (ops tags lens bytes : List ℕ) where
       -- a call was run and reported, or it had no room, or there was none
       data Did : Type 0 where
         more : (c : Call) → firstCall rest ≡ some c → roomAt answers shown at (answerS s c) ≡ true
-            → t ≡ Next (moved at (takenBy (firstOp rest)) (length (answerS s c .shown))) → s′ ≡ nextS s c
-            → answers′ ≡ overwrite answers (outcomeSize * at .calls) (numbersOf (answerS s c)) → shown′ ≡ overwrite shown (at .shown) (answerS s c .shown) → Did
+            → t ≡ Next (moved at (takenBy (firstOp rest)) (length (numbersOf (answerS s c))) (length (answerS s c .shown))) → s′ ≡ nextS s c
+            → answers′ ≡ overwrite answers (at .numbers) (numbersOf (answerS s c)) → shown′ ≡ overwrite shown (at .shown) (answerS s c .shown) → Did
         full : (c : Call) → firstCall rest ≡ some c → roomAt answers shown at (answerS s c) ≡ false
             → t ≡ Stopped NoRoom → s′ ≡ s → answers′ ≡ answers → shown′ ≡ shown → Did
         over : firstCall rest ≡ none → t ≡ Stopped (stopAt rest) → s′ ≡ s → answers′ ≡ answers → shown′ ≡ shown → Did
@@ -338,7 +340,7 @@ module _ (ops tags lens bytes : List ℕ) where
         where
           go : Did → Going s₀ answers₀ shown₀ s′ answers′ shown′ at′
           go (more c e b turn left numbers fields) =
-              let z : at′ ≡ moved at (takenBy (firstOp rest)) (length (answerS s c .shown)) = cc in
+              let z : at′ ≡ moved at (takenBy (firstOp rest)) (length (numbersOf (answerS s c))) (length (answerS s c .shown)) = cc in
               rw (z, left, numbers, fields) (going-more c e b)
           go (full c e b turn left numbers fields) = absurd (let z : _≡_ {A = ℕ} 0 1 = cc in omega arith)
           go (over e turn left numbers fields) = absurd (let z : _≡_ {A = ℕ} 0 1 = cc in omega arith)
@@ -349,7 +351,7 @@ module _ (ops tags lens bytes : List ℕ) where
         where
           go : Did → length ops - at′ .calls < length ops - at .calls
           go (more c e b turn left numbers fields) =
-              let z : at′ ≡ moved at (takenBy (firstOp rest)) (length (answerS s c .shown)) = cc in
+              let z : at′ ≡ moved at (takenBy (firstOp rest)) (length (numbersOf (answerS s c))) (length (answerS s c .shown)) = cc in
               let m : at′ .calls ≡ at .calls + 1 = ap (λ (x : Cursor). x .calls) z in
               let l = left-now c e in
               omega arith

@@ -6,7 +6,7 @@ use mathlib.Core.Option.{Option, some, none}
 use lib.Dec.{leb}
 use lib.ListN.{length, take, drop}
 use Rattle.drafts.specs.Draft.{Draft, draft}
-use Rattle.ledger.specs.Call.{Call, format, view, viewSettled, create, update, delete, settle, revert, check, migrate}
+use Rattle.ledger.specs.Call.{Call, format, view, viewSettled, create, update, delete, settle, revert, check, migrate, settleList}
 use Rattle.script.specs.Ops.{callSize, counts, takenBy, opIn}
 use Rattle.script.specs.declared.calls.Counts.{Counts}
 use Rattle.script.specs.declared.calls.Reading.{Reading}
@@ -14,17 +14,18 @@ use Rattle.script.specs.declared.calls.Writing.{Writing}
 use Rattle.script.specs.declared.calls.Op.{Op}
 use Rattle.script.specs.declared.calls.Reading.the-variants.{View, Settled, Check}
 use Rattle.script.specs.declared.calls.Writing.the-variants.{Format, Create, Update, Delete, Settle, Revert, Migrate}
-use Rattle.script.specs.declared.calls.Op.the-variants.{Asks, Writes, Malformed}
+use Rattle.script.specs.declared.calls.Op.the-variants.{Asks, Writes, Settles, Malformed}
 
--- what is left of a list of calls: the numbers, and the drafts' tags, lengths and data
+-- what is left of a list of calls: the numbers, the MFNs that are settled as lists, and the drafts' tags, lengths and data
 pub record Script : Type 0 where
   pub ops : List ℕ
+  pub mfns : List ℕ
   pub tags : List ℕ
   pub lens : List ℕ
   pub bytes : List ℕ
 
-abbrev pub script : List ℕ → List ℕ → List ℕ → List ℕ → Script
-script ops tags lens bytes = record { ops = ops; tags = tags; lens = lens; bytes = bytes }
+abbrev pub script : List ℕ → List ℕ → List ℕ → List ℕ → List ℕ → Script
+script ops mfns tags lens bytes = record { ops = ops; mfns = mfns; tags = tags; lens = lens; bytes = bytes }
 
 -- ---- the call that it is
 
@@ -50,13 +51,15 @@ frontDraft tags lens bytes n = draft (take (n .tags) tags) (take (n .lens) lens)
 abbrev pub callOf : Script → Op → Option Call
 callOf s (Asks r) = some (readingCall r)
 callOf s (Writes w n) = some (writingCall (frontDraft (s .tags) (s .lens) (s .bytes) n) w)
+-- the next MFNs, lent a list for so many answers
+callOf s (Settles n lent) = some (settleList (take n (s .mfns)) lent)
 callOf s Malformed = none
 
 -- ---- the calls of a list
 
--- what is left of the drafts
+-- what is left of the MFNs and of the drafts
 abbrev pub leftOf : Script → Counts
-leftOf s = counts (length (s .tags)) (length (s .lens)) (length (s .bytes))
+leftOf s = counts (length (s .mfns)) (length (s .tags)) (length (s .lens)) (length (s .bytes))
 
 unfoldable pub firstOp : Script → Op
 firstOp s = opIn (s .ops) (leftOf s)
@@ -65,11 +68,12 @@ firstOp s = opIn (s .ops) (leftOf s)
 unfoldable pub firstCall : Script → Option Call
 firstCall s = cond (leb callSize (length (s .ops))) (callOf s (firstOp s)) none
 
--- the list after its first call, which uses its draft up, and after n calls
+-- the list after its first call, which uses its MFNs or its draft up, and after n calls
 unfoldable pub restOf : Script → Script
 restOf s =
     script
     (drop callSize (s .ops))
+    (drop (takenBy (firstOp s) .mfns) (s .mfns))
     (drop (takenBy (firstOp s) .tags) (s .tags))
     (drop (takenBy (firstOp s) .lens) (s .lens))
     (drop (takenBy (firstOp s) .bytes) (s .bytes))

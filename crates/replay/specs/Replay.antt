@@ -2,7 +2,7 @@
 use Prim.Native.Nat.{ℕ, _-_}
 use mathlib.Core.Path.{_≡_}
 use mathlib.Core.Bool.{Bool, true, false, _&&_, cond}
-use mathlib.Core.List.{List, [], _∷_, _++_}
+use mathlib.Core.List.{List, [], _∷_, _++_, map}
 use lib.Dec.{eqb, leb, ltb}
 use lib.ListN.{length, take}
 use Rattle.word.specs.Overwrite.{overwrite}
@@ -15,7 +15,6 @@ use Rattle.ledger.specs.LedgerSteps.{answersL, afterL}
 use Rattle.ledger.specs.StoreRun.{nextS, answersS, afterS}
 use Rattle.ledger.specs.LedgerOf.{ledgerOf, SoundStore}
 use Rattle.ledger.specs.Demand3.{Kept}
-use Rattle.script.specs.Report.{outcomeSize}
 use Rattle.replay.specs.Calls.{Script, restAfter, callsOf}
 use Rattle.script.specs.declared.report.Stop.{Stop}
 use Rattle.script.specs.declared.report.Stop.the-variants.{Ended, BadLength, Malformed, NoRoom}
@@ -23,9 +22,9 @@ use Rattle.script.specs.declared.report.Replayed.{Replayed}
 
 -- ---- outcomes as numbers and bytes
 
--- the answer's number, the MFN, the length of what is shown
+-- the answer's number, the MFN, the length of what is shown, how many answers are listed; then the numbers of these
 abbrev pub numbersOf : Outcome → List ℕ
-numbersOf o = numberOf (o .answer) ∷ o .mfn ∷ length (o .shown) ∷ []
+numbersOf o = numberOf (o .answer) ∷ o .mfn ∷ length (o .shown) ∷ length (o .answers) ∷ map numberOf (o .answers)
 
 -- of all, one after the other
 unfoldable pub outcomeNumbers : List Outcome → List ℕ
@@ -39,12 +38,12 @@ outcomeBytes (o ∷ os) = o .shown ++ outcomeBytes os
 
 -- whether there is room for an outcome
 abbrev pub hasRoom : ℕ → ℕ → Outcome → Bool
-hasRoom numbers bytes o = leb outcomeSize numbers && leb (length (o .shown)) bytes
+hasRoom numbers bytes o = leb (length (numbersOf o)) numbers && leb (length (o .shown)) bytes
 
 -- the outcomes that there is room for, up to the first that does not fit
 unfoldable pub fitting : ℕ → ℕ → List Outcome → List Outcome
 fitting numbers bytes [] = []
-fitting numbers bytes (o ∷ os) = cond (hasRoom numbers bytes o) (o ∷ fitting (numbers - outcomeSize) (bytes - length (o .shown)) os) []
+fitting numbers bytes (o ∷ os) = cond (hasRoom numbers bytes o) (o ∷ fitting (numbers - length (numbersOf o)) (bytes - length (o .shown)) os) []
 
 -- ---- why a run stops
 

@@ -1,7 +1,7 @@
--- What is reported of a call: three numbers, and the bytes shown.
+-- What is reported of a call: four numbers, the answers that it lists behind them, and the bytes shown.
 use Prim.Native.Nat.{ℕ}
 
--- the answer's number, the MFN, the length of what is shown. The calls of document 01 count nothing and are each one call, so that an outcome's
--- count and list of answers are not written; a call that has them adds numbers here
+-- the answer's number, the MFN, the length of what is shown, how many answers are listed. No call of the list counts anything, so that an outcome's
+-- count is not written; a call that has one adds a number here
 abbrev pub outcomeSize : ℕ
-outcomeSize = 3
+outcomeSize = 4

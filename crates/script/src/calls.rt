@@ -4,13 +4,14 @@ use layout::sizes::Tag;
 ghost use mathlib.Core.Path.{_≡_};
 ghost use Prim.Native.Nat.{_+_, _≤_};
 ghost use lib.ListN.{length, drop};
-ghost use Rattle.script.specs.Ops.{callSize, noDraft, countsFit, viewOp, opNamed, takenBy, opFitting, opIn};
+ghost use Rattle.script.specs.Ops.{callSize, mfnsOf, noDraft, countsFit, viewOp, opNamed, takenBy, opFitting, opIn};
 
 // The numbers of a call.
 pub const CALL_SIZE: usize = 5;
 
-// How many tags, lengths and bytes a draft takes, or are left.
+// How many MFNs a list and how many tags, lengths and bytes a draft takes, or are left.
 pub struct Counts {
+    pub mfns: usize,
     pub tags: usize,
     pub lens: usize,
     pub bytes: usize,
@@ -34,10 +35,12 @@ pub enum Writing {
     Migrate,
 }
 
-// The next call of a list. One that may write takes the next of each of the three lists of drafts.
+// The next call of a list. One that may write takes the next of each of the three lists of drafts, one that settles a list the next MFNs, and it
+// is lent a list for so many answers.
 pub enum Op {
     Asks(Reading),
     Writes(Writing, Counts),
+    Settles { mfns: usize, lent: usize },
     Malformed,
 }
 
@@ -45,6 +48,7 @@ pub fn no_draft() -> Counts
     ensures { λ r. ⌜ r ≡ noDraft ⌝ }
 {
     Counts {
+        mfns: 0,
         tags: 0,
         lens: 0,
         bytes: 0,
@@ -54,6 +58,9 @@ pub fn no_draft() -> Counts
 fn counts_fit(n: Counts, left: Counts) -> bool
     ensures { λ r. ⌜ r ≡ countsFit n left ⌝ }
 {
+    if left.mfns < n.mfns {
+        return false;
+    }
     if left.tags < n.tags {
         return false;
     }
@@ -92,6 +99,7 @@ fn op_named(call: u32, m: u32, x: u32, y: u32, z: u32) -> Op
     ensures { λ r. ⌜ r ≡ opNamed call m x y z ⌝ }
 {
     let n = Counts {
+        mfns: 0,
         tags: x as usize,
         lens: y as usize,
         bytes: z as usize,
@@ -108,22 +116,39 @@ fn op_named(call: u32, m: u32, x: u32, y: u32, z: u32) -> Op
         7 => Op::Writes(Writing::Revert(Mfn(m)), none),
         8 => Op::Asks(Reading::Check),
         9 => Op::Writes(Writing::Migrate, none),
+        10 => Op::Settles {
+            mfns: x as usize,
+            lent: y as usize,
+        },
         _ => Op::Malformed,
     }
 }
 
-// The draft that a call takes.
+// So many MFNs, and no draft.
+pub fn only_mfns(mfns: usize) -> Counts
+    ensures { λ r. ⌜ r ≡ mfnsOf mfns ⌝ }
+{
+    Counts {
+        mfns,
+        tags: 0,
+        lens: 0,
+        bytes: 0,
+    }
+}
+
+// The MFNs or the draft that a call takes.
 fn taken_by(op: Op) -> Counts
     ensures { λ r. ⌜ r ≡ takenBy op ⌝ }
 {
     match op {
         Op::Asks(_) => no_draft(),
         Op::Writes(_, n) => n,
+        Op::Settles { mfns, lent: _ } => only_mfns(mfns),
         Op::Malformed => no_draft(),
     }
 }
 
-// A call whose draft is to be there.
+// A call whose MFNs or draft are to be there.
 fn op_fitting(op: Op, left: Counts) -> Op
     ensures { λ r. ⌜ r ≡ opFitting op left ⌝ }
 {
@@ -134,7 +159,7 @@ fn op_fitting(op: Op, left: Counts) -> Op
     }
 }
 
-// The call whose five numbers stand at `i`, where so much of the drafts is left.
+// The call whose five numbers stand at `i`, where so much of the MFNs and of the drafts is left.
 pub fn read_op(ops: &[u32], i: usize, left: Counts) -> Op
     requires { ⌜ i + callSize ≤ length (now ops) ⌝ }
     ensures { λ r. ⌜ r ≡ opIn (drop i (now (ops .entry))) left ⌝ }

@@ -6,8 +6,8 @@ ghost use lib.ListN.{length};
 ghost use Rattle.word.specs.Overwrite.{overwrite};
 ghost use Rattle.script.specs.Report.{outcomeSize};
 
-// The numbers of an outcome.
-pub const OUTCOME_SIZE: usize = 3;
+// The numbers of an outcome, before the answers that it lists.
+pub const OUTCOME_SIZE: usize = 4;
 
 // Why a run stopped.
 pub enum Stop {
@@ -27,12 +27,13 @@ pub struct Replayed {
     pub calls: usize,
 }
 
-// Writes the three numbers of an outcome at `i`: the answer, the MFN returned and the length of the field shown.
-pub fn put_numbers(answers: &mut [u32], i: usize, answer: u32, mfn: u32, len: u32)
+// Writes the four numbers of an outcome at `i`: the answer, the MFN returned, the length of the field shown and how many answers it lists.
+pub fn put_numbers(answers: &mut [u32], i: usize, answer: u32, mfn: u32, len: u32, listed: u32)
     requires { ⌜ i + outcomeSize ≤ length (now answers) ⌝ }
-    ensures { λ _. ⌜ now (answers .exit) ≡ overwrite (now (answers .entry)) i (answer ∷ mfn ∷ len ∷ []) ⌝ }
+    ensures { λ _. ⌜ now (answers .exit) ≡ overwrite (now (answers .entry)) i (answer ∷ mfn ∷ len ∷ listed ∷ []) ⌝ }
 {
     answers[i] = answer;
     answers[i + 1] = mfn;
     answers[i + 2] = len;
+    answers[i + 3] = listed;
 }

@@ -45,6 +45,7 @@ pub fn run(task: &Task) {
     drafts(task, records, &new, &settled, &eight);
     deletes(task, records, &new, &settled);
     settling(task, records, &new, &changed);
+    whole_lists(task, &eight);
     migrations(task, records, &settled);
     forty_fields(task);
 }
@@ -234,6 +235,29 @@ fn settling(task: &Task, records: usize, new: &Buffers, changed: &Buffers) {
         &done("revert", "revert", changed, records),
         |card, mfn| number(card.revert(mfn)),
         both_ways!(|mst, xrf, mfn| plain::revert(mst, xrf, mfn)),
+    );
+}
+
+/// 4,096 MFNs in one call, and in as many single calls.
+fn whole_lists(task: &Task, draft: &OwnedDraft) {
+    let records = isis::SETTLE_MOST;
+    let base = card(records, draft, Kind::New);
+    let mfns: Vec<u32> = (1..=records as u32).collect();
+    let answers = RefCell::new(vec![0; records]);
+    task.measure(
+        &done(
+            "settle 4,096 new records, one call",
+            "settle_list",
+            &base,
+            1,
+        ),
+        |card, _| number(card.settle_list(&mfns, &mut answers.borrow_mut())),
+        both_ways!(|mst, xrf, _| plain::settle_list(mst, xrf, &mfns, &mut answers.borrow_mut())),
+    );
+    task.measure(
+        &done("settle 4,096 new records, single calls", "settle", &base, 1),
+        |card, _| mfns.iter().map(|&mfn| number(card.settle(mfn))).sum(),
+        both_ways!(|mst, xrf, _| mfns.iter().map(|&mfn| plain::settle(mst, xrf, mfn)).sum()),
     );
 }
 

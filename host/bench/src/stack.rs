@@ -227,6 +227,29 @@ fn acts() {
             call(raw::isis_settle, changed, 3)
         }],
     );
+    let (mfns, mut answers) = ([0, 5, 5, 51], [0; 4]);
+    let mut list = |a: Arguments| {
+        // SAFETY: as in `reading`; the two lists are this function's own.
+        black_box(unsafe {
+            raw::isis_settle_list(
+                a.0,
+                a.1,
+                a.2,
+                a.3,
+                mfns.as_ptr(),
+                4,
+                answers.as_mut_ptr(),
+                4,
+            )
+        });
+    };
+    report(
+        "settle a list",
+        &mut [&mut || {
+            list(new);
+            list(changed);
+        }],
+    );
     report("revert", &mut [&mut || call(raw::isis_revert, changed, 4)]);
     let mut format = || {
         // SAFETY: as in `reading`.

@@ -25,6 +25,7 @@ static uint8_t data[FIELDS * FIELD];
 static isis_size start, len, end, count, starts[FIELDS], field_lens[FIELDS];
 static uint32_t mfn, answer, mark, deleted;
 static uint16_t tag, field_tags[FIELDS];
+static uint32_t mfns[RECORDS], answers[RECORDS];
 static int32_t block, word;
 static struct {
     const uint8_t *at;
@@ -58,6 +59,7 @@ static void create(void) { answer = isis_create(CARD, DRAFT, &mfn); }
 static void update(void) { answer = isis_update(CARD, 7, DRAFT); }
 static void delete(void) { answer = isis_delete(CARD, 7); }
 static void settle(void) { answer = isis_settle(CARD, 7); }
+static void settle_list(void) { answer = isis_settle_list(CARD, mfns, RECORDS, answers, RECORDS); }
 static void revert(void) { answer = isis_revert(CARD, 7); }
 static void migrate(void) { answer = isis_migrate(CARD); }
 static void check(void) { answer = isis_check(CARD); }
@@ -73,6 +75,7 @@ static void make_card(enum kind kind)
     format();
     for (uint32_t i = 1; i <= RECORDS; i++) {
         create();
+        mfns[i - 1] = i;
         if (kind != NEW)
             isis_settle(CARD, i);
     }
@@ -103,6 +106,7 @@ static const struct {
     { "delete by a copy at the end", SETTLED, delete },
     { "settle, a new record", NEW, settle },
     { "settle, a changed record", CHANGED, settle },
+    { "settle 50 new records in one call", NEW, settle_list },
     { "revert", CHANGED, revert },
     { "migrate an old card", OLD, migrate },
     { "format, 32 KB", NEW, format },

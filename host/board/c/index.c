@@ -9,7 +9,7 @@
 #include "runner.h"
 
 enum { FILES = 5, TERM = FILES, SLICES, SLICE_MAX = 32 * 1024, ROOM = SLICE_MAX + 4 * STRIP };
-enum { STACK = 2048, LOOKUP = 16 };
+enum { STACK = 2048, LOOKUP = 17 };
 
 #define NAMES(name) { " of " name, " before " name, " behind " name }
 

@@ -22,7 +22,7 @@
 
 extern const uint32_t list[];
 
-enum { MST_MAX = 128 * 1024, XRF_MAX = 8 * 1024, STACK = 512, KINDS = 18 };
+enum { MST_MAX = 128 * 1024, XRF_MAX = 8 * 1024, STACK = 512, KINDS = 19 };
 enum { MST_LAST, XRF_LAST, MIDDLE, ON_AN_INDEX };
 
 /* The list, and how much of it is done. */
@@ -36,18 +36,21 @@ static uint8_t *mst, *xrf;
 static uint32_t mst_len, xrf_len;
 
 /* The call's arguments and outputs; the lists have one element more than is ever lent. */
-enum { LENT = 9 };
+enum { LENT = 9, ANSWERS = ISIS_SETTLE_MAX + 2, SETTLE_LIST = 10 };
 
 static struct {
     uint32_t kind, mfn, tag, occurrence, tags_len, lens_len, data_len;
     isis_size index;
     const uint8_t *tags, *lens, *data;
+    const uint32_t *mfns;
+    uint32_t mfns_len;
 } call;
 static struct {
     isis_size start, len, end, count, starts[LENT + 1], lens[LENT + 1];
     uint32_t mfn, next, mark, deleted;
     uint16_t tag, tags[LENT + 1];
 } out;
+static uint32_t answers[ANSWERS + 1];
 
 static void say_with(const char *words, uint32_t number)
 {
@@ -109,7 +112,7 @@ static void read_changes(void)
     }
 }
 
-/* Lends one list of a draft at the last byte of the card's memory. */
+/* Lends a list of MFNs, or one list of a draft, at the last byte of the card's memory. */
 static const uint8_t *at_the_last_byte(const uint8_t *items, uint32_t len)
 {
     return memcpy(cards_end - len, items, len);
@@ -128,6 +131,10 @@ static void read_call(uint32_t stands)
     call.tags = bytes(2 * call.tags_len);
     call.lens = bytes(2 * call.lens_len);
     call.data = bytes(call.data_len);
+    call.mfns_len = word();
+    call.mfns = (const uint32_t *)bytes(4 * call.mfns_len);
+    if (stands == MIDDLE && call.kind == SETTLE_LIST)
+        call.mfns = (const uint32_t *)at_the_last_byte((const uint8_t *)call.mfns, 4 * call.mfns_len);
     if (stands == MIDDLE && step % 3 == 0)
         call.tags = at_the_last_byte(call.tags, 2 * call.tags_len);
     if (stands == MIDDLE && step % 3 == 1)
@@ -205,17 +212,19 @@ __attribute__((noinline)) static uint32_t answer(void)
         return isis_check(CARD);
     case 9:
         return isis_migrate(CARD);
-    case 10:
-        return isis_field(CARD, call.mfn, call.index, &out.tag, &out.start, &out.len);
+    case SETTLE_LIST:
+        return isis_settle_list(CARD, call.mfns, call.mfns_len, answers, call.index);
     case 11:
-        return isis_field_settled(CARD, call.mfn, call.index, &out.tag, &out.start, &out.len);
+        return isis_field(CARD, call.mfn, call.index, &out.tag, &out.start, &out.len);
     case 12:
-        return isis_next(CARD, &out.next, &out.end);
+        return isis_field_settled(CARD, call.mfn, call.index, &out.tag, &out.start, &out.len);
     case 13:
-        return isis_state(CARD, call.mfn, &out.mark, &out.deleted);
+        return isis_next(CARD, &out.next, &out.end);
     case 14:
-        return isis_fields(CARD, call.mfn, LISTS);
+        return isis_state(CARD, call.mfn, &out.mark, &out.deleted);
     case 15:
+        return isis_fields(CARD, call.mfn, LISTS);
+    case 16:
         return isis_fields_settled(CARD, call.mfn, LISTS);
     }
     differs("the call", call.kind, 0);
@@ -260,6 +269,21 @@ void file_is_wanted(const char *what, const uint8_t *given, const uint8_t *wante
             byte_differs(what, i, given[i], wanted[i]);
 }
 
+/* The list of answers that was lent, whole, and what stands behind it. */
+static void answers_are_wanted(void)
+{
+    uint32_t lent = word();
+
+    for (uint32_t i = 0; i < lent; i++) {
+        uint32_t wanted = word();
+
+        if (answers[i] != wanted)
+            differs("an answer of the list", answers[i], wanted);
+    }
+    if (answers[lent] != RUBBISH * 0x01010101u)
+        differs("what stands behind the answers", answers[lent], RUBBISH * 0x01010101u);
+}
+
 static void outputs_are_wanted(void)
 {
     is_wanted("the MFN", out.mfn);
@@ -276,6 +300,7 @@ static void outputs_are_wanted(void)
         is_wanted("a start of the list", out.starts[i]);
         is_wanted("a length of the list", out.lens[i]);
     }
+    answers_are_wanted();
 }
 
 static void one_step(void)
@@ -297,6 +322,7 @@ static void one_step(void)
     stood = stands;
     read_call(stands);
     memset(&out, RUBBISH, sizeof out);
+    memset(answers, RUBBISH, call.kind == SETTLE_LIST ? 4 * ((uint32_t)call.index + 1) : 4);
     given = measured(call.kind, answer, STACK);
     is_wanted("the answer", given);
     outputs_are_wanted();

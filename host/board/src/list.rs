@@ -41,6 +41,7 @@ struct Arguments {
     occurrence: u32,
     index: usize,
     draft: OwnedDraft,
+    mfns: Vec<u32>,
 }
 
 impl Arguments {
@@ -71,6 +72,8 @@ impl Arguments {
             Call::Field { mfn, index } | Call::FieldSettled { mfn, index } => {
                 (of.mfn, of.index) = (*mfn, *index);
             }
+            // The length of the list for answers stands where other calls have an index.
+            Call::SettleList { mfns, room } => (of.mfns, of.index) = (mfns.clone(), *room),
             // The lengths of the lists stand where other calls have tag, occurrence and index.
             Call::Fields { mfn, room } | Call::FieldsSettled { mfn, room } => {
                 (of.mfn, of.tag) = (*mfn, room[0] as u16);
@@ -95,6 +98,7 @@ struct Outputs {
     deleted: u64,
     count: u64,
     fields: [[u64; 3]; LENT + 1],
+    answers: Vec<u32>,
 }
 
 impl Outputs {
@@ -115,6 +119,7 @@ impl Outputs {
             deleted: word,
             count: rubbish,
             fields: [[tag, rubbish, rubbish]; LENT + 1],
+            answers: Vec::new(),
         }
     }
 
@@ -132,6 +137,7 @@ impl Outputs {
                 (of.mark, of.deleted) = (u64::from(given.mark), u64::from(given.deleted));
             }
             Call::Fields { .. } | Call::FieldsSettled { .. } => of.lists(given),
+            Call::SettleList { .. } => of.answers = given.answers.clone(),
             _ => {}
         }
         of
@@ -254,6 +260,7 @@ impl List {
             self.put_bytes(&bytes);
         }
         self.put_bytes(data);
+        self.put_words(&of.mfns);
     }
 
     fn put_outputs(&mut self, of: &Outputs) {
@@ -272,10 +279,17 @@ impl List {
         for output in one_by_one.iter().chain(of.fields.as_flattened()) {
             self.put_long(*output);
         }
+        self.put_words(&of.answers);
     }
 
     fn put_all<const N: usize>(&mut self, numbers: [usize; N]) {
         self.words.extend(numbers.map(|number| number as u32));
+    }
+
+    /// A list of words, behind their number.
+    fn put_words(&mut self, words: &[u32]) {
+        self.put_all([words.len()]);
+        self.words.extend(words);
     }
 
     fn put_long(&mut self, number: u64) {

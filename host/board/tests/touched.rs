@@ -68,6 +68,16 @@ fn may_touch(mst: &[u8], xrf: &[u8], call: &Call) -> (Parts, Parts) {
             let at = found(mst, xrf, *mfn).1.at;
             (only(at + 6..at + 12), only(entry(*mfn as usize)))
         }
+        Call::SettleList { mfns, .. } => {
+            let settled = |mfn: &&u32| {
+                model::store::settle(&mut mst.to_vec(), &mut xrf.to_vec(), **mfn).is_ok()
+            };
+            let places = |mfn: &u32| {
+                let at = found(mst, xrf, *mfn).1.at;
+                (at + 6..at + 12, entry(*mfn as usize))
+            };
+            mfns.iter().filter(settled).map(places).unzip()
+        }
         Call::Revert(mfn) => (Vec::new(), only(entry(*mfn as usize))),
         Call::Migrate => (only(12..14), Vec::new()),
         _ => (Vec::new(), Vec::new()),
@@ -114,7 +124,7 @@ fn a_call_changes_only_the_bytes_that_the_header_names() {
         drive_subject(&mut watched, family, 20_000, first_seed()).unwrap();
     }
     for (kind, name) in Call::NAMES.iter().enumerate() {
-        let writes = matches!(kind, 0 | 3..=7 | 9);
+        let writes = matches!(kind, 0 | 3..=7 | 9..=10);
         assert_eq!(watched.changed[kind] > 0, writes, "{name}");
     }
 }

@@ -4,6 +4,7 @@
 use crate::trouble::Trouble;
 use std::ffi::{OsStr, OsString};
 use std::iter::Peekable;
+use std::ops::RangeInclusive;
 use std::os::unix::ffi::OsStrExt;
 use std::path::PathBuf;
 use std::vec::IntoIter;
@@ -15,6 +16,15 @@ pub struct Arguments {
     plain: IntoIter<OsString>,
     /// The command that they are for.
     verb: &'static str,
+}
+
+/// What a word of `card settle` names.
+#[derive(Clone, Debug, PartialEq, Eq)]
+pub enum Named {
+    /// An MFN, or a range of them.
+    Mfns(RangeInclusive<u32>),
+    /// Every MFN on which something is pending.
+    All,
 }
 
 /// Whether a word before `--` looks like a flag. A number below 0 does not.
@@ -102,6 +112,36 @@ impl Arguments {
         })
     }
 
+    /// The MFNs that all words that are left name, one word or more.
+    pub fn named(&mut self) -> Result<Vec<Named>, Trouble> {
+        let mut word = Some(self.wanted("the MFN")?);
+        let mut named = Vec::new();
+        while let Some(it) = word {
+            named.push(self.mfns(&it)?);
+            word = self.unless_flag()?;
+        }
+        Ok(named)
+    }
+
+    /// What a word names: an MFN, a range of them, or all.
+    fn mfns(&self, word: &OsStr) -> Result<Named, Trouble> {
+        if word == "all" {
+            return Ok(Named::All);
+        }
+        let one = number(word).map(|mfn| mfn..=mfn);
+        let range = || {
+            let (first, last) = word.to_str()?.split_once('-')?;
+            let (first, last) = (number(first.as_ref())?, number(last.as_ref())?);
+            (first <= last).then_some(first..=last)
+        };
+        one.or_else(range).map(Named::Mfns).ok_or_else(|| {
+            let word = quoted(word);
+            self.usage(&format!(
+                "{word} is no MFN, range of them like 3-17, or 'all'"
+            ))
+        })
+    }
+
     /// An MFN, if there is another word.
     pub fn mfn_if_any(&mut self) -> Result<Option<u32>, Trouble> {
         match self.words.len() + self.plain.len() {
@@ -182,6 +222,25 @@ mod tests {
         }
         assert_eq!(arguments(&[]).mfn_if_any().unwrap(), None);
         assert_eq!(arguments(&["--", "7"]).mfn_if_any().unwrap(), Some(7));
+    }
+
+    #[test]
+    fn ranges_of_mfns_ascend() {
+        let named = |words: &[&str]| arguments(words).named();
+        let wanted = [
+            Named::Mfns(7..=7),
+            Named::Mfns(3..=17),
+            Named::All,
+            Named::Mfns(4..=4),
+        ];
+        assert_eq!(named(&["7", "3-17", "all", "--", "4-4"]).unwrap(), wanted);
+        for bad in [
+            "", "7-3", "3-", "-3", "3--4", "1-2-3", "ALL", "1,2", "0x1-2",
+        ] {
+            assert!(named(&[bad]).is_err(), "{bad}");
+            assert!(named(&["1", bad]).is_err(), "{bad}");
+        }
+        assert!(named(&[]).is_err());
     }
 
     #[test]

@@ -143,11 +143,6 @@ pub fn delete(arguments: Arguments) -> Result<(), Trouble> {
     })
 }
 
-/// `card settle`.
-pub fn settle(arguments: Arguments) -> Result<(), Trouble> {
-    named(arguments, "settled: MFN #", |card, mfn| card.settle(mfn))
-}
-
 /// `card revert`.
 pub fn revert(arguments: Arguments) -> Result<(), Trouble> {
     named(

@@ -4,7 +4,7 @@
 use crate::arguments::{Arguments, quoted};
 use crate::say::print;
 use crate::trouble::{STATUSES, Trouble};
-use crate::{calls, check, draw, lookup, show, stat};
+use crate::{calls, check, draw, lookup, settle, show, stat};
 use isis::Refusal;
 use std::ffi::OsStr;
 
@@ -106,13 +106,16 @@ pub const VERBS: [Verb; 13] = [
     },
     Verb {
         name: "settle",
-        run: calls::settle,
+        run: settle::settle,
         on: CARD,
         forms: &[(
-            "MFN",
-            "make a pending change final: the index is up to date",
+            "MFN...",
+            "make pending changes final: the index is up to date",
         )],
-        more: "",
+        more: "Each MFN may be a number, a range like 3-17, or the word all, for every record on which something\n\
+               is pending. They are settled in order, and both files are replaced once for all of them. Where\n\
+               several are named, a refused one has its line, the others are settled, and the status is that\n\
+               of the first refusal.\n",
         refusals: &[1, 2, 4, 6, 7, 8, 10],
     },
     Verb {

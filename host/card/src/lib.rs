@@ -26,6 +26,7 @@ mod record;
 mod recover;
 pub mod replace;
 mod say;
+mod settle;
 mod show;
 mod stat;
 mod steps;

@@ -249,7 +249,7 @@ fn bad_words_are_said_in_a_sentence() {
     folder.refused("settle a.mst a.xrf -1", 64, "'-1' is no MFN");
     folder.refused("settle a.mst a.xrf 4294967296", 64, "is no MFN");
     folder.refused("settle a.mst a.xrf", 64, "the MFN is missing");
-    folder.refused("settle a.mst a.xrf 1 2", 64, "'2' is one word too many");
+    folder.refused("revert a.mst a.xrf 1 2", 64, "'2' is one word too many");
     folder.refused("create a.mst a.xrf title=Kite", 64, "'title' is no tag");
     folder.refused("create a.mst a.xrf 0=Kite", 64, "'0' is no tag");
     folder.refused("create a.mst a.xrf 32768=Kite", 64, "'32768' is no tag");

@@ -2,7 +2,7 @@
 //! and every output filled with rubbish before.
 
 use crate::guarded::Side;
-use crate::lent::{Drafts, Output, pointer};
+use crate::lent::{Drafts, Input, Output, pointer};
 use isis::raw;
 use model::ask::{Lists, Room};
 use model::call::{Call, Outcome, OwnedDraft, Shown};
@@ -10,7 +10,8 @@ use std::ops::Range;
 
 /// What a call gave: its number; the MFN of a create or of the next one, and the end; the
 /// tag of a field by its index, and the part that is shown; the mark and the deletion of a
-/// record; the number of its fields, and the lists that were lent for them, whole.
+/// record; the number of its fields, and the lists that were lent for them, whole; the list
+/// that was lent for answers, whole.
 #[derive(Clone, Debug, PartialEq, Eq, Default)]
 #[allow(missing_docs)]
 pub struct Given {
@@ -23,6 +24,7 @@ pub struct Given {
     pub deleted: u32,
     pub count: usize,
     pub lists: Lists,
+    pub answers: Vec<u32>,
 }
 
 impl Given {
@@ -38,6 +40,7 @@ impl Given {
             deleted: outcome.deleted,
             count: outcome.fields.len(),
             lists: shown.lists,
+            answers: shown.answers,
         }
     }
 }
@@ -52,6 +55,7 @@ pub trait Subject {
 #[derive(Debug)]
 pub struct Archive {
     drafts: Drafts,
+    mfns: Input,
     tags: Output<u16>,
     words: [Output<u32>; 2],
     sizes: [Output<usize>; 3],
@@ -81,6 +85,7 @@ impl Subject for Archive {
                 Call::Revert(mfn) => plain(raw::isis_revert(b.0, b.1, b.2, b.3, *mfn)),
                 Call::Check => plain(raw::isis_check(b.0, b.1, b.2, b.3)),
                 Call::Migrate => plain(raw::isis_migrate(b.0, b.1, b.2, b.3)),
+                Call::SettleList { mfns, room } => self.settle_list(b, mfns, *room, side),
                 Call::Create(draft) => self.create(b, draft, side),
                 Call::Update(mfn, draft) => self.update(b, *mfn, draft, side),
                 Call::View { .. } | Call::ViewSettled { .. } => self.view(b, call, side),
@@ -101,6 +106,7 @@ impl Archive {
     pub fn new() -> Archive {
         Archive {
             drafts: Drafts::new(),
+            mfns: Input::new(),
             tags: Output::new(),
             words: [(); 2].map(|()| Output::new()),
             sizes: [(); 3].map(|()| Output::new()),
@@ -132,6 +138,17 @@ impl Archive {
         };
         self.drafts.only_read(draft, side);
         plain(number)
+    }
+
+    unsafe fn settle_list(&mut self, b: Buffers, mfns: &[u32], room: usize, side: Side) -> Given {
+        let (m, a) = (self.mfns.lend(mfns, side), self.words[0].lend(room, side));
+        // SAFETY: as in `run`.
+        let number = unsafe { raw::isis_settle_list(b.0, b.1, b.2, b.3, m, mfns.len(), a, room) };
+        self.mfns.only_read(mfns, side);
+        Given {
+            answers: self.words[0].taken(room, side),
+            ..plain(number)
+        }
     }
 
     /// Lends the two outputs of a part.

@@ -1,5 +1,5 @@
 //! What a call is lent beside the card, each in an area of its own between guard pages:
-//! the lists of a draft, which must only be read, and outputs, which are full of rubbish
+//! the lists of a draft and a list of MFNs, which must only be read, and outputs, which are full of rubbish
 //! before and beside which no byte may be written.
 
 use crate::guarded::{Area, Side};
@@ -71,6 +71,40 @@ impl Drafts {
 }
 
 fn bytes_of(numbers: &[u16]) -> Vec<u8> {
+    numbers.iter().flat_map(|n| n.to_ne_bytes()).collect()
+}
+
+/// An area for a list of numbers that must only be read.
+#[derive(Debug)]
+pub struct Input {
+    area: Area,
+}
+
+impl Input {
+    /// An area that grows where it must.
+    #[allow(clippy::new_without_default)]
+    pub fn new() -> Input {
+        Input { area: Area::new(0) }
+    }
+
+    /// Copies the numbers to the guard pages.
+    pub fn lend(&mut self, numbers: &[u32], side: Side) -> *const u32 {
+        let bytes = words_of(numbers);
+        if bytes.len() > self.area.room() {
+            self.area = Area::new(bytes.len());
+        }
+        pointer(self.area.bytes(&bytes, side), side).cast()
+    }
+
+    /// Holds that they were only read.
+    pub fn only_read(&mut self, numbers: &[u32], side: Side) {
+        let bytes = words_of(numbers);
+        let kept = *self.area.buffer(bytes.len(), side) == *bytes;
+        assert!(kept, "a lent list was written to");
+    }
+}
+
+fn words_of(numbers: &[u32]) -> Vec<u8> {
     numbers.iter().flat_map(|n| n.to_ne_bytes()).collect()
 }
 

@@ -1,5 +1,5 @@
 //! Makes a failing list small, as long as what is left still shows a difference:
-//! takes away runs of steps, halving their length, and empties drafts. Where creates
+//! takes away runs of steps, halving their length, empties drafts and shortens lists. Where creates
 //! are taken away, the MFNs after them are lowered, so that later calls still name
 //! the same records.
 
@@ -57,6 +57,21 @@ impl Search<'_> {
         shorter
     }
 
+    /// Halves the lists of MFNs as long as it can be.
+    fn shorten_lists(&mut self) {
+        for i in 0..self.best.steps.len() {
+            while let Some(Step::Call(call)) = self.best.steps.get(i)
+                && let Some(shorter) = halved(call)
+            {
+                let mut steps = self.best.steps.clone();
+                steps[i] = Step::Call(shorter);
+                if !self.take(steps) {
+                    break;
+                }
+            }
+        }
+    }
+
     /// Empties the drafts that need no fields.
     fn empty_drafts(&mut self) {
         for i in 0..self.best.steps.len() {
@@ -69,6 +84,17 @@ impl Search<'_> {
             }
         }
     }
+}
+
+/// A list of MFNs without its last half, and the list for its answers shorter by as many.
+fn halved(call: &Call) -> Option<Call> {
+    let Call::SettleList { mfns, room } = call else {
+        return None;
+    };
+    let less = mfns.len().div_ceil(2);
+    let room = room.checked_sub(less)?;
+    let mfns = mfns[..mfns.len() - less].to_vec();
+    (less > 0).then_some(Call::SettleList { mfns, room })
 }
 
 /// The steps without some of them; with the MFNs of what follows lowered, if wished,
@@ -91,10 +117,10 @@ fn without(steps: &[Step], from: usize, to: usize, lower: bool) -> Vec<Step> {
             if *call == Call::Format {
                 break;
             }
-            if let Some(mfn) = call.mfn_mut()
-                && *mfn > before + removed
-            {
-                *mfn -= removed;
+            for mfn in call.mfns_mut() {
+                if *mfn > before + removed {
+                    *mfn -= removed;
+                }
             }
         }
     }
@@ -117,6 +143,7 @@ pub fn shrink(trial: &Trial, subject: &mut dyn Subject) -> Option<(Trial, Differ
         let shorter = search.remove(length);
         if length == 1 && !shorter || search.tries >= TRIES {
             search.empty_drafts();
+            search.shorten_lists();
             return Some((search.best, search.difference));
         }
         length = length.div_ceil(2);

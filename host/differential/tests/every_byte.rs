@@ -40,6 +40,7 @@ fn calls() -> Vec<Call> {
     let mut calls = vec![
         Call::Check,
         Call::Migrate,
+        Call::settle_list([8, 2, 1, 3, 2, 4, 7, 5, 6]),
         Call::Next,
         Call::Create(draft("c")),
         Call::Create(draft("")),

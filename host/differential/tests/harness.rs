@@ -305,6 +305,67 @@ fn the_state_of_a_damaged_record() {
     });
 }
 
+#[test]
+fn an_answer_one_place_off() {
+    found(&mut FromFormat::new(), 4, |_, seen| {
+        if matches!(seen.call, Call::SettleList { .. }) && seen.given.number == 0 {
+            let places = seen.given.answers.len();
+            seen.given.answers.rotate_right(places.min(1));
+        }
+    });
+}
+
+#[test]
+fn the_second_of_two_equal_mfns_answered_0() {
+    found(&mut FromFormat::new(), 4, |_, seen| {
+        let Call::SettleList { mfns, .. } = seen.call else {
+            return;
+        };
+        let answers = &mut seen.given.answers;
+        for i in 1..mfns.len().min(answers.len()) {
+            if answers[i] == 10 && mfns[..i].contains(&mfns[i]) {
+                answers[i] = 0;
+            }
+        }
+    });
+}
+
+#[test]
+fn a_list_of_one_mfn_too_many_that_is_settled() {
+    found(&mut FromFormat::new(), 3, |_, seen| {
+        if let Call::SettleList { mfns, room } = seen.call
+            && seen.given.number == 17
+            && mfns.len() == *room
+        {
+            let longest = Call::settle_list(mfns[..mfns.len() - 1].iter().copied());
+            let (outcome, _) = on_bytes(seen.mst, seen.xrf, &longest);
+            seen.given.number = outcome.number;
+            seen.given.answers[..outcome.answers.len()].copy_from_slice(&outcome.answers);
+        }
+    });
+}
+
+#[test]
+fn a_refused_list_that_is_answered_all_the_same() {
+    found(&mut FromFormat::new(), 2, |_, seen| {
+        if matches!(seen.call, Call::SettleList { .. })
+            && seen.given.number == 17
+            && let Some(first) = seen.given.answers.first_mut()
+        {
+            *first = 17;
+        }
+    });
+}
+
+#[test]
+fn only_the_answers_of_a_list() {
+    found(&mut FromFormat::new(), 3, |_, seen| {
+        if matches!(seen.call, Call::SettleList { .. }) {
+            seen.put_back();
+        }
+    });
+}
+
 /// Changes a 2-byte number of the MST.
 fn add_at(mst: &mut [u8], at: usize, more: u16) {
     let number = u16::from_le_bytes([mst[at], mst[at + 1]]).wrapping_add(more);
@@ -313,11 +374,11 @@ fn add_at(mst: &mut [u8], at: usize, more: u16) {
 
 #[test]
 fn an_even_count_that_is_accepted() {
-    found(&mut Damaged::default(), 4, |_, seen| {
+    found(&mut Damaged::default(), 16, |_, seen| {
         if *seen.call == Call::Check && seen.given.number == 2 && seen.mst[12] % 2 == 0 {
-            add_at(seen.mst, 12, 1);
-            seen.given.number = on_bytes(seen.mst, seen.xrf, seen.call).0.number;
-            add_at(seen.mst, 12, 0xFFFF);
+            let mut odd = seen.mst.to_vec();
+            add_at(&mut odd, 12, 1);
+            seen.given.number = on_bytes(&mut odd, seen.xrf, seen.call).0.number;
         }
     });
 }

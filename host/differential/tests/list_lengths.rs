@@ -94,7 +94,7 @@ fn lists_of_every_length_about_the_number_of_fields() {
     ));
     // Of each version, each list at its number of fields or up to two more.
     let done = 2 * SETTLED.len() * 27;
-    for call in [14, 15] {
+    for call in [15, 16] {
         assert_eq!(tally.count(call, 0), done);
         assert!(tally.count(call, 17) > done);
     }

@@ -156,6 +156,19 @@ mod subject {
         run(mst, xrf, Call::Settle(mfn)).map(drop)
     }
 
+    pub fn settle_list(
+        mst: &mut [u8],
+        xrf: &mut [u8],
+        mfns: &[u32],
+        answers: &mut [u32],
+    ) -> Answer<()> {
+        let (mfns, room) = (mfns.to_vec(), answers.len());
+        let call = Call::SettleList { mfns, room };
+        let given = Archive::new().run(mst, xrf, &call, Side::Back);
+        answers.copy_from_slice(&given.answers);
+        answered(given).map(drop)
+    }
+
     pub fn revert(mst: &mut [u8], xrf: &mut [u8], mfn: u32) -> Answer<()> {
         run(mst, xrf, Call::Revert(mfn)).map(drop)
     }

@@ -69,15 +69,16 @@ fn damaged_cards() {
 #[test]
 fn random_cards() {
     let tally = run("random cards", &mut RandomCards, RANDOM);
-    for call in 0..Call::NAMES.len() {
-        came(&tally, call, 1, 10);
+    for (call, answers) in ANSWERS.iter().enumerate() {
+        let number = if answers.contains(&1) { 1 } else { 0 };
+        came(&tally, call, number, 10);
     }
 }
 
 #[test]
 fn hostile_arguments() {
     let tally = run("hostile arguments", &mut Hostile, HOSTILE);
-    for (call, number) in [(3, 3), (4, 3), (10, 12), (11, 12), (14, 17)] {
+    for (call, number) in [(3, 3), (4, 3), (11, 12), (12, 12), (15, 17)] {
         came(&tally, call, number, calls(100));
     }
 }

@@ -17,6 +17,11 @@ fn by_archive(archive: &mut Archive, list: &List) -> Replay {
             mfn: given.mfn,
             tag: given.tag,
             field: mst[given.part].to_vec(),
+            answers: if given.number == 0 {
+                given.answers
+            } else {
+                Vec::new()
+            },
             ..Outcome::default()
         }
     };

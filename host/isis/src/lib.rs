@@ -44,6 +44,9 @@ use std::ops::Range;
 /// The file of the archive that this crate was built with, for tests and measurements.
 pub const ARCHIVE: &str = env!("ISIS_ARCHIVE");
 
+/// The most MFNs that [`Card::settle_list`] takes.
+pub const SETTLE_MOST: usize = 4096;
+
 /// A card: the two buffers of one catalogue, to read and to write. A [`CardRef`] only
 /// reads.
 #[derive(Debug)]
@@ -163,6 +166,40 @@ impl<'a> Card<'a> {
     /// Makes the pending change of a record final.
     pub fn settle(&mut self, mfn: u32) -> Answer<()> {
         self.act(raw::isis_settle, mfn)
+    }
+
+    /// [`settle`](Card::settle) for each MFN of a list, in order; gives the answer of each. The
+    /// list may be of any length: the library settles up to [`SETTLE_MOST`] at a time.
+    pub fn settle_all(&mut self, mfns: &[u32]) -> Vec<Answer<()>> {
+        let mut numbers = vec![0; mfns.len()];
+        for (mfns, numbers) in mfns
+            .chunks(SETTLE_MOST)
+            .zip(numbers.chunks_mut(SETTLE_MOST))
+        {
+            self.settle_list(mfns, numbers)
+                .expect("two lists of one length that the library takes");
+        }
+        numbers.into_iter().map(answer).collect()
+    }
+
+    /// Settles each MFN of a list, in order, and writes its answer's number to the same place
+    /// of `answers`: [`NoRoomInList`](Refusal::NoRoomInList), with nothing changed, if the two
+    /// are not equally long, or have more than [`SETTLE_MOST`] elements.
+    pub fn settle_list(&mut self, mfns: &[u32], answers: &mut [u32]) -> Answer<()> {
+        let (mst, xrf) = (&mut *self.mst, &mut *self.xrf);
+        // SAFETY: as in `create_from`.
+        answer(unsafe {
+            raw::isis_settle_list(
+                mst.as_mut_ptr(),
+                mst.len(),
+                xrf.as_mut_ptr(),
+                xrf.len(),
+                mfns.as_ptr(),
+                mfns.len(),
+                answers.as_mut_ptr(),
+                answers.len(),
+            )
+        })
     }
 
     /// Makes the settled version of a record current again.

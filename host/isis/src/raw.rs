@@ -152,6 +152,18 @@ unsafe extern "C" {
     pub fn isis_revert(mst: *mut u8, mst_len: usize, xrf: *mut u8, xrf_len: usize, mfn: u32)
     -> u32;
 
+    /// Makes the pending changes of a list of records final.
+    pub fn isis_settle_list(
+        mst: *mut u8,
+        mst_len: usize,
+        xrf: *mut u8,
+        xrf_len: usize,
+        mfns: *const u32,
+        mfns_len: usize,
+        answers: *mut u32,
+        answers_len: usize,
+    ) -> u32;
+
     /// Counts the end of a card written before isis.h 2.0 from one.
     pub fn isis_migrate(mst: *mut u8, mst_len: usize, xrf: *mut u8, xrf_len: usize) -> u32;
 

@@ -19,7 +19,8 @@ static uint8_t mst[2 * ISIS_BLOCK], xrf[ISIS_BLOCK];
 int main(void)
 {
     isis_size start, len, end, count;
-    uint32_t mfn, next, mark, deleted;
+    uint32_t mfn, next, mark, deleted, answer;
+    const uint32_t one = 1;
     uint16_t tag;
     int32_t block, word;
 
@@ -39,6 +40,11 @@ int main(void)
     IS(ISIS_BAD_LENGTH, isis_delete(NO_CARD, 1));
     IS(ISIS_BAD_LENGTH, isis_settle(NO_CARD, 1));
     IS(ISIS_BAD_LENGTH, isis_revert(NO_CARD, 1));
+    IS(ISIS_DONE, isis_settle_list(NO_CARD, NULL, 0, NULL, 0));
+    IS(ISIS_DONE, isis_settle_list(NO_CARD, &one, 1, &answer, 1));
+    IS(ISIS_BAD_LENGTH, answer);
+    IS(ISIS_NO_ROOM_IN_LIST, isis_settle_list(NO_CARD, &one, 1, NULL, 0));
+    IS(ISIS_NO_ROOM_IN_LIST, isis_settle_list(NO_CARD, NULL, 0, &answer, 1));
     IS(ISIS_BAD_LENGTH, isis_migrate(NO_CARD));
     IS(ISIS_BAD_LENGTH, isis_migrate(mst, sizeof mst, NULL, 0));
     IS(ISIS_BAD_LENGTH, isis_migrate(NULL, 0, xrf, sizeof xrf));

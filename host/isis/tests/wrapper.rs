@@ -54,6 +54,31 @@ fn an_old_card_is_migrated_once() {
 }
 
 #[test]
+fn a_whole_list_is_settled() {
+    let (mut mst, mut xrf) = (vec![0; 512 * 2], vec![0; 512]);
+    let mut card = Card::over(&mut mst, &mut xrf);
+    card.format().unwrap();
+    for title in ["Kite", "Kit", "Key"] {
+        card.create([(24, title)]).unwrap();
+    }
+    let again = Err(Refusal::NotPending);
+    let answers = card.settle_all(&[3, 1, 3, 0]);
+    assert_eq!(answers, [Ok(()), Ok(()), again, Err(Refusal::NoMfn)]);
+    assert_eq!(card.settle_all(&[]), []);
+    let mut numbers = [9; 2];
+    let refused = card.settle_list(&[2], &mut numbers);
+    assert_eq!((refused, numbers), (Err(Refusal::NoRoomInList), [9; 2]));
+    assert_eq!(card.state(2).unwrap().mark, isis::Mark::New);
+    let mut numbers = vec![9; isis::SETTLE_MOST + 1];
+    let refused = card.settle_list(&vec![2; numbers.len()], &mut numbers);
+    assert_eq!(refused, Err(Refusal::NoRoomInList));
+    let many = card.settle_all(&vec![2; 2 * isis::SETTLE_MOST + 1]);
+    assert_eq!(many[0], Ok(()));
+    assert!(many[1..].iter().all(|answer| *answer == again));
+    assert_eq!(card.settle_list(&[2; 2], &mut [0; 2]), Ok(()));
+}
+
+#[test]
 fn refusals_have_the_papers_numbers() {
     let all: &[Refusal] = Refusal::ALL;
     let numbers = all.iter().map(|refusal| refusal.number());

@@ -39,14 +39,22 @@ impl OwnedDraft {
     }
 }
 
-/// A call: the nine of document 01, the migration of request C-12, the two that show a field
-/// by its index, and the four that tell something of the card.
+/// A call: the nine of document 01, the migration of request C-12, the list of request C-13,
+/// the two that show a field by its index, and the four that tell something of the card.
 #[derive(Clone, Debug, PartialEq, Eq)]
 #[allow(missing_docs)]
 pub enum Call {
     Format,
-    View { mfn: u32, tag: u16, occurrence: u32 },
-    ViewSettled { mfn: u32, tag: u16, occurrence: u32 },
+    View {
+        mfn: u32,
+        tag: u16,
+        occurrence: u32,
+    },
+    ViewSettled {
+        mfn: u32,
+        tag: u16,
+        occurrence: u32,
+    },
     Create(OwnedDraft),
     Update(u32, OwnedDraft),
     Delete(u32),
@@ -54,17 +62,34 @@ pub enum Call {
     Revert(u32),
     Check,
     Migrate,
-    Field { mfn: u32, index: usize },
-    FieldSettled { mfn: u32, index: usize },
+    /// The MFNs, and how long the list is that is lent for their answers.
+    SettleList {
+        mfns: Vec<u32>,
+        room: usize,
+    },
+    Field {
+        mfn: u32,
+        index: usize,
+    },
+    FieldSettled {
+        mfn: u32,
+        index: usize,
+    },
     Next,
     State(u32),
-    Fields { mfn: u32, room: Room },
-    FieldsSettled { mfn: u32, room: Room },
+    Fields {
+        mfn: u32,
+        room: Room,
+    },
+    FieldsSettled {
+        mfn: u32,
+        room: Room,
+    },
 }
 
 impl Call {
     /// What the calls are called, by their kind.
-    pub const NAMES: [&str; 16] = [
+    pub const NAMES: [&str; 17] = [
         "format",
         "view",
         "settled view",
@@ -75,6 +100,7 @@ impl Call {
         "revert",
         "check",
         "migrate",
+        "settle a list",
         "field",
         "settled field",
         "next",
@@ -83,8 +109,8 @@ impl Call {
         "settled fields",
     ];
 
-    /// Which call it is: the nine in the order of document 01 and the migration, as a list
-    /// numbers them, then the two by index and the four that tell.
+    /// Which call it is: the nine in the order of document 01, the migration and the list of
+    /// MFNs, as a list numbers them, then the two by index and the four that tell.
     pub fn kind(&self) -> usize {
         match self {
             Call::Format => 0,
@@ -97,12 +123,13 @@ impl Call {
             Call::Revert(_) => 7,
             Call::Check => 8,
             Call::Migrate => 9,
-            Call::Field { .. } => 10,
-            Call::FieldSettled { .. } => 11,
-            Call::Next => 12,
-            Call::State(_) => 13,
-            Call::Fields { .. } => 14,
-            Call::FieldsSettled { .. } => 15,
+            Call::SettleList { .. } => 10,
+            Call::Field { .. } => 11,
+            Call::FieldSettled { .. } => 12,
+            Call::Next => 13,
+            Call::State(_) => 14,
+            Call::Fields { .. } => 15,
+            Call::FieldsSettled { .. } => 16,
         }
     }
 
@@ -117,14 +144,16 @@ impl Call {
                 | Call::Settle(_)
                 | Call::Revert(_)
                 | Call::Migrate
+                | Call::SettleList { .. }
         );
         !writes
     }
 
-    /// The MFN that it names.
-    pub fn mfn_mut(&mut self) -> Option<&mut u32> {
+    /// The MFNs that it names.
+    pub fn mfns_mut(&mut self) -> &mut [u32] {
         match self {
-            Call::Format | Call::Create(_) | Call::Check | Call::Migrate | Call::Next => None,
+            Call::Format | Call::Create(_) | Call::Check | Call::Migrate | Call::Next => &mut [],
+            Call::SettleList { mfns, .. } => mfns,
             Call::Update(mfn, _)
             | Call::Delete(mfn)
             | Call::Settle(mfn)
@@ -135,8 +164,15 @@ impl Call {
             | Call::Field { mfn, .. }
             | Call::FieldSettled { mfn, .. }
             | Call::Fields { mfn, .. }
-            | Call::FieldsSettled { mfn, .. } => Some(mfn),
+            | Call::FieldsSettled { mfn, .. } => std::slice::from_mut(mfn),
         }
+    }
+
+    /// A list of MFNs to settle, lent a list of the same length.
+    pub fn settle_list(mfns: impl IntoIterator<Item = u32>) -> Call {
+        let mfns: Vec<u32> = mfns.into_iter().collect();
+        let room = mfns.len();
+        Call::SettleList { mfns, room }
     }
 
     /// A view of the current version.
@@ -197,6 +233,10 @@ pub fn on_bytes(mst: &mut [u8], xrf: &mut [u8], call: &Call) -> (Outcome, Shown)
         Call::Revert(mfn) => Outcome::plain(&store::revert(mst, xrf, *mfn)),
         Call::Check => Outcome::plain(&store::check(mst, xrf)),
         Call::Migrate => Outcome::plain(&store::migrate(mst, xrf)),
+        Call::SettleList { mfns, room } => {
+            let call = |answers: &mut [u32]| store::settle_list(mst, xrf, mfns, answers);
+            return Shown::settled(*room, call);
+        }
         Call::Next => Outcome::next(ask::next(mst, xrf)),
         Call::State(mfn) => Outcome::state(ask::state(mst, xrf, *mfn)),
     };
@@ -224,6 +264,7 @@ pub fn on_ledger(ledger: &mut Ledger, call: &Call) -> Outcome {
         Call::Revert(mfn) => Outcome::plain(&ledger.revert(*mfn)),
         Call::Check => Outcome::plain(&ledger.check()),
         Call::Migrate => Outcome::plain(&ledger.migrate()),
+        Call::SettleList { mfns, room } => Outcome::settled(ledger.settle_list(mfns, *room)),
         Call::Field { mfn, index } => Outcome::indexed(ledger.field(*mfn, *index)),
         Call::FieldSettled { mfn, index } => Outcome::indexed(ledger.field_settled(*mfn, *index)),
         Call::Next => Outcome::next(Ok((ledger.next_mfn() as u32, ledger.end()))),

@@ -1,10 +1,11 @@
 //! The plain ledger of demand 3. It knows the two buffer lengths and the calls that
 //! it is fed, and nothing of any byte: no block, no entry, no leader.
 
-use crate::answer::Refusal;
+use crate::answer::{Refusal, number};
 use crate::ask::{Room, State, has_room, state_of};
 use crate::draft::{Draft, need};
 use crate::layout::{FIRST, Mark, capacity, lengths_permitted, step_over};
+use crate::store::lists_right;
 
 /// A record's fields: tags with their bytes, in draft order.
 pub type Fields = Vec<(u16, Vec<u8>)>;
@@ -231,6 +232,15 @@ impl Ledger {
         }
         self.items[index].standing = Standing::Settled;
         Ok(())
+    }
+
+    /// Each MFN of a list is settled in order, and its answer's number listed; answer 17 if
+    /// the list of so many answers that is lent is not as long, or the list is over-long.
+    pub fn settle_list(&mut self, mfns: &[u32], room: usize) -> Result<Vec<u32>, Refusal> {
+        if !lists_right(mfns.len(), room) {
+            return Err(Refusal::NoRoomInList);
+        }
+        Ok(mfns.iter().map(|&mfn| number(&self.settle(mfn))).collect())
     }
 
     /// The settled fields become current, live, mark settled.

@@ -6,6 +6,7 @@ use crate::ask::Room;
 use crate::call::{Call, OwnedDraft};
 use crate::layout::{LAST_TAG, LONGEST};
 use crate::random::Random;
+use crate::store::MOST_SETTLED;
 
 /// What kind of lists to make.
 #[derive(Clone, Copy, Debug)]
@@ -84,12 +85,12 @@ fn room(random: &mut Random, taste: Taste) -> Room {
 }
 
 /// A random call of demand 3's list for a store whose next MFN is about `next`: those of
-/// document 01, and now and then a migration.
+/// document 01, and now and then a migration or a list of MFNs.
 pub fn call(random: &mut Random, taste: Taste, next: usize) -> Call {
     if random.one_in(taste.format_in) {
         return Call::Format;
     }
-    match random.below(21) {
+    match random.below(22) {
         0..=3 => Call::Create(draft(random, taste)),
         4..=7 => Call::Update(mfn(random, next), draft(random, taste)),
         8 => Call::Delete(mfn(random, next)),
@@ -98,8 +99,32 @@ pub fn call(random: &mut Random, taste: Taste, next: usize) -> Call {
         14..=16 => Call::view(mfn(random, next), tag(random), occurrence(random)),
         17..=18 => Call::view_settled(mfn(random, next), tag(random), occurrence(random)),
         19 => Call::Migrate,
+        20 => settle_list(random, next),
         _ => Call::Check,
     }
+}
+
+/// A list of MFNs to settle, mostly short: some of them again, and a list for the answers
+/// that is mostly as long. A few lists are about the longest.
+pub fn settle_list(random: &mut Random, next: usize) -> Call {
+    let most = MOST_SETTLED;
+    let count = match random.below(200) {
+        0 => random.pick(&[most - 1, most, most + 1]),
+        1..=20 => random.below(2),
+        _ => random.below(9),
+    };
+    let mut mfns: Vec<u32> = (0..count).map(|_| mfn(random, next)).collect();
+    if count > 1 && random.one_in(3) {
+        let (from, to) = (random.below(count), random.below(count));
+        mfns[to] = mfns[from];
+    }
+    let room = match random.below(12) {
+        0 => count + 1,
+        1 => count.saturating_sub(1),
+        2 => random.below(9),
+        _ => count,
+    };
+    Call::SettleList { mfns, room }
 }
 
 /// An MFN: mostly one that was given out, sometimes any number.

@@ -1,14 +1,14 @@
 //! What a call gave, so that the byte store, the ledger and the library can be compared.
 
 use crate::answer::{Refusal, number};
-use crate::ask::{Lists, State};
+use crate::ask::{Lists, RUBBISH, State};
 use crate::ledger::Fields;
 use crate::store::Indexed;
 use std::ops::Range;
 
 /// What a call gave: its answer number; the MFN of a create or of the next one, and the
 /// end; the field that is shown, and its tag where the call names none; the state of a
-/// record as two numbers; all fields of one.
+/// record as two numbers; all fields of one; the answers of a list of MFNs.
 #[derive(Clone, Debug, PartialEq, Eq, Default)]
 #[allow(missing_docs)]
 pub struct Outcome {
@@ -20,15 +20,17 @@ pub struct Outcome {
     pub mark: u32,
     pub deleted: u32,
     pub fields: Fields,
+    pub answers: Vec<u32>,
 }
 
-/// Where in the MST stands what a call shows: the part of a field (0..0 if none), and the
-/// lists that were lent for all fields, whole.
+/// Where in the MST stands what a call shows: the part of a field (0..0 if none); the lists
+/// that were lent for all fields, and the one for answers, whole.
 #[derive(Clone, Debug, PartialEq, Eq, Default)]
 #[allow(missing_docs)]
 pub struct Shown {
     pub part: Range<usize>,
     pub lists: Lists,
+    pub answers: Vec<u32>,
 }
 
 impl Outcome {
@@ -78,6 +80,14 @@ impl Outcome {
         }
     }
 
+    pub(crate) fn settled(result: Result<Vec<u32>, Refusal>) -> Outcome {
+        Outcome {
+            number: number(&result),
+            answers: result.unwrap_or_default(),
+            ..Outcome::default()
+        }
+    }
+
     pub(crate) fn listed(result: Result<Fields, Refusal>) -> Outcome {
         Outcome {
             number: number(&result),
@@ -111,7 +121,26 @@ impl Shown {
         let result = call(&mut lists);
         let outcome = Outcome::listed(result.map(|count| lists.fields(mst, count)));
         let part = 0..0;
-        (outcome, Shown { part, lists })
+        let shown = Shown {
+            lists,
+            ..Shown::at(part)
+        };
+        (outcome, shown)
+    }
+
+    /// The outcome of a list of MFNs, with the list of so many answers that it was lent.
+    pub(crate) fn settled(
+        room: usize,
+        call: impl FnOnce(&mut [u32]) -> Result<(), Refusal>,
+    ) -> (Outcome, Shown) {
+        let mut answers = vec![u32::from_ne_bytes([RUBBISH; 4]); room];
+        let result = call(&mut answers);
+        let outcome = Outcome::settled(result.map(|()| answers.clone()));
+        let shown = Shown {
+            answers,
+            ..Shown::default()
+        };
+        (outcome, shown)
     }
 
     fn at(part: Range<usize>) -> Shown {

@@ -1,7 +1,7 @@
 //! The calls on the bytes. Each asks for the refusals in the order of their
 //! numbers and writes only after the last of them.
 
-use crate::answer::Refusal;
+use crate::answer::{Refusal, number};
 use crate::bytes::{i32_at, put_i32, put_u16, u16_at};
 use crate::draft::{Draft, need};
 use crate::layout::{
@@ -248,6 +248,31 @@ pub fn settle(mst: &mut [u8], xrf: &mut [u8], mfn: u32) -> Answer<()> {
         ..found.place
     };
     put_i32(xrf, slot_at(found.mfn), settled.encode());
+    Ok(())
+}
+
+/// The most MFNs of a list that is settled in one call.
+pub const MOST_SETTLED: usize = 4096;
+
+/// Whether a list of MFNs and one for their answers are equally long and not over-long.
+pub fn lists_right(mfns: usize, answers: usize) -> bool {
+    mfns == answers && mfns <= MOST_SETTLED
+}
+
+/// Settles each MFN of a list in order; its answer's number goes to the same place of the
+/// other list. Answers 17, before anything is read, if the two lists are not right.
+pub fn settle_list(
+    mst: &mut [u8],
+    xrf: &mut [u8],
+    mfns: &[u32],
+    answers: &mut [u32],
+) -> Answer<()> {
+    if !lists_right(mfns.len(), answers.len()) {
+        return Err(Refusal::NoRoomInList);
+    }
+    for (&mfn, answer) in mfns.iter().zip(answers) {
+        *answer = number(&settle(mst, xrf, mfn));
+    }
     Ok(())
 }
 

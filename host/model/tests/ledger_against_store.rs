@@ -84,7 +84,7 @@ fn random_lists_agree_and_every_answer_comes() {
     for seed in 3000..3004 {
         came.extend(run(seed, (400, 1), Taste::SHORT, 2_500));
     }
-    assert_eq!(came, common::from_format(16));
+    assert_eq!(came, common::from_format(17));
 }
 
 #[test]

@@ -42,7 +42,13 @@ fn an_old_card_is_refused_until_it_is_migrated_once() {
             }
             let before = old.clone();
             let (outcome, _) = on_bytes(&mut old.mst, &mut old.xrf, &call);
-            assert_eq!(outcome.number, 2, "seed {seed}: {call:?}");
+            if let Call::SettleList { mfns, .. } = &call {
+                let refused = outcome.number == 17 && outcome.answers.is_empty();
+                let each = outcome.number == 0 && outcome.answers == vec![2; mfns.len()];
+                assert!(refused || each, "seed {seed}: {call:?}");
+            } else {
+                assert_eq!(outcome.number, 2, "seed {seed}: {call:?}");
+            }
             assert_eq!(old, before, "seed {seed}: {call:?}");
         }
         assert_eq!(old.migrate(), Ok(()), "seed {seed}");

@@ -10,7 +10,7 @@ mod subject {
     pub use model::index::{check as check_index, lookup};
     pub use model::store::{
         Answer, Indexed, check, create, delete, field, field_settled, format, migrate, revert,
-        settle, update, view, view_settled,
+        settle, settle_list, update, view, view_settled,
     };
 }
 
@@ -21,7 +21,7 @@ const EXPECTED: &str = include_str!("../examples/outcomes/expected.txt");
 
 /// The calls and the answers that the paper's table gives to each; a field by its
 /// index is answered as a view, and the calls that tell something as the header says.
-const ANSWERS: [(&str, &[u32]); 18] = [
+const ANSWERS: [(&str, &[u32]); 19] = [
     ("format", &[0, 1]),
     ("view", &[0, 1, 2, 4, 6, 7, 8, 9, 12]),
     ("settled view", &[0, 1, 2, 4, 6, 7, 8, 9, 11, 12]),
@@ -32,6 +32,7 @@ const ANSWERS: [(&str, &[u32]); 18] = [
     ("revert", &[0, 1, 2, 4, 6, 7, 8, 10, 11]),
     ("check", &[0, 1, 2, 14]),
     ("migrate", &[0, 1, 2]),
+    ("settle list", &[0, 17]),
     ("field", &[0, 1, 2, 4, 6, 7, 8, 9, 12]),
     ("settled field", &[0, 1, 2, 4, 6, 7, 8, 9, 11, 12]),
     ("next", &[0, 1, 2]),

@@ -47,9 +47,9 @@ fn read(text: &str) -> Vec<List> {
     while let Some(mst_len) = numbers.next() {
         let mut next = || numbers.next().unwrap() as usize;
         let [xrf_len, answer_room, shown_room] = [next(), next(), next()];
-        let counts = [next(), next(), next(), next()];
+        let counts = [next(), next(), next(), next(), next()];
         let mut some = |count: usize| -> Vec<u32> { numbers.by_ref().take(count).collect() };
-        let [calls, tags, lens, bytes] = counts.map(&mut some);
+        let [calls, mfns, tags, lens, bytes] = counts.map(&mut some);
         lists.push(List {
             title: "",
             mst_len: mst_len as usize,
@@ -57,6 +57,7 @@ fn read(text: &str) -> Vec<List> {
             answer_room,
             shown_room,
             numbers: calls,
+            mfns,
             tags: tags.iter().map(|&tag| tag.try_into().unwrap()).collect(),
             lens: lens.iter().map(|&len| len.try_into().unwrap()).collect(),
             bytes: bytes.iter().map(|&byte| byte.try_into().unwrap()).collect(),
@@ -84,9 +85,10 @@ fn the_lists_fit_into_the_programs_buffers() {
         let title = list.title;
         assert!(!title.contains(|c: char| c.is_ascii_digit()), "{title}");
         assert!(list.mst_len <= 32_768 && list.xrf_len <= 1_024, "{title}");
-        assert!(list.answer_room <= 4_096, "{title}");
+        assert!(list.answer_room <= 16_384, "{title}");
         assert!(list.shown_room <= 16_384, "{title}");
         assert!(list.numbers.len() <= 8_192, "{title}");
+        assert!(list.mfns.len() <= 16_384, "{title}");
         assert!(list.tags.len() <= 2_048, "{title}");
         assert!(list.lens.len() <= 2_048, "{title}");
         assert!(list.bytes.len() <= 16_384, "{title}");
@@ -99,8 +101,8 @@ fn the_lists_fit_into_the_programs_buffers() {
 #[test]
 fn the_worked_run_is_the_papers() {
     let lines = text::replay(&by_ledger(&lists::worked_run()));
-    let wanted = "ended 9\n0 1 0\n0 0 0\n0 0 0\n0 0 0\n0 0 5 Kites\n0 0 3 Kit\n0 0 0\n0 0 3 Kit\n\
-                  0 0 0\nNXTMFN 2 NXTMFB 1 NXTMFP 123\n";
+    let wanted = "ended 9\n0 1 0 0\n0 0 0 0\n0 0 0 0\n0 0 0 0\n0 0 5 0 Kites\n0 0 3 0 Kit\n0 0 0 0\n\
+                  0 0 3 0 Kit\n0 0 0 0\nNXTMFN 2 NXTMFB 1 NXTMFP 123\n";
     assert_eq!(lines, wanted);
     assert!(file("stdout").starts_with(wanted));
 }
@@ -116,12 +118,15 @@ fn answers(list: &List) -> BTreeSet<(u32, u32)> {
 
 #[test]
 fn the_long_list_reaches_every_answer_of_every_call() {
-    let wanted = common::from_format(10);
+    let wanted = common::from_format(11);
     assert_eq!(answers(&lists::catalogue()), wanted);
     let all: BTreeSet<(u32, u32)> = lists::all().iter().flat_map(answers).collect();
     assert_eq!(all, wanted);
     let numbers: BTreeSet<u32> = all.iter().map(|(_, answer)| *answer).collect();
-    assert_eq!(numbers, BTreeSet::from([0, 2, 3, 4, 5, 9, 10, 11, 12, 13]));
+    assert_eq!(
+        numbers,
+        BTreeSet::from([0, 2, 3, 4, 5, 9, 10, 11, 12, 13, 17])
+    );
 }
 
 #[test]
@@ -243,18 +248,22 @@ fn every_stop_comes_for_every_reason() {
         "update with a tag too many",
         "update with a length too many",
         "update with a byte too many",
+        "a list with an MFN too many",
     ] {
         assert_eq!(stop(title), (Stop::Malformed, 1), "{title}");
     }
     assert_eq!(stop("one number alone"), (Stop::Malformed, 0));
     assert_eq!(stop("an empty list"), (Stop::Ended, 0));
-    assert_eq!(stop("room for two numbers"), (Stop::NoRoom, 0));
+    assert_eq!(stop("room for three numbers"), (Stop::NoRoom, 0));
     assert_eq!(stop("room for one call"), (Stop::NoRoom, 1));
     assert_eq!(stop("room for all calls but the last"), (Stop::NoRoom, 6));
     assert_eq!(stop("a byte short at the first view"), (Stop::NoRoom, 1));
     assert_eq!(stop("enough for the first view only"), (Stop::NoRoom, 4));
     assert_eq!(stop("a byte short at the second view"), (Stop::NoRoom, 4));
     assert_eq!(stop("room for all calls"), (Stop::Ended, 7));
+    let answers = "a list without room for its answers";
+    assert_eq!(stop(answers), (Stop::NoRoom, 6));
+    assert_eq!(stop("a list whose answers just fit"), (Stop::Ended, 8));
     for title in ["MST a byte short", "XRF a byte short", "MST empty"] {
         assert_eq!(stop(title), (Stop::BadLength, 0), "{title}");
     }

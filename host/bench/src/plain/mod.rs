@@ -38,6 +38,7 @@ pub mod called {
         store::field_settled(mst: &[u8], xrf: &[u8], mfn: u32, index: usize) -> (u32, u16, usize, usize);
         store::delete(mst: &mut [u8], xrf: &mut [u8], mfn: u32) -> u32;
         store::settle(mst: &mut [u8], xrf: &mut [u8], mfn: u32) -> u32;
+        store::settle_list(mst: &mut [u8], xrf: &mut [u8], mfns: &[u32], answers: &mut [u32]) -> u32;
         store::revert(mst: &[u8], xrf: &mut [u8], mfn: u32) -> u32;
         write::migrate(mst: &mut [u8], xrf: &[u8]) -> u32;
         check::check(mst: &[u8], xrf: &[u8]) -> u32;
@@ -54,7 +55,9 @@ pub mod called {
 pub mod inlined {
     pub use super::check::check;
     pub use super::index::{check_index, lookup};
-    pub use super::store::{delete, field, field_settled, revert, settle, view, view_settled};
+    pub use super::store::{
+        delete, field, field_settled, revert, settle, settle_list, view, view_settled,
+    };
     pub use super::tell::{fields, fields_settled, next, state};
     pub use super::write::{create, format, migrate, update};
 }

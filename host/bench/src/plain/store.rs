@@ -148,18 +148,36 @@ fn copy_deleted(mst: &mut [u8], found: &Found) -> Result<usize, u32> {
 /// Makes a pending change final.
 #[inline(always)]
 pub fn settle(mst: &mut [u8], xrf: &mut [u8], mfn: u32) -> u32 {
-    let mut act = || {
-        let found = found(mst, xrf, gate(mst, xrf)?, mfn)?;
-        if found.place.mark == SETTLED {
-            return Err(10);
-        }
-        let (at, deleted) = (found.record.at, found.place.deleted);
-        mst[at + 6..at + 12].fill(0);
-        let slot = slot(found.mfn);
-        xrf[slot..slot + 4].copy_from_slice(&entry_of(at, SETTLED, deleted).to_le_bytes());
-        Ok(())
-    };
-    number(act())
+    let control = gate(mst, xrf);
+    number(control.and_then(|control| settle_behind(mst, xrf, control, mfn)))
+}
+
+/// The same behind the gate.
+#[inline(always)]
+fn settle_behind(mst: &mut [u8], xrf: &mut [u8], control: Control, mfn: u32) -> Result<(), u32> {
+    let found = found(mst, xrf, control, mfn)?;
+    if found.place.mark == SETTLED {
+        return Err(10);
+    }
+    let (at, deleted) = (found.record.at, found.place.deleted);
+    mst[at + 6..at + 12].fill(0);
+    let slot = slot(found.mfn);
+    xrf[slot..slot + 4].copy_from_slice(&entry_of(at, SETTLED, deleted).to_le_bytes());
+    Ok(())
+}
+
+/// Settles each MFN of a list. A settle changes no length and nothing of the control record,
+/// so the gate is asked once.
+#[inline(always)]
+pub fn settle_list(mst: &mut [u8], xrf: &mut [u8], mfns: &[u32], answers: &mut [u32]) -> u32 {
+    if mfns.len() != answers.len() || mfns.len() > 4_096 {
+        return 17;
+    }
+    let control = gate(mst, xrf);
+    for (&mfn, answer) in mfns.iter().zip(answers) {
+        *answer = number(control.and_then(|control| settle_behind(mst, xrf, control, mfn)));
+    }
+    0
 }
 
 /// Makes the settled version current again.

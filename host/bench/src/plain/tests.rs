@@ -4,7 +4,7 @@ use super::called;
 use differential::index::cases;
 use differential::index::compare::{Case, Family};
 use model::Refusal;
-use model::ask::{Lists, Room};
+use model::ask::{Lists, RUBBISH, Room};
 use model::call::{Call, Outcome, Shown, on_bytes};
 use model::index::{check, lookup};
 use model::lists::{self, Taste};
@@ -36,6 +36,7 @@ fn run(mst: &mut [u8], xrf: &mut [u8], call: &Call) -> (Outcome, Shown) {
             (number, outcome.mark, outcome.deleted) = called::state(mst, xrf, *mfn);
             number
         }
+        Call::SettleList { mfns, room } => return settled(mst, xrf, mfns, *room),
         Call::Fields { room, .. } | Call::FieldsSettled { room, .. } => {
             return listed(mst, xrf, call, *room);
         }
@@ -70,7 +71,12 @@ fn shown(mst: &[u8], xrf: &[u8], call: &Call) -> (Outcome, Shown) {
         ..Outcome::default()
     };
     let lists = Lists::default();
-    (outcome, Shown { part, lists })
+    let shown = Shown {
+        part,
+        lists,
+        ..Shown::default()
+    };
+    (outcome, shown)
 }
 
 /// The outcome of the calls that hand out all fields.
@@ -87,7 +93,12 @@ fn listed(mst: &[u8], xrf: &[u8], call: &Call, room: Room) -> (Outcome, Shown) {
         ..Outcome::default()
     };
     let part = 0..0;
-    (outcome, Shown { part, lists })
+    let shown = Shown {
+        part,
+        lists,
+        ..Shown::default()
+    };
+    (outcome, shown)
 }
 
 /// On lists from format, damaged now and then.
@@ -119,6 +130,26 @@ fn the_plain_program_does_the_same_as_the_model() {
             call = lists::any_call(&mut random, Taste::SHORT, 12);
         }
     }
+}
+
+/// A list of MFNs, with the list of so many answers that it was lent.
+fn settled(mst: &mut [u8], xrf: &mut [u8], mfns: &[u32], room: usize) -> (Outcome, Shown) {
+    let mut answers = vec![u32::from_ne_bytes([RUBBISH; 4]); room];
+    let number = called::settle_list(mst, xrf, mfns, &mut answers);
+    let outcome = Outcome {
+        number,
+        answers: if number == 0 {
+            answers.clone()
+        } else {
+            Vec::new()
+        },
+        ..Outcome::default()
+    };
+    let shown = Shown {
+        answers,
+        ..Shown::default()
+    };
+    (outcome, shown)
 }
 
 /// The number of a lookup or a check by the model, with what it gives.

@@ -9,7 +9,7 @@ mod subject {
     pub use model::index::{check as check_index, lookup};
     pub use model::store::{
         Answer, Indexed, check, create, delete, field, field_settled, format, migrate, revert,
-        settle, update, view, view_settled,
+        settle, settle_list, update, view, view_settled,
     };
 }
 

@@ -67,7 +67,11 @@ fn creates(calls: &mut Vec<Call>) {
 /// Every other record settled, and some of them once more.
 fn settles(calls: &mut Vec<Call>) {
     calls.extend((1..=FIRST).step_by(2).map(Call::Settle));
-    calls.extend([Call::Settle(25), Call::Settle(75), Call::Check]);
+    calls.extend([Call::Settle(25), Call::Settle(75)]);
+    calls.push(Call::settle_list([25, 1, 0, 60, 101, 60]));
+    let (mfns, room) = (vec![58, 60], 1);
+    calls.push(Call::SettleList { mfns, room });
+    calls.push(Call::Check);
 }
 
 /// Updates of settled and new records; then shorter and longer ones of some of these.

@@ -1,16 +1,18 @@
 //! The lists that `replay_run` is given: the worked run of document 01, two long ones,
 //! the ends that rows P9 to P12 name, and short ones for every stop.
 
-use super::{CALL, List, catalogue};
+use super::{CALL, List, REPORT, catalogue};
 use crate::call::{Call, OwnedDraft, on_ledger};
 use crate::layout::BLOCK;
 use crate::ledger::Ledger;
 use crate::lists::{self, Taste};
 use crate::random::Random;
+use crate::store::MOST_SETTLED;
 
 /// All lists, in the order of the text.
 pub fn all() -> Vec<List> {
     let mut all = vec![worked_run(), catalogue(), random(1988)];
+    all.extend(settled_lists());
     all.extend(ends());
     all.extend(stops());
     all.extend(malformed());
@@ -26,7 +28,7 @@ fn title(text: &str) -> OwnedDraft {
 
 /// A list on a store of one block and one block.
 fn small(title: &'static str, calls: &[Call]) -> List {
-    List::of(title, (BLOCK, BLOCK), calls).room(30, 30)
+    List::of(title, (BLOCK, BLOCK), calls).room(40, 30)
 }
 
 /// "One run, one-block XRF", with both views in between.
@@ -71,6 +73,9 @@ fn random(seed: u64) -> List {
             let letter = |byte: &mut u8| *byte = b'a' + *byte % 26;
             draft.data.iter_mut().for_each(letter);
         }
+        if matches!(&call, Call::SettleList { mfns, .. } if mfns.len() > 100) {
+            continue;
+        }
         on_ledger(&mut ledger, &call);
         calls.push(call);
     }
@@ -104,14 +109,56 @@ fn ends() -> Vec<List> {
             (2 * BLOCK, BLOCK),
             &[long(436), long(514)],
         )
-        .room(6, 0),
+        .room(8, 0),
         List::of(
             "two blocks, one record each",
             (2 * BLOCK, BLOCK),
             &[long(436), long(512)],
         )
-        .room(6, 0),
+        .room(8, 0),
         List::of("two blocks of entries", (8 * BLOCK, 2 * BLOCK), &two_blocks).exact_room(),
+    ]
+}
+
+/// Lists of MFNs: empty, with every answer that a settle has in a list, the same MFN again,
+/// lists that are not equally long, the longest and one that is longer, and rooms that are
+/// just large enough for the answers and one too small.
+fn settled_lists() -> Vec<List> {
+    let records = [
+        Call::Create(title("Kite")),
+        Call::Create(title("Kit")),
+        Call::Create(title("Key")),
+        Call::Delete(2),
+        Call::Settle(3),
+        Call::Update(3, title("Keys")),
+    ];
+    let with = |calls: &[Call]| [&records[..], calls, &[Call::Check]].concat();
+    let mixed = [0, 3, 1, 1, 4, 2, 3, u32::MAX, 2];
+    let shown = [
+        Call::settle_list([]),
+        Call::settle_list(mixed),
+        Call::settle_list(mixed),
+        Call::view_settled(1, 24, 1),
+        Call::view(2, 24, 1),
+        Call::view_settled(3, 24, 1),
+        Call::Revert(3),
+    ];
+    let unequal = [(2, 1), (1, 2), (0, 1), (1, 0)].map(|(mfns, room)| Call::SettleList {
+        mfns: vec![1; mfns],
+        room,
+    });
+    let repeated = |count: usize| Call::settle_list((0..count as u32).map(|i| i % 4));
+    let long = with(&[repeated(MOST_SETTLED + 1), repeated(MOST_SETTLED)]);
+    let (lengths, list) = ((BLOCK, BLOCK), with(&[Call::settle_list([1, 2, 1])]));
+    let all = List::of("a list whose answers just fit", lengths, &list).exact_room();
+    let (numbers, bytes) = (all.answer_room, all.shown_room);
+    let short = List::of("a list without room for its answers", lengths, &list);
+    vec![
+        List::of("lists of MFNs", lengths, &with(&shown)).exact_room(),
+        List::of("unequal lists", lengths, &with(&unequal)).exact_room(),
+        List::of("the longest list and one too long", lengths, &long).exact_room(),
+        short.room(numbers - REPORT - 1, bytes),
+        all,
     ]
 }
 
@@ -177,7 +224,8 @@ fn malformed() -> Vec<List> {
     vec![
         small("one number alone", &[]).with_numbers(0, &[8]),
         one("four numbers left", &[8, 0, 0, 0]),
-        one("a call of no name", &[10, 0, 0, 0, 0]),
+        one("a call of no name", &[11, 0, 0, 0, 0]),
+        one("a list with an MFN too many", &[10, 0, 1, 1, 0]),
         one("a call of no name, far off", &[u32::MAX, 1, 24, 1, 0]),
         one("view of a tag too large", &[1, 1, 65536, 1, 0]),
         one("settled view of a tag too large", &[2, 1, 65536 + 24, 1, 0]),
@@ -209,16 +257,16 @@ fn rooms() -> Vec<List> {
     let list = |title_of_list, answers, shown| small(title_of_list, &calls).room(answers, shown);
     vec![
         list("no number of room", 0, 9),
-        list("room for two numbers", 2, 9),
-        list("room for one call", 3, 9),
-        list("room for one call and two numbers", 5, 9),
-        list("room for three calls, the next a create", 9, 9),
-        list("room for all calls but the last", 20, 9),
-        list("room for all calls", 21, 9),
-        list("no byte of room", 21, 0),
-        list("a byte short at the first view", 21, 3),
-        list("enough for the first view only", 21, 4),
-        list("a byte short at the second view", 21, 8),
+        list("room for three numbers", 3, 9),
+        list("room for one call", 4, 9),
+        list("room for one call and three numbers", 7, 9),
+        list("room for three calls, the next a create", 12, 9),
+        list("room for all calls but the last", 27, 9),
+        list("room for all calls", 28, 9),
+        list("no byte of room", 28, 0),
+        list("a byte short at the first view", 28, 3),
+        list("enough for the first view only", 28, 4),
+        list("a byte short at the second view", 28, 8),
     ]
 }
 

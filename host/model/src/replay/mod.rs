@@ -1,7 +1,8 @@
 //! What a replay of a list of calls says, by the ledger alone.
 //!
-//! A list is two buffer lengths, five numbers for each call, and three lists from
-//! which creates and updates take their drafts, one after the other. A replay
+//! A list is two buffer lengths, five numbers for each call, a list from which the lists
+//! that are settled take their MFNs, and three from which creates and updates take their
+//! drafts, one after the other. A replay
 //! formats the buffers, runs the calls in order and stops at the end of the list, at
 //! what is no call, or at the first call whose outcome has no room. [`lists`] has the
 //! lists that the program `replay_run` is given, and [`text`] what it reads and prints.
@@ -12,11 +13,13 @@ pub mod text;
 
 use crate::call::{Call, Outcome, OwnedDraft, on_ledger};
 use crate::ledger::Ledger;
+use crate::store::lists_right;
 
 /// Numbers that a call takes.
 pub const CALL: usize = 5;
-/// Numbers that a call reports: answer, MFN, length shown.
-pub const REPORT: usize = 3;
+/// Numbers that a call reports: answer, MFN, length shown, how many answers are listed.
+/// Those answers follow them.
+pub const REPORT: usize = 4;
 
 /// A list of calls as numbers, with the buffers and the room that it is given.
 #[derive(Clone, Debug, PartialEq, Eq, Default)]
@@ -33,6 +36,8 @@ pub struct List {
     pub shown_room: usize,
     /// Five numbers for each call.
     pub numbers: Vec<u32>,
+    /// The MFNs of all lists that are settled.
+    pub mfns: Vec<u32>,
     /// The tags of all drafts.
     pub tags: Vec<u16>,
     /// The lengths of all drafts.
@@ -112,7 +117,9 @@ impl List {
         let all = self.room(usize::MAX, usize::MAX);
         let turns = by_ledger(&all).turns;
         let shown = turns.iter().map(|(_, outcome)| outcome.field.len()).sum();
-        all.room(REPORT * turns.len(), shown)
+        let listed = turns.iter().map(|(_, outcome)| outcome.answers.len());
+        let numbers = REPORT * turns.len() + listed.sum::<usize>();
+        all.room(numbers, shown)
     }
 
     /// Adds a call at the end.
@@ -136,6 +143,10 @@ impl List {
             Call::Revert(mfn) => [7, mfn, 0, 0, 0],
             Call::Check => [8, 0, 0, 0, 0],
             Call::Migrate => [9, 0, 0, 0, 0],
+            Call::SettleList { ref mfns, room } => {
+                self.mfns.extend(mfns);
+                [10, 0, mfns.len() as u32, room as u32, 0]
+            }
             _ => panic!("a list has the calls of demand 3 only"),
         };
         self.numbers.extend(numbers);
@@ -151,8 +162,9 @@ impl List {
         [call, mfn, tags, lens, data]
     }
 
-    /// Runs the calls on whatever answers them, up to the stop. That a view without
-    /// room is asked here makes no difference: a view changes nothing.
+    /// Runs the calls on whatever answers them, up to the stop. A list that has no room for
+    /// its answers is not settled. That a view without room is asked here makes no
+    /// difference: a view changes nothing.
     pub fn run(&self, mut answer: impl FnMut(&Call) -> Outcome) -> (Stop, Turns) {
         let mut left = Left::of(self);
         let (mut answer_room, mut shown_room) = (self.answer_room, self.shown_room);
@@ -161,14 +173,15 @@ impl List {
             let Some(call) = left.next_call() else {
                 return (Stop::Malformed, turns);
             };
-            if answer_room < REPORT {
+            let numbers = REPORT + answers_of(&call);
+            if answer_room < numbers {
                 return (Stop::NoRoom, turns);
             }
             let outcome = answer(&call);
             if outcome.field.len() > shown_room {
                 return (Stop::NoRoom, turns);
             }
-            answer_room -= REPORT;
+            answer_room -= numbers;
             shown_room -= outcome.field.len();
             turns.push((call, outcome));
         }
@@ -176,9 +189,18 @@ impl List {
     }
 }
 
-/// What is left of a list's four lists of numbers.
+/// How many answers a call lists.
+fn answers_of(call: &Call) -> usize {
+    match call {
+        Call::SettleList { mfns, room } if lists_right(mfns.len(), *room) => mfns.len(),
+        _ => 0,
+    }
+}
+
+/// What is left of a list's five lists of numbers.
 struct Left<'a> {
     numbers: &'a [u32],
+    mfns: &'a [u32],
     tags: &'a [u16],
     lens: &'a [u16],
     bytes: &'a [u8],
@@ -188,6 +210,7 @@ impl<'a> Left<'a> {
     fn of(list: &'a List) -> Left<'a> {
         Left {
             numbers: &list.numbers,
+            mfns: &list.mfns,
             tags: &list.tags,
             lens: &list.lens,
             bytes: &list.bytes,
@@ -208,6 +231,10 @@ impl<'a> Left<'a> {
             7 => Call::Revert(mfn),
             8 => Call::Check,
             9 => Call::Migrate,
+            10 => Call::SettleList {
+                mfns: take(&mut self.mfns, second)?,
+                room: third as usize,
+            },
             _ => return None,
         };
         self.numbers = rest;

@@ -8,22 +8,24 @@ use crate::call::Call;
 use crate::layout::{COUNT_FROM, block_and_offset};
 use std::fmt::{Display, Write};
 
-/// How many calls a list can have: the nine of document 01 and the migration, by their kind.
-const LISTED: usize = 10;
+/// How many calls a list can have: the nine of document 01, the migration and the list of
+/// MFNs, by their kind.
+const LISTED: usize = 11;
 
-/// Numbers of the three draft lists on one line.
+/// Numbers of the MFNs and of the three draft lists on one line.
 const PER_LINE: usize = 20;
 
 /// A list as text.
 pub fn list(list: &List) -> String {
     let mut text = format!(
-        "{}\nMST {} XRF {} answers {} shown {} numbers {} tags {} lengths {} bytes {}\n",
+        "{}\nMST {} XRF {} answers {} shown {} numbers {} MFNs {} tags {} lengths {} bytes {}\n",
         list.title,
         list.mst_len,
         list.xrf_len,
         list.answer_room,
         list.shown_room,
         list.numbers.len(),
+        list.mfns.len(),
         list.tags.len(),
         list.lens.len(),
         list.bytes.len(),
@@ -31,6 +33,8 @@ pub fn list(list: &List) -> String {
     for numbers in list.numbers.chunks(CALL) {
         put(&mut text, name(numbers), numbers);
     }
+    let lines = list.mfns.chunks(PER_LINE);
+    lines.for_each(|mfns| put(&mut text, "MFNs", mfns));
     let lines = list.tags.chunks(PER_LINE);
     lines.for_each(|tags| put(&mut text, "tags", tags));
     let lines = list.lens.chunks(PER_LINE);
@@ -67,11 +71,11 @@ pub fn replay(replay: &Replay) -> String {
     let mut lines = format!("{stop} {}\n", replay.turns.len());
     for (_, outcome) in &replay.turns {
         let (number, mfn, len) = (outcome.number, outcome.mfn, outcome.field.len());
-        write!(lines, "{number} {mfn} {len}").unwrap();
+        write!(lines, "{number} {mfn} {len} {}", outcome.answers.len()).unwrap();
         if len > 0 {
             write!(lines, " {}", String::from_utf8_lossy(&outcome.field)).unwrap();
         }
-        lines.push('\n');
+        put(&mut lines, "", &outcome.answers);
     }
     if let Some((next_mfn, end)) = replay.kept {
         let (block, offset) = block_and_offset(end);

@@ -7,7 +7,7 @@ use std::collections::BTreeSet;
 
 /// Every answer that a list from format can give, by the call's number in a list; then
 /// the two fields by index, and the calls that tell something.
-pub const FROM_FORMAT: [(u32, &[u32]); 16] = [
+pub const FROM_FORMAT: [(u32, &[u32]); 17] = [
     (0, &[0]),
     (1, &[0, 4, 9, 12]),
     (2, &[0, 4, 9, 11, 12]),
@@ -18,12 +18,13 @@ pub const FROM_FORMAT: [(u32, &[u32]); 16] = [
     (7, &[0, 4, 10, 11]),
     (8, &[0]),
     (9, &[2]),
-    (10, &[0, 4, 9, 12]),
-    (11, &[0, 4, 9, 11, 12]),
-    (12, &[0]),
-    (13, &[0, 4]),
-    (14, &[0, 4, 9, 17]),
-    (15, &[0, 4, 9, 11, 17]),
+    (10, &[0, 17]),
+    (11, &[0, 4, 9, 12]),
+    (12, &[0, 4, 9, 11, 12]),
+    (13, &[0]),
+    (14, &[0, 4]),
+    (15, &[0, 4, 9, 17]),
+    (16, &[0, 4, 9, 11, 17]),
 ];
 
 /// The first `calls` rows of it as pairs.

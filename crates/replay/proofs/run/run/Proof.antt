@@ -11,14 +11,14 @@ use Rattle.replay.proofs.run.run.Statement.{statement}
 use Rattle.replay.proofs.run.run.Tie as tie
 
 abbrev Inv-loop : tie.InvT-loop
-Inv-loop mst₀ xrf₀ ops tags lens «data» answers₀ shown₀ at₀ mst xrf answers shown at =
-    Going ops tags lens «data» (store mst₀ xrf₀) answers₀ shown₀ (store mst xrf) answers shown at × (length mst ≡ length mst₀) × (length xrf ≡ length xrf₀)
+Inv-loop mst₀ xrf₀ ops mfns tags lens «data» answers₀ shown₀ at₀ mst xrf answers shown at =
+    Going ops mfns tags lens «data» (store mst₀ xrf₀) answers₀ shown₀ (store mst xrf) answers shown at × (length mst ≡ length mst₀) × (length xrf ≡ length xrf₀)
 
 abbrev μ-loop : tie.MeasureT-loop
-μ-loop mst₀ xrf₀ ops tags lens «data» answers₀ shown₀ at₀ mst xrf answers shown at = length ops - at .calls
+μ-loop mst₀ xrf₀ ops mfns tags lens «data» answers₀ shown₀ at₀ mst xrf answers shown at = length ops - at .calls
 
 loop-holds : tie.Need-loop-holds Inv-loop μ-loop
-loop-holds c = (going-start _ _ _ _ _ _ _ _ refl, refl, refl)
+loop-holds c = (going-start _ _ _ _ _ _ _ _ _ refl, refl, refl)
 
 one-turn-requires : tie.Need-one-turn-requires Inv-loop μ-loop
 one-turn-requires c κs = c .before .before .before .before .loop .inv .0 .within

@@ -3,9 +3,6 @@ use borrow.Author.Needs.{needs}
 use Rattle.replay.proofs.turns.ask_turn.Statement.{statement}
 use Rattle.replay.proofs.turns.ask_turn.Tie as tie
 
-mul-i : tie.Need-mul-i
-mul-i c = search needs
-
 sub-if1 : tie.Need-sub-if1
 sub-if1 c = search needs
 
@@ -29,9 +26,11 @@ move-cursor-requires c κs =
     let draft = c .no-draft .ensures in
     record {
       calls-fit = search needs;
+      mfns-fit = rw draft (search needs);
       tags-fit = rw draft (search needs);
       lens-fit = rw draft (search needs);
       bytes-fit = rw draft (search needs);
+      numbers-fit = search needs;
       shown-fit = search needs;
     }
 
@@ -72,7 +71,6 @@ pub ask-turn-spec : {M : Type 1} → statement M
 ask-turn-spec =
     tie.close
     (tie.spec
-    mul-i
     sub-if1
     returns
     ask-requires

@@ -3,9 +3,6 @@ use borrow.Author.Needs.{needs}
 use Rattle.replay.proofs.turns.write_turn.Statement.{statement}
 use Rattle.replay.proofs.turns.write_turn.Tie as tie
 
-mul-i : tie.Need-mul-i
-mul-i c = search needs
-
 sub-if1 : tie.Need-sub-if1
 sub-if1 c = search needs
 
@@ -14,7 +11,15 @@ returns c = λ shown. search written-turns
 
 move-cursor-requires : tie.Need-move-cursor-requires
 move-cursor-requires c κs =
-    record { calls-fit = search needs; tags-fit = search needs; lens-fit = search needs; bytes-fit = search needs; shown-fit = search needs }
+    record {
+      calls-fit = search needs;
+      mfns-fit = search needs;
+      tags-fit = search needs;
+      lens-fit = search needs;
+      bytes-fit = search needs;
+      numbers-fit = search needs;
+      shown-fit = search needs;
+    }
 
 write-at-requires : tie.Need-write-at-requires
 write-at-requires c κs = search needs
@@ -41,7 +46,6 @@ pub write-turn-spec : {M : Type 1} → statement M
 write-turn-spec =
     tie.close
     (tie.spec
-    mul-i
     sub-if1
     returns
     move-cursor-requires

@@ -1,4 +1,4 @@
-use Rattle.script.proofs.Numbers.{place-three}
+use Rattle.script.proofs.Numbers.{place-four}
 use lib.ListN.{length-set}
 use native.Mathlib.Omega.{arith}
 use borrow.Author.Needs.{needs}
@@ -29,11 +29,20 @@ mul-answers-3 c = search needs
 slice-write-answers-3 : tie.Need-slice-write-answers-3
 slice-write-answers-3 c = simp length-set (omega arith)
 
+add-answers-3 : tie.Need-add-answers-3
+add-answers-3 c = search needs
+
+mul-answers-4 : tie.Need-mul-answers-4
+mul-answers-4 c = search needs
+
+slice-write-answers-4 : tie.Need-slice-write-answers-4
+slice-write-answers-4 c = simp length-set (omega arith)
+
 same-length : tie.Need-same-length
 same-length c = search needs
 
 returns : tie.Need-returns
-returns c = place-three _ _ _ _ _ (c .pre)
+returns c = place-four _ _ _ _ _ _ (c .pre)
 
 pub put-numbers-spec : {M : Type 1} → statement M
 put-numbers-spec =
@@ -47,5 +56,8 @@ put-numbers-spec =
     add-answers-2
     mul-answers-3
     slice-write-answers-3
+    add-answers-3
+    mul-answers-4
+    slice-write-answers-4
     same-length
     returns)

@@ -189,6 +189,23 @@ impl Card {
         self.plain(what, "settle", |mst, xrf| store::settle(mst, xrf, mfn));
     }
 
+    /// A list of MFNs, lent a list of so many answers that is full of rubbish: its answer, and
+    /// those of the list where it is done; where it is refused, the list is as it was.
+    pub fn settle_list(&mut self, what: &str, mfns: &[u32], room: usize) {
+        let mut answers = vec![0xEEEE_EEEE; room];
+        let run = |mst: &mut [u8], xrf: &mut [u8]| {
+            let result = store::settle_list(mst, xrf, mfns, &mut answers);
+            let kept = result.is_ok() || answers.iter().all(|&answer| answer == 0xEEEE_EEEE);
+            assert!(kept, "{what}");
+            result.map(|()| answers)
+        };
+        self.writing(what, "settle list", run, |answers| {
+            let answers = answers.unwrap_or_default();
+            let few = answers.iter().take(24).map(|answer| format!(" {answer}"));
+            format!(" of {}{}", answers.len(), few.collect::<String>())
+        });
+    }
+
     pub fn revert(&mut self, what: &str, mfn: u32) {
         self.plain(what, "revert", |mst, xrf| store::revert(mst, xrf, mfn));
     }

@@ -6,6 +6,7 @@
 pub mod card;
 mod index;
 mod limits;
+mod lists;
 mod marks;
 mod migration;
 mod order;
@@ -28,6 +29,7 @@ pub fn lines() -> String {
     order::run(&mut card);
     soundness_faults::run(&mut card);
     migration::run(&mut card);
+    lists::run(&mut card);
     refusals::lengths(&mut card);
     let mut large = Card::new(3584);
     limits::capacity(&mut large);

@@ -1,0 +1,3 @@
+pub mod Folding
+pub mod Lowest
+pub mod Theorems

@@ -1,0 +1,2 @@
+pub mod SettleList
+pub mod Theorems
