@@ -48,7 +48,19 @@ loop-less : tie.Need-loop-less Inv-loop μ-loop
 loop-less c = omega arith
 
 loop-again : tie.Need-loop-again Inv-loop μ-loop
-loop-again c = search settled-more
+loop-again c =
+    settled-more
+    (c .before .before .before .before .before .before .before .before .before .before .loop .inv)
+    _
+    _
+    _
+    _
+    (omega arith)
+    (c .before .before .before .before .before .settle .ensures .0)
+    (c .before .before .before .before .before .settle .ensures .1)
+    (search needs)
+    (search needs)
+    (c .number .ensures)
 
 same-length : tie.Need-same-length Inv-loop μ-loop
 same-length c = c .before .loop .inv .mst-long
