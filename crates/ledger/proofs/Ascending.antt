@@ -1,5 +1,4 @@
 -- The ledger's table of each call ascends, as the store's do, so that the first that applies is the lowest.
-use Prim.Native.Nat.{ℕ}
 use mathlib.Core.Path.{_≡_, refl}
 use mathlib.Core.Bool.{true}
 use Rattle.store.specs.Answer.{numberOf}

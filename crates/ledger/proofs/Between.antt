@@ -1,18 +1,17 @@
 -- What is kept of a pending record through a list of calls, whatever is done between to it or to others: the settled fields under changed, and
 -- under new that it was never settled. Both by one law about the mark.
-use Prim.Native.Nat.{ℕ, _+_, _-_, _≤_, _<_}
+use Prim.Native.Nat.{ℕ, _-_, _≤_}
 use native.Mathlib.Decide.{ℕ-discrete}
 use native.Mathlib.Omega.{arith}
-use mathlib.Core.Path.{_≡_, refl, sym, ap, _∙_}
+use mathlib.Core.Path.{_≡_, sym, ap, _∙_}
 use mathlib.Core.Bool.{Bool, true, false}
 use mathlib.Core.List.{List, [], _∷_}
-use lib.ListN.{length}
 use Rattle.word.proofs.Tests.{false-true}
 use Rattle.record.specs.Fields.{Field}
 use Rattle.settling.specs.Theorems.{among}
 use Rattle.ledger.specs.Call.{Call, format, settle, revert, settleList}
-use Rattle.ledger.specs.Ledger.{Marking, new, changed, Item, held, Ledger, nextMfn, lengthsFine, itemOf, keptFields, keptMark, isNewMark}
-use Rattle.ledger.specs.LedgerSteps.{Effect, itemSet, itemAdded, applied, lengthWith, versionMark, version, endWith, effectOf, nextL, afterL}
+use Rattle.ledger.specs.Ledger.{Marking, new, changed, Item, held, Ledger, lengthsFine, itemOf, keptMark, isNewMark}
+use Rattle.ledger.specs.LedgerSteps.{Effect, itemSet, itemAdded, applied, versionMark, version, effectOf, nextL, afterL}
 use Rattle.ledger.specs.History.{Every, every-none, every-more, LeavesPending, LeavesNew}
 use Rattle.ledger.proofs.Effects.{Known, Does, reads, empties, adds, changes, settles, settles-each, reverts, after-call, after-each, set-long, set-own, set-other, added-long, added-other}
 

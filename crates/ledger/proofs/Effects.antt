@@ -3,7 +3,7 @@
 use Prim.Native.Nat.{ℕ, _+_, _-_, _≤_, _<_}
 use native.Mathlib.Decide.{ℕ-discrete}
 use native.Mathlib.Omega.{arith}
-use mathlib.Core.Path.{_≡_, refl, ap, _∙_}
+use mathlib.Core.Path.{_≡_, refl}
 use mathlib.Core.Logic.{inl, inr}
 use mathlib.Core.Bool.{Bool, true, false, not}
 use mathlib.Core.List.{List, [], _∷_, _++_}
@@ -17,7 +17,6 @@ use Rattle.store.specs.declared.answer.Answer.{Answer}
 use Rattle.store.specs.declared.answer.Answer.the-variants.{Done, BadLength, NoMfn, NeverSettled}
 use Rattle.store.proofs.Gates.{number-done, after-done, after-refused}
 use Rattle.store.proofs.Lowest.{Applies}
-use Rattle.store.specs.Store.{store}
 use Rattle.settling.specs.Theorems.{among}
 use Rattle.settling.proofs.Theorems.{among-first, among-behind}
 use Rattle.drafts.specs.Draft.{Draft, fieldsIn}

@@ -1,7 +1,7 @@
 -- What specs/History states, on the store's own answers: each is a law of the ledger, carried to the bytes by demand 3.
 use Prim.Native.Nat.{ℕ}
 use mathlib.Core.Path.{_≡_, refl, sym, ap, _∙_}
-use mathlib.Core.Bool.{true, false}
+use mathlib.Core.Bool.{false}
 use mathlib.Core.List.{List, [], _∷_, _++_}
 use Rattle.layout.specs.declared.entry.Mark.the-variants.{Settled}
 use Rattle.layout.specs.declared.entry.Place.{Place}
@@ -10,8 +10,8 @@ use Rattle.store.specs.Reading.{currentFields}
 use Rattle.store.specs.declared.answer.Answer.the-variants.{Done}
 use Rattle.store.specs.Store.{Store}
 use Rattle.drafts.specs.Draft.{Draft}
-use Rattle.ledger.specs.Call.{Call, view, viewSettled, create, revert, Outcome, plain}
-use Rattle.ledger.specs.Ledger.{Marking, settled, held, Ledger, nextMfn, itemOf}
+use Rattle.ledger.specs.Call.{Call, view, viewSettled, create, revert, Outcome}
+use Rattle.ledger.specs.Ledger.{settled, held, Ledger, nextMfn, itemOf}
 use Rattle.ledger.specs.LedgerAnswers.{numberL, Given, nothing, theMfn, theField, theAnswers, givesL, outcomeOf, answerL}
 use Rattle.ledger.specs.LedgerSteps.{nextL, afterL}
 use Rattle.ledger.specs.StoreRun.{answerS, nextS, afterS}

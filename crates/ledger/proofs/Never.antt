@@ -1,6 +1,6 @@
 -- In a list of calls from format, 1, 2, 6, 7, 8 and 14 never come from document 01's own calls: the lengths stay right, and nothing makes a record
 -- gone. From a migration nothing but 2 comes, from a list of MFNs 0 and 17, and in it what its settles answer.
-use Prim.Native.Nat.{ℕ, _+_, _-_, _≤_, _<_}
+use Prim.Native.Nat.{ℕ, _-_, _≤_, _<_}
 use native.Mathlib.Omega.{arith}
 use native.Mathlib.Decide.{ℕ-discrete}
 use mathlib.Core.Path.{_≡_, refl, sym, ap, _∙_}
@@ -16,11 +16,10 @@ use Rattle.store.specs.declared.answer.Answer.{Answer}
 use Rattle.store.specs.declared.answer.Answer.the-variants.{Done, NoMfn}
 use Rattle.store.specs.Store.{store}
 use Rattle.store.proofs.Gates.{after-cases}
-use Rattle.ledger.specs.Call.{Call, format, view, viewSettled, create, update, delete, settle, revert, check, migrate, settleList, Outcome}
-use Rattle.ledger.specs.Ledger.{new, Item, gone, held, Ledger, nextMfn, empty, lengthsFine, mfnIn, itemOf, isGoneItem}
+use Rattle.ledger.specs.Call.{Call, format, view, viewSettled, create, update, delete, settle, revert, check, migrate, settleList}
+use Rattle.ledger.specs.Ledger.{new, Item, held, Ledger, nextMfn, empty, lengthsFine, mfnIn, itemOf, isGoneItem}
 use Rattle.ledger.specs.LedgerAnswers.{measured, named, settleRows, settledOne, answersEach, refusalsL, numberL, givesL, answerL, replyL}
 use Rattle.ledger.specs.LedgerSteps.{Effect, itemSet, itemAdded, applied, effectOf, nextL, answersL}
-use Rattle.ledger.specs.StoreRun.{nextS, answersS}
 use Rattle.ledger.specs.History.{MayCome, EachOwn, no-answer, one-more, AllMayCome, none, more, NeverCome}
 use Rattle.ledger.proofs.Effects.{Known, Does, reads, empties, adds, changes, settles, settles-each, reverts, in-range, after-call, one-is, after-each, set-long, set-own, set-other, added-long, added-own, added-other}
 use Rattle.ledger.proofs.Theorem.{demand-3}

@@ -7,7 +7,7 @@ use mathlib.Core.Path.{_≡_, refl, sym, ap, _∙_}
 use mathlib.Core.Bool.{Bool, true, false}
 use mathlib.Core.List.{List, [], _∷_}
 use lib.ListN.{length}
-use Rattle.files.specs.Control.{nextOf, endOf, formattedMst}
+use Rattle.files.specs.Control.{endOf, formattedMst}
 use Rattle.files.specs.CrossReference.{formattedXrf}
 use Rattle.drafts.proofs.Draftable.{draft-draftable}
 use Rattle.store.specs.Answer.{lowest, after}
@@ -23,12 +23,12 @@ use Rattle.soundness.proofs.Asked.{create-asked, update-asked, delete-asked, se
 use Rattle.store.specs.Store.{Store, store}
 use Rattle.drafts.specs.Draft.{Draft}
 use Rattle.ledger.specs.Call.{Call, format, view, viewSettled, create, update, delete, settle, revert, check, migrate, settleList, Outcome, outcome, plain, listed}
-use Rattle.ledger.specs.Ledger.{Ledger, nextMfn, empty}
+use Rattle.ledger.specs.Ledger.{Ledger, nextMfn}
 use Rattle.ledger.specs.LedgerAnswers.{settleRows, settledOne, settledEach, answersEach, refusalsL, numberL, givesL, outcomeOf, answerL, replyL}
-use Rattle.ledger.specs.LedgerSteps.{stays, applied, effectOf, nextL, answersL, afterL}
-use Rattle.ledger.specs.StoreRun.{answerS, nextS, answersS, afterS, resultS}
+use Rattle.ledger.specs.LedgerSteps.{stays, applied, effectOf, nextL, afterL}
+use Rattle.ledger.specs.StoreRun.{answerS, nextS, afterS, resultS}
 use Rattle.ledger.specs.LedgerOf.{ledgerOf, SoundStore}
-use Rattle.ledger.specs.Demand3.{Kept, Agree, FromSound, Demand3}
+use Rattle.ledger.specs.Demand3.{Kept, FromSound, Demand3}
 use Rattle.ledger.proofs.Reading.{Opened, Seen, absent, physically, present, next-is}
 use Rattle.ledger.proofs.Answering.{format-answer, create-answer, update-answer, delete-answer, settle-answer, revert-answer, check-answer, migrate-answer, migrate-left}
 use Rattle.ledger.proofs.Viewing.{view-outcome, settled-view-outcome}
@@ -37,7 +37,7 @@ use Rattle.ledger.proofs.Creating.{create-left}
 use Rattle.ledger.proofs.Either.{Left, either}
 use Rattle.ledger.proofs.Versions.{update-left, delete-left, settle-left, revert-left}
 use Rattle.ledger.proofs.Effects.{one-is}
-use Rattle.ledger.proofs.Lists.{Step, Run, run-all}
+use Rattle.ledger.proofs.Lists.{Step, run-all}
 
 module _ (t : Store) (h : SoundStore t) where
   -- ---- what is known of a sound store

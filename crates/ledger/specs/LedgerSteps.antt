@@ -1,6 +1,6 @@
 -- What a call does to the ledger where it is done. One description of it (`Effect`): it stays, it is emptied, one item and the end are set, one
 -- item is added and the end set, or a list of MFNs is settled. Document 01, "The ledger of demand 3".
-use Prim.Native.Nat.{ℕ, _+_, _-_}
+use Prim.Native.Nat.{ℕ, _+_}
 use mathlib.Core.Bool.{Bool, true, false, cond}
 use mathlib.Core.List.{List, [], _∷_, _++_}
 use lib.Dec.{eqb}
