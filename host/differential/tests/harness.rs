@@ -372,6 +372,8 @@ fn add_at(mst: &mut [u8], at: usize, more: u16) {
     mst[at..at + 2].copy_from_slice(&number.to_le_bytes());
 }
 
+/// The damage that shows it may put the end at the start of a block behind the first, so that
+/// the records before it have to fill that one.
 #[test]
 fn an_even_count_that_is_accepted() {
     found(&mut Damaged::default(), 16, |_, seen| {
