@@ -70,7 +70,8 @@ fn damaged_cards() {
 fn random_cards() {
     let tally = run("random cards", &mut RandomCards, RANDOM);
     for (call, answers) in ANSWERS.iter().enumerate() {
-        let number = if answers.contains(&1) { 1 } else { 0 };
+        // a list of MFNs answers 0 there, and 1 to each of them
+        let number = usize::from(answers.contains(&1));
         came(&tally, call, number, 10);
     }
 }
