@@ -76,8 +76,6 @@ pub lists-fine : (n : ℕ) → n ≤ listMost → listsRight n n ≡ true
 unfolding listsRight
 lists-fine n h = simp tests (refl, h)
 
-pub ruleset lists-answers = (lists-unequal, lists-equal)
-
 -- ---- the loop
 
 -- from s and a list of answers, after the first i MFNs
