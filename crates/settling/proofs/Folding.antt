@@ -10,7 +10,7 @@ use mathlib.Core.List.{List, [], _∷_, _++_, map, map-append}
 use lib.Dec.{leb}
 use lib.ListN.{length, getD, take, set, length-map, length-set}
 use lib.Seq.{take-suc, take-all, length-take-le}
-use borrow.Author.Tests.{eq-eqb, ne-eqb, eqb-true}
+use borrow.Author.Tests.{not-false, eq-eqb, ne-eqb, eqb-true}
 use Rattle.word.specs.Overwrite.{overwrite}
 use Rattle.word.proofs.Tests.{tests, and-left}
 use Rattle.word.proofs.Overwrite.{overwrite-none, overwrite-whole, overwrite-more}
@@ -93,7 +93,7 @@ module _ (mst xrf ms answers₀ : List ℕ) (b : Bool) (e : b ≡ listsRight (le
   pub settled-none : not b ≡ false → Settled (store mst xrf) ms answers₀ mst xrf answers₀ 0
   unfolding settleEachLeaves settleEachAnswers
   settled-none h =
-      let r : listsRight (length ms) (length answers₀) ≡ true = go b e h in
+      let r : listsRight (length ms) (length answers₀) ≡ true = sym e ∙ not-false b h in
       record {
         within = omega arith;
         right = r;
@@ -104,10 +104,6 @@ module _ (mst xrf ms answers₀ : List ℕ) (b : Bool) (e : b ≡ listsRight (le
         left = refl;
         told = sym (overwrite-none answers₀ 0);
       }
-    where
-      go : (b : Bool) → b ≡ listsRight (length ms) (length answers₀) → not b ≡ false → listsRight (length ms) (length answers₀) ≡ true
-      go true e h = sym e
-      go false e h = absurd (let z : _≡_ {A = Bool} true false = h in let y : _≡_ {A = ℕ} 0 1 = cc in omega arith)
 
   -- the lists are refused, and nothing is changed
   pub list-refused : not b ≡ true

@@ -5,9 +5,8 @@ use native.Mathlib.Decide.{ℕ-discrete}
 use native.Mathlib.Omega.{arith}
 use mathlib.Core.Path.{_≡_, refl, ap, _∙_}
 use mathlib.Core.Logic.{⊎-elim}
-use mathlib.Core.Bool.{Bool, true, false, _||_}
+use mathlib.Core.Bool.{true, false, or-true}
 use mathlib.Core.List.{List, [], _∷_}
-use lib.Dec.{eqb}
 use lib.ListN.{length, getD, take, replicate}
 use lib.Seq.{take-length}
 use borrow.Author.Tests.{eq-eqb}
@@ -157,11 +156,7 @@ pub among-first : (m : ℕ) (ms : List ℕ) → among m (m ∷ ms) ≡ true
 among-first m ms = rw (eq-eqb m m refl)
 
 pub among-behind : (k m : ℕ) (ms : List ℕ) → among k ms ≡ true → among k (m ∷ ms) ≡ true
-among-behind k m ms h = rw h (or-true (eqb k m))
-  where
-    or-true : (b : Bool) → (b || true) ≡ true
-    or-true true = refl
-    or-true false = refl
+among-behind k m ms h = rw (h, or-true)
 
 -- what a settle changes, done or refused
 record One (s s′ : Store) (m : ℕ) : Type 0 where
