@@ -7,7 +7,7 @@ use mathlib.Core.Bool.{Bool, true, false, not}
 use mathlib.Core.List.{List, []}
 use lib.Dec.{leb}
 use lib.ListN.{length}
-use borrow.Author.Tests.{le-leb, lt-leb, leb-true}
+use borrow.Author.Tests.{not-false, le-leb, lt-leb, leb-true}
 use Rattle.word.specs.Overwrite.{part, overwrite}
 use Rattle.word.proofs.Overwrite.{part-short}
 use Rattle.layout.specs.Entry.{placeAddress}
@@ -54,10 +54,6 @@ module _ (n a b c : ℕ) where
       let p = and-iff _ _ .0 e in
       let q = and-iff _ _ .0 (p .1) in
       (leb-true _ _ (p .0), leb-true _ _ (q .0), leb-true _ _ (q .1))
-
-not-false : (w : Bool) → not w ≡ false → w ≡ true
-not-false true e = refl
-not-false false e = let z : _≡_ {A = ℕ} 0 1 = cc in absurd (omega arith)
 
 -- ---- the fields of a record
 

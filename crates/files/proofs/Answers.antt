@@ -3,7 +3,7 @@
 use Prim.Native.Nat.{ℕ, _+_, _*_, _-_, _/_, _%_, _^_, _≤_, _<_}
 use native.Mathlib.Omega.{arith}
 use mathlib.Core.Path.{_≡_, refl, sym, _∙_}
-use mathlib.Core.Bool.{Bool, true, false, not}
+use mathlib.Core.Bool.{Bool, true, false, not, and-false}
 use mathlib.Core.List.{List}
 use mathlib.Core.Logic.{⊎-elim}
 use lib.Dec.{leb, eqb}
@@ -27,7 +27,7 @@ use Rattle.files.specs.declared.control.Control.the-variants.{Right, Wro
 use Rattle.layout.specs.declared.entry.Place.{Place}
 use Rattle.layout.specs.declared.entry.Entry.{Entry}
 use Rattle.layout.specs.declared.entry.Entry.the-variants.{Malformed}
-use Rattle.word.proofs.Tests.{tests, and-false}
+use Rattle.word.proofs.Tests.{tests}
 use Rattle.layout.proofs.Facts.{blocks-facts}
 use Rattle.files.proofs.ControlRecord.{end-stored, next-length}
 use Rattle.files.proofs.CrossReference.{heads-more}

@@ -5,7 +5,7 @@ use native.Mathlib.Nat.{add-zero, add-assoc}
 use native.Mathlib.Omega.{arith}
 use mathlib.Core.Path.{_≡_, refl, sym, ap, _∙_}
 use mathlib.Core.Logic.{_↔_}
-use mathlib.Core.Bool.{Bool, true, false, not, _&&_, cond, and-false}
+use mathlib.Core.Bool.{Bool, true, false, not, _&&_, cond, and-true, and-false, and-assoc}
 use mathlib.Core.List.{List, [], _∷_}
 use lib.Dec.{eqb}
 use lib.ListN.{length}
@@ -32,19 +32,11 @@ use Rattle.index.proofs.Records.{part-fits}
 module _ (f : List ℕ) (s : Shape) (key : List ℕ) (n : ℕ) where
   below-last : (k i : ℕ) → belowAll key (keysFrom f s n (suc k) i) ≡ (belowAll key (keysFrom f s n k i) && below key (keyAt f s n (i + k)))
   unfolding belowAll keysFrom
-  below-last zero i = rw add-zero (one (below key (keyAt f s n i)))
-    where
-      one : (b : Bool) → (b && true) ≡ b
-      one true = refl
-      one false = refl
+  below-last zero i = rw add-zero (and-true (below key (keyAt f s n i)))
   below-last (suc k) i =
       let e : i + 1 + k ≡ i + suc k = omega arith in
       ap (λ (b : Bool). below key (keyAt f s n i) && b) (below-last k (i + 1) ∙ ap (λ (j : ℕ). belowAll key (keysFrom f s n k (i + 1)) && below key (keyAt f s n j)) e)
-      ∙ assoc (below key (keyAt f s n i)) _ _
-    where
-      assoc : (a b c : Bool) → (a && (b && c)) ≡ ((a && b) && c)
-      assoc true b c = refl
-      assoc false b c = refl
+      ∙ sym (and-assoc (below key (keyAt f s n i)) _ _)
 
   none-step : (k : ℕ) → puntsRight f s n (suc k) ≡ true → ((puntsRight f s n k ≡ true) → (lastPunt f s key n k ≡ 0) ↔ (belowAll key (keysFrom f s n k 0) ≡ true))
       → (b : Bool) → below key (keyAt f s n k) ≡ b → (_≡_ {A = ℕ} (cond b (lastPunt f s key n k) (puntAt f s n k)) 0) ↔ ((belowAll key (keysFrom f s n k 0) && b) ≡ true)

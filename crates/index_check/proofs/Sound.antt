@@ -4,7 +4,7 @@ use Prim.Native.Nat.{ℕ, zero, suc, _+_, _-_}
 use native.Mathlib.Nat.{add-zero}
 use native.Mathlib.Omega.{arith}
 use mathlib.Core.Path.{_≡_, refl, sym, ap, _∙_}
-use mathlib.Core.Bool.{Bool, true, false, not, _&&_, cond, and-false}
+use mathlib.Core.Bool.{Bool, true, false, not, _&&_, cond, and-false, and-assoc}
 use mathlib.Core.List.{List, [], _∷_, _++_}
 use lib.Dec.{eqb}
 use borrow.Author.Tests.{ne-eqb}
@@ -74,11 +74,7 @@ module _ (f : List ℕ) (s : Shape) (n : ℕ) where
         ap (λ (l : List (List ℕ)). ascendingAfter x (l ++ ks)) keys-cons
         ∙ ap (λ (b : Bool). below x (keyAt f s n 0) && b)
         (ascent-append (keyAt f s n 0) (keysFrom f s n (ockAt f s n - 1) 1) ks ∙ rw (keys-last, ascending-is))
-        ∙ assoc (below x (keyAt f s n 0)) _ _
-      where
-        assoc : (a b c : Bool) → a && (b && c) ≡ (a && b) && c
-        assoc true b c = refl
-        assoc false b c = refl
+        ∙ sym (and-assoc (below x (keyAt f s n 0)) _ _)
 
 -- ---- the sentences of one record together
 
@@ -149,10 +145,6 @@ module _ (nodes leaves : List ℕ) (t : Tree) where
   successors Before ns = successorsRight leaves (t .leaves) ns
   successors (After key next) ns = nextRight next ns
 
-  node-case : (a b c : Bool) → (a && (b && c)) ≡ ((a && b) && c)
-  node-case true b c = refl
-  node-case false b c = refl
-
   first-case : (a l k s : Bool) → (((true && a) && true) && (l && (k && s))) ≡ ((true && l) && ((a && k) && s))
   first-case true l k s = refl
   first-case false l k s = simp and-false
@@ -222,7 +214,7 @@ module _ (nodes leaves : List ℕ) (t : Tree) where
   pass-is [] Before = refl
   pass-is [] (After key next) = refl
   pass-is (Node n ∷ ms) w =
-      gate ms (nodeSound nodes leaves t n) w ∙ ap (λ (b : Bool). nodeSound nodes leaves t n && b) (pass-is ms w) ∙ node-case (nodeSound nodes leaves t n) _ _
+      gate ms (nodeSound nodes leaves t n) w ∙ ap (λ (b : Bool). nodeSound nodes leaves t n && b) (pass-is ms w) ∙ sym (and-assoc (nodeSound nodes leaves t n) _ _)
   pass-is (Leaf n ∷ ms) w = gate ms (leafSound leaves (t .leaves) w n) (after n) ∙ over-leaf w n ms _ (pass-is ms (after n))
   pass-is (TooDeep ∷ ms) w = ap ended (pass-stopped nodes leaves t ms)
 

@@ -7,7 +7,6 @@ use mathlib.Core.Bool.{Bool, true, false, _&&_, cond}
 use mathlib.Core.List.{List, [], _∷_, _++_}
 use lib.Dec.{leb}
 use lib.ListN.{length}
-use borrow.Author.Tests.{eq-eqb}
 use Rattle.terms.specs.Key.{same, below, ascending}
 use Rattle.terms.specs.Term.{termRight, kindFor, widthOf, padded}
 use Rattle.index.specs.Files.{Index, nodesIn, leavesIn}
@@ -20,7 +19,7 @@ use Rattle.index.specs.declared.layout.Part.{Part}
 use Rattle.index.specs.declared.layout.Part.the-variants.{Right, Wrong}
 use Rattle.index.specs.declared.lookup.Found.{Found}
 use Rattle.index.specs.declared.lookup.Found.the-variants.{At, NoTerm}
-use Rattle.terms.proofs.Order.{by-cases, never, below-irrefl, same-is, above, ascent-above}
+use Rattle.terms.proofs.Order.{by-cases, never, below-irrefl, same-is, above, ascent-above, same-refl}
 use Rattle.word.proofs.Tests.{false-true}
 use Rattle.index_check.specs.Walk.{met, keysAlong}
 use Rattle.index_check.specs.Sound.{all, keepsRules, nodeAscends, pointsToFirst, noneTwice, successorsRight, metSound, treeSound, soundIn, soundOf}
@@ -29,11 +28,6 @@ use Rattle.index_check.proofs.Sound.{keeps, keeps-all, ascent-once}
 use Rattle.index_check.proofs.Held.{both, keysIn, entriesAlong, keys-in-along, ascent-tail, held, way-judged}
 
 -- ---- an entry among others
-
-pub same-refl : (x : List ℕ) → same x x ≡ true
-unfolding same
-same-refl [] = refl
-same-refl (x ∷ xs) = rw (eq-eqb x x refl) (same-refl xs)
 
 module _ (key : List ℕ) (block word : ℕ) where
   among-cases : (b : Bool) (e : Entry) (r : Found) (es : List Entry) → same key (e .key) ≡ b → cond b (At (e .block) (e .word)) r ≡ At block word

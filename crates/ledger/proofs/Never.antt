@@ -9,6 +9,7 @@ use mathlib.Core.List.{List, [], _∷_}
 use mathlib.Core.Logic.{⊎-elim}
 use lib.ListN.{length}
 use Rattle.word.proofs.Overwrite.{lt-or-ge}
+use borrow.Author.Tests.{not-false}
 use Rattle.word.proofs.Tests.{tests, false-true}
 use Rattle.store.specs.Answer.{Refusal, refuse, lowest, numberOf}
 use Rattle.store.specs.Reading.{lengthsPermitted}
@@ -59,11 +60,7 @@ module _ (L : Ledger) (w : Whole L) where
     no-length q = row (λ e. absurd (false-true (sym (ap not (w .lengths)) ∙ e))) (λ e. q)
 
     no-gone : (m : ℕ) {rs : List Refusal} → MayCome c NoMfn → RowsMay c rs → RowsMay c (named L m rs)
-    no-gone m p q = row (λ e. p) (λ e. row (λ g. absurd (false-true (sym (w .held m (known (mfnIn L m) e)) ∙ g))) (λ g. q))
-      where
-        known : (b : Bool) → not b ≡ false → b ≡ true
-        known true e = refl
-        known false e = absurd (false-true (sym e))
+    no-gone m p q = row (λ e. p) (λ e. row (λ g. absurd (false-true (sym (w .held m (not-false (mfnIn L m) e)) ∙ g))) (λ g. q))
 
   rows-may : (c : Call) → RowsMay c (refusalsL L c)
   unfolding refusalsL numberOf replyL

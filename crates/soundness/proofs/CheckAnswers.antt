@@ -3,14 +3,13 @@
 use Prim.Native.Nat.{ℕ, _+_, _≤_}
 use native.Mathlib.Omega.{arith}
 use mathlib.Core.Path.{_≡_, sym, ap, _∙_}
-use mathlib.Core.Bool.{Bool, true, false, not, cond}
+use mathlib.Core.Bool.{Bool, true, false, not, cond, and-false}
 use mathlib.Core.List.{List, [], _∷_}
 use lib.ListN.{length}
 use borrow.Author.Tests.{not-true, not-false}
 use Rattle.layout.specs.Sizes.{capacityOf}
 use Rattle.files.specs.Control.{nextOf}
 use Rattle.layout.specs.declared.sizes.Mfn.{Mfn}
-use Rattle.word.proofs.Tests.{and-false}
 use Rattle.store.specs.Answer.{refuse}
 use Rattle.store.specs.Gate.{gateOf, gateAnswer}
 use Rattle.store.specs.declared.answer.Answer.{Answer}

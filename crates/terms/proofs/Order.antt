@@ -3,7 +3,7 @@ use Prim.Native.Nat.{ℕ, _<_}
 use native.Mathlib.Omega.{arith}
 use mathlib.Core.Path.{_≡_, refl, sym, ap, _∙_}
 use mathlib.Core.Logic.{_⊎_, inl, inr}
-use mathlib.Core.Bool.{Bool, true, false, _&&_, cond}
+use mathlib.Core.Bool.{Bool, true, false, _&&_, cond, and-assoc}
 use mathlib.Core.List.{List, [], _∷_, _++_}
 use lib.Dec.{eqb, ltb}
 use borrow.Author.Tests.{eq-eqb, ne-eqb, eqb-true, lt-ltb, ltb-true}
@@ -107,11 +107,7 @@ unfoldable pub lastOf : List ℕ → List (List ℕ) → List ℕ
 lastOf x [] = x
 lastOf x (y ∷ ys) = lastOf y ys
 
-and-assoc : (a b c : Bool) → a && (b && c) ≡ (a && b) && c
-and-assoc true b c = refl
-and-assoc false b c = refl
-
 pub ascent-append : (x : List ℕ) (ys zs : List (List ℕ)) → ascendingAfter x (ys ++ zs) ≡ (ascendingAfter x ys && ascendingAfter (lastOf x ys) zs)
 unfolding ascendingAfter lastOf
 ascent-append x [] zs = refl
-ascent-append x (y ∷ ys) zs = ap (λ (b : Bool). below x y && b) (ascent-append y ys zs) ∙ and-assoc (below x y) _ _
+ascent-append x (y ∷ ys) zs = ap (λ (b : Bool). below x y && b) (ascent-append y ys zs) ∙ sym (and-assoc (below x y) _ _)

@@ -43,10 +43,6 @@ use Rattle.store.proofs.Gates.{after-refused, after-cases, passed, gate-done, n
 use Rattle.versions.proofs.Told.{need-low, draft-fits, at-end, slot-known, read-known, read-own}
 use Rattle.store.specs.Store.{store}
 
-and-true-false : (a b : Bool) → a && b ≡ false → a ≡ true → b ≡ false
-and-true-false true b e h = e
-and-true-false false b e h = absurd (false-true h)
-
 -- ---- format
 
 module _ (mst xrf : List ℕ) (b : Bool) (e : b ≡ lengthsPermitted (store mst xrf)) where
