@@ -15,7 +15,7 @@ use Rattle.writing.specs.Calls.{createLeaves, updateLeaves, deleteLeaves, settl
 use Rattle.soundness.specs.Touching.{MayChange, TouchesOnly}
 use Rattle.soundness.proofs.Touching.{calls-touch-only, nothing-touched}
 use Rattle.settling.specs.SettleList.{settleEachLeaves, settleListAnswer, settleListLeaves}
-use Rattle.settling.proofs.Theorems.{changes-only}
+use Rattle.settling.proofs.Theorems.{unchanged, changes-only}
 use Rattle.ledger.specs.Call.{format, view, viewSettled, create, update, delete, settle, revert, check, migrate, settleList}
 use Rattle.ledger.specs.StoreRun.{nextS, resultS}
 use Rattle.ledger.specs.LedgerSteps.{effectOf}
@@ -51,5 +51,5 @@ unfolding nextS resultS settleListLeaves
 list-touches s ms lent =
     ⊎-elim
     (λ d. rw (d .1) (changes-only s ms))
-    (λ r. rw (r .1) (record { mst-length = refl; xrf-length = refl; mst-kept = λ i off. refl; xrf-kept = λ i off. refl }))
+    (λ r. rw (r .1) (unchanged s ms))
     (after-cases (settleListAnswer (length ms) lent) (settleEachLeaves s ms) s)

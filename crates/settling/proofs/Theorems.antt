@@ -207,9 +207,13 @@ one-settle s m =
     (λ r. rw (r .1) (record { mst-length = refl; xrf-length = refl; mst-kept = λ i off. refl; xrf-kept = λ i off. refl; address = λ k lo. refl }))
     (after-cases (settleAnswer s m) (store (settledMst (s .mst) (placeFor s m)) (settledXrf (s .xrf) m (placeFor s m))) s)
 
+-- nothing changes
+pub unchanged : (s : Store) (ms : List ℕ) → ChangesOnly s s ms
+unchanged s ms = record { mst-length = refl; xrf-length = refl; mst-kept = λ i off. refl; xrf-kept = λ i off. refl }
+
 pub changes-only : (s : Store) (ms : List ℕ) → ChangesOnly s (settleEachLeaves s ms) ms
 unfolding settleEachLeaves
-changes-only s [] = record { mst-length = refl; xrf-length = refl; mst-kept = λ i off. refl; xrf-kept = λ i off. refl }
+changes-only s [] = unchanged s []
 changes-only s (m ∷ ms) =
     let one = one-settle s m in
     let rest = changes-only (settleLeaves s m) ms in
