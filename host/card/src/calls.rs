@@ -25,14 +25,8 @@ fn made<T>(
     call: impl FnOnce(&mut Card) -> Answer<T>,
     refused: impl FnOnce(Refusal, &Files) -> Trouble,
 ) -> Result<T, Trouble> {
-    let (mst_before, xrf_before) = (files.mst.clone(), files.xrf.clone());
-    match call(&mut Card::over(&mut files.mst, &mut files.xrf)) {
-        Err(refusal) => Err(refused(refusal, &files)),
-        Ok(value) => {
-            files.write_back(&mst_before, &xrf_before)?;
-            Ok(value)
-        }
-    }
+    let given = files.change(call, Answer::is_ok)?;
+    given.map_err(|refusal| refused(refusal, &files))
 }
 
 /// `card format`: two new files, or two emptied ones.

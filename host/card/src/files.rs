@@ -9,7 +9,7 @@ use crate::progress::with_progress;
 use crate::recover::{is_pending, recover};
 use crate::replace::{Change, Replacement};
 use crate::trouble::Trouble;
-use isis::{Answer, CardRef, Refusal};
+use isis::{Answer, Card, CardRef, Refusal};
 use std::fs::{self, File};
 use std::io::{self, Read};
 use std::path::{Path, PathBuf};
@@ -139,8 +139,22 @@ impl Files {
         Store::open(self.card())
     }
 
+    /// Makes a call on the card and, where it was done, writes the files back.
+    pub fn change<T>(
+        &mut self,
+        call: impl FnOnce(&mut Card) -> T,
+        done: impl FnOnce(&T) -> bool,
+    ) -> Result<T, Trouble> {
+        let (mst_before, xrf_before) = (self.mst.clone(), self.xrf.clone());
+        let given = call(&mut Card::over(&mut self.mst, &mut self.xrf));
+        if done(&given) {
+            self.write_back(&mst_before, &xrf_before)?;
+        }
+        Ok(given)
+    }
+
     /// Writes back the files whose bytes are not as they were read.
-    pub fn write_back(&self, mst_before: &[u8], xrf_before: &[u8]) -> Result<(), Trouble> {
+    fn write_back(&self, mst_before: &[u8], xrf_before: &[u8]) -> Result<(), Trouble> {
         disk::writable(&self.mst_path)?;
         disk::writable(&self.xrf_path)?;
         if self.mst == mst_before && self.xrf == xrf_before {

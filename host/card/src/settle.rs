@@ -8,7 +8,7 @@ use crate::layout::{SLOTS, XRF_BLOCKS};
 use crate::progress::with_progress;
 use crate::say::{Lines, print, tell};
 use crate::trouble::Trouble;
-use isis::{Answer, Card, Mark, Refusal};
+use isis::{Answer, Mark, Refusal};
 
 /// The most MFNs that one command settles: as many as a card can have.
 const MOST: usize = XRF_BLOCKS * SLOTS;
@@ -19,17 +19,13 @@ pub fn settle(mut arguments: Arguments) -> Result<(), Trouble> {
     let named = arguments.named()?;
     let mut files = Files::read(paths)?;
     let mfns = mfns(&named, &files)?;
-    let (mst_before, xrf_before) = (files.mst.clone(), files.xrf.clone());
     let what = format!("settling {} MFNs", mfns.len());
-    let answers = with_progress(&what, || {
-        Card::over(&mut files.mst, &mut files.xrf).settle_all(&mfns)
-    });
-    let first = first_refused(&mfns, &answers, &files);
-    if answers.iter().any(Answer::is_ok) {
-        files.write_back(&mst_before, &xrf_before)?;
-    }
+    let answers = files.change(
+        |card| with_progress(&what, || card.settle_all(&mfns)),
+        |answers| answers.iter().any(Answer::is_ok),
+    )?;
     let alone = mfns.len() == 1;
-    match first {
+    match first_refused(&mfns, &answers, &files) {
         None if alone => print(&format!("settled: MFN {}\n", mfns[0])),
         None => told(&mfns, &answers),
         Some((refusal, trouble)) => {

@@ -55,7 +55,7 @@ pub trait Subject {
 #[derive(Debug)]
 pub struct Archive {
     drafts: Drafts,
-    mfns: Input,
+    mfns: Input<u32>,
     tags: Output<u16>,
     words: [Output<u32>; 2],
     sizes: [Output<usize>; 3],
@@ -144,7 +144,7 @@ impl Archive {
         let (m, a) = (self.mfns.lend(mfns, side), self.words[0].lend(room, side));
         // SAFETY: as in `run`.
         let number = unsafe { raw::isis_settle_list(b.0, b.1, b.2, b.3, m, mfns.len(), a, room) };
-        self.mfns.only_read(mfns, side);
+        assert!(self.mfns.kept(mfns, side), "a lent list was written to");
         Given {
             answers: self.words[0].taken(room, side),
             ..plain(number)

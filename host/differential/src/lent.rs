@@ -1,6 +1,6 @@
 //! What a call is lent beside the card, each in an area of its own between guard pages:
-//! the lists of a draft and a list of MFNs, which must only be read, and outputs, which are full of rubbish
-//! before and beside which no byte may be written.
+//! the lists of a draft and a list of MFNs, which must only be read, and outputs, which are
+//! full of rubbish before and beside which no byte may be written.
 
 use crate::guarded::{Area, Side};
 use model::OwnedDraft;
@@ -15,15 +15,59 @@ pub fn pointer(area: &mut [u8], side: Side) -> *mut u8 {
     }
 }
 
-/// The longest list of a draft that fits into its area.
-const LONGEST_LIST: usize = 70_000;
+/// A number of a lent list: made of any bytes, and of nothing else.
+pub trait Number: Copy {}
+impl Number for u8 {}
+impl Number for u16 {}
+impl Number for u32 {}
+impl Number for i32 {}
+impl Number for usize {}
+
+/// The bytes of some numbers.
+fn bytes_of<T: Number>(numbers: &[T]) -> &[u8] {
+    // SAFETY: a number is made of its bytes alone.
+    unsafe { std::slice::from_raw_parts(numbers.as_ptr().cast(), size_of_val(numbers)) }
+}
+
+/// An area for a list that must only be read.
+#[derive(Debug)]
+pub struct Input<T> {
+    area: Area,
+    kind: PhantomData<T>,
+}
+
+impl<T: Number> Input<T> {
+    /// An area that grows where it must.
+    #[allow(clippy::new_without_default)]
+    pub fn new() -> Input<T> {
+        Input {
+            area: Area::new(0),
+            kind: PhantomData,
+        }
+    }
+
+    /// Copies a list to the guard pages.
+    pub fn lend(&mut self, list: &[T], side: Side) -> *const T {
+        let bytes = bytes_of(list);
+        if bytes.len() > self.area.room() {
+            self.area = Area::new(bytes.len());
+        }
+        pointer(self.area.bytes(bytes, side), side).cast()
+    }
+
+    /// Whether a list that was lent was only read.
+    pub fn kept(&mut self, list: &[T], side: Side) -> bool {
+        let bytes = bytes_of(list);
+        *self.area.buffer(bytes.len(), side) == *bytes
+    }
+}
 
 /// Areas for a draft.
 #[derive(Debug)]
 pub struct Drafts {
-    tags: Area,
-    lens: Area,
-    data: Area,
+    tags: Input<u16>,
+    lens: Input<u16>,
+    data: Input<u8>,
 }
 
 /// A draft's arguments.
@@ -41,79 +85,32 @@ impl Drafts {
     /// Areas for drafts of any length.
     pub fn new() -> Drafts {
         Drafts {
-            tags: Area::new(2 * LONGEST_LIST),
-            lens: Area::new(2 * LONGEST_LIST),
-            data: Area::new(2 * LONGEST_LIST),
+            tags: Input::new(),
+            lens: Input::new(),
+            data: Input::new(),
         }
     }
 
     /// Copies a draft to the guard pages; gives the six arguments.
     pub fn lend(&mut self, draft: &OwnedDraft, side: Side) -> Lent {
-        let (tags, lens) = (bytes_of(&draft.tags), bytes_of(&draft.lens));
         Lent {
-            tags: pointer(self.tags.bytes(&tags, side), side).cast(),
+            tags: self.tags.lend(&draft.tags, side),
             tags_len: draft.tags.len(),
-            lens: pointer(self.lens.bytes(&lens, side), side).cast(),
+            lens: self.lens.lend(&draft.lens, side),
             lens_len: draft.lens.len(),
-            data: pointer(self.data.bytes(&draft.data, side), side),
+            data: self.data.lend(&draft.data, side),
             data_len: draft.data.len(),
         }
     }
 
     /// Holds that a lent draft was only read.
     pub fn only_read(&mut self, draft: &OwnedDraft, side: Side) {
-        let same = |area: &mut Area, bytes: &[u8]| *area.buffer(bytes.len(), side) == *bytes;
-        let kept = same(&mut self.tags, &bytes_of(&draft.tags))
-            && same(&mut self.lens, &bytes_of(&draft.lens))
-            && same(&mut self.data, &draft.data);
+        let kept = self.tags.kept(&draft.tags, side)
+            && self.lens.kept(&draft.lens, side)
+            && self.data.kept(&draft.data, side);
         assert!(kept, "a lent draft was written to");
     }
 }
-
-fn bytes_of(numbers: &[u16]) -> Vec<u8> {
-    numbers.iter().flat_map(|n| n.to_ne_bytes()).collect()
-}
-
-/// An area for a list of numbers that must only be read.
-#[derive(Debug)]
-pub struct Input {
-    area: Area,
-}
-
-impl Input {
-    /// An area that grows where it must.
-    #[allow(clippy::new_without_default)]
-    pub fn new() -> Input {
-        Input { area: Area::new(0) }
-    }
-
-    /// Copies the numbers to the guard pages.
-    pub fn lend(&mut self, numbers: &[u32], side: Side) -> *const u32 {
-        let bytes = words_of(numbers);
-        if bytes.len() > self.area.room() {
-            self.area = Area::new(bytes.len());
-        }
-        pointer(self.area.bytes(&bytes, side), side).cast()
-    }
-
-    /// Holds that they were only read.
-    pub fn only_read(&mut self, numbers: &[u32], side: Side) {
-        let bytes = words_of(numbers);
-        let kept = *self.area.buffer(bytes.len(), side) == *bytes;
-        assert!(kept, "a lent list was written to");
-    }
-}
-
-fn words_of(numbers: &[u32]) -> Vec<u8> {
-    numbers.iter().flat_map(|n| n.to_ne_bytes()).collect()
-}
-
-/// A number that a call gives: made of any bytes.
-pub trait Number: Copy {}
-impl Number for u16 {}
-impl Number for u32 {}
-impl Number for i32 {}
-impl Number for usize {}
 
 /// An area for outputs of one kind.
 #[derive(Debug)]

@@ -120,10 +120,9 @@ impl Shown {
     ) -> (Outcome, Shown) {
         let result = call(&mut lists);
         let outcome = Outcome::listed(result.map(|count| lists.fields(mst, count)));
-        let part = 0..0;
         let shown = Shown {
             lists,
-            ..Shown::at(part)
+            ..Shown::default()
         };
         (outcome, shown)
     }

@@ -70,10 +70,8 @@ fn shown(mst: &[u8], xrf: &[u8], call: &Call) -> (Outcome, Shown) {
         field: mst[part.clone()].to_vec(),
         ..Outcome::default()
     };
-    let lists = Lists::default();
     let shown = Shown {
         part,
-        lists,
         ..Shown::default()
     };
     (outcome, shown)
@@ -92,10 +90,28 @@ fn listed(mst: &[u8], xrf: &[u8], call: &Call, room: Room) -> (Outcome, Shown) {
         fields: lists.fields(mst, count),
         ..Outcome::default()
     };
-    let part = 0..0;
     let shown = Shown {
-        part,
         lists,
+        ..Shown::default()
+    };
+    (outcome, shown)
+}
+
+/// A list of MFNs, with the list of so many answers that it was lent.
+fn settled(mst: &mut [u8], xrf: &mut [u8], mfns: &[u32], room: usize) -> (Outcome, Shown) {
+    let mut answers = vec![u32::from_ne_bytes([RUBBISH; 4]); room];
+    let number = called::settle_list(mst, xrf, mfns, &mut answers);
+    let outcome = Outcome {
+        number,
+        answers: if number == 0 {
+            answers.clone()
+        } else {
+            Vec::new()
+        },
+        ..Outcome::default()
+    };
+    let shown = Shown {
+        answers,
         ..Shown::default()
     };
     (outcome, shown)
@@ -130,26 +146,6 @@ fn the_plain_program_does_the_same_as_the_model() {
             call = lists::any_call(&mut random, Taste::SHORT, 12);
         }
     }
-}
-
-/// A list of MFNs, with the list of so many answers that it was lent.
-fn settled(mst: &mut [u8], xrf: &mut [u8], mfns: &[u32], room: usize) -> (Outcome, Shown) {
-    let mut answers = vec![u32::from_ne_bytes([RUBBISH; 4]); room];
-    let number = called::settle_list(mst, xrf, mfns, &mut answers);
-    let outcome = Outcome {
-        number,
-        answers: if number == 0 {
-            answers.clone()
-        } else {
-            Vec::new()
-        },
-        ..Outcome::default()
-    };
-    let shown = Shown {
-        answers,
-        ..Shown::default()
-    };
-    (outcome, shown)
 }
 
 /// The number of a lookup or a check by the model, with what it gives.
