@@ -4,9 +4,9 @@
  * The key keeps a card in two static buffers. This program formats it, catalogues
  * two books, changes a title by mistake while the index still describes the right
  * one, takes the change back, deletes the other book, settles what is left in one call,
- * and checks the card. Then it migrates a card of the old rule, and looks terms up in a
- * search index. On a key, each call that writes would follow one touch of the sensor;
- * firmware/main.c does so. It compiles unchanged for both:
+ * and checks the card. Then it migrates a card of the old rule, looks terms up in a search
+ * index, and reads where they occur. On a key, each call that writes would follow one touch
+ * of the sensor; firmware/main.c does so. It compiles unchanged for both:
  *
  *   cc -std=c11 -Wall -Wextra -Werror -Iinclude examples/key.c target/staticlib/libisis.a -o key
  *   firmware/run cortex-m0 examples/key.c
@@ -141,17 +141,95 @@ static void write_tree(int type, uint8_t *node, uint8_t *leaf, const char *term,
     put(leaf + 16 + key, word, 4);
 }
 
-/* Looks a term up and prints where its postings begin. */
-static uint32_t look_up(const char *what, const char *term)
-{
+/* A place in the postings file. */
+struct place {
     int32_t block, word;
+};
+
+/* Looks a term up and prints where its postings begin. */
+static uint32_t look_up(const char *what, const char *term, struct place *at)
+{
     uint32_t answer = isis_lookup(cnt, sizeof cnt, n01, sizeof n01, l01, sizeof l01, n02, sizeof n02, l02,
-                                  sizeof l02, (const uint8_t *)term, strlen(term), &block, &word);
+                                  sizeof l02, (const uint8_t *)term, strlen(term), &at->block, &at->word);
 
     report(what, answer);
     if (answer == ISIS_DONE)
-        printf("    postings of %s: block %d, word %d\n", term, (int)block, (int)word);
+        printf("    postings of %s: block %d, word %d\n", term, (int)at->block, (int)at->word);
     return answer;
+}
+
+/* A postings file of one block: the block's number, and words of four bytes. The desktop
+ * writes this too. KITE has two segments, so its list is read on from word 2 at word 16. */
+static uint8_t ifp[ISIS_BLOCK];
+
+enum { KITE = 2, HOSSEINI = 9, KITE_MORE = 16, UNUSED = 23 };
+
+/* Three postings, eight bytes each, most significant first: the record in three, the field
+ * in two, the occurrence of the field in one, the term's number in it in two. */
+static const uint8_t kite_1[ISIS_POSTING] = { 0, 0, 1, 0, TITLE, 1, 0, 2 };
+static const uint8_t kite_4[ISIS_POSTING] = { 0, 0, 4, 0, TITLE, 1, 0, 3 };
+static const uint8_t hosseini_1[ISIS_POSTING] = { 0, 0, 1, 0, AUTHOR, 1, 0, 1 };
+
+/* Where a word of block 1 stands. */
+static uint8_t *word_at(unsigned word)
+{
+    return ifp + 4 + 4 * word;
+}
+
+/* Writes a segment of one posting. The next one of its list is in block 1 too; 0 if there is none. */
+static void write_segment(unsigned word, int32_t next, int32_t total, const uint8_t posting[ISIS_POSTING])
+{
+    put(word_at(word), next ? 1 : 0, 4); /* IFPNXTB, IFPNXTP: the next segment's block and word */
+    put(word_at(word + 1), next, 4);
+    put(word_at(word + 2), total, 4);    /* IFPTOTP: the postings of the whole list */
+    put(word_at(word + 3), 1, 4);        /* IFPSEGP: those of this segment */
+    put(word_at(word + 4), 1, 4);        /* IFPSEGC: how many it has room for */
+    memcpy(word_at(word + 5), posting, ISIS_POSTING);
+}
+
+static void write_postings(void)
+{
+    put(ifp, 1, 4); /* the block's number; words 0 and 1 are the place of the next unused word */
+    put(word_at(0), 1, 4);
+    put(word_at(1), UNUSED, 4);
+    write_segment(KITE, KITE_MORE, 2, kite_1);
+    write_segment(HOSSEINI, 0, 1, hosseini_1);
+    write_segment(KITE_MORE, 0, 2, kite_4);
+}
+
+/* Prints a posting that was handed out, and tells whether its numbers are those of eight
+ * bytes, read by the library and written again. */
+static int show_posting(uint64_t posting, const uint8_t bytes[ISIS_POSTING])
+{
+    uint32_t mfn, tag, occurrence, sequence;
+    uint8_t written[ISIS_POSTING];
+
+    printf("    MFN %u, field %u, occurrence %u, term %u\n", (unsigned)ISIS_PMFN(posting),
+           (unsigned)ISIS_PTAG(posting), (unsigned)ISIS_POCC(posting), (unsigned)ISIS_PCNT(posting));
+    return isis_posting_read(bytes, ISIS_POSTING, &mfn, &tag, &occurrence, &sequence) == ISIS_DONE
+           && mfn == ISIS_PMFN(posting) && tag == ISIS_PTAG(posting) && occurrence == ISIS_POCC(posting)
+           && sequence == ISIS_PCNT(posting)
+           && isis_posting_write(mfn, tag, occurrence, sequence, written, sizeof written) == ISIS_DONE
+           && memcmp(written, bytes, sizeof written) == 0;
+}
+
+/* Gives MFNs of two lists: isis_common or isis_joined. */
+typedef uint32_t merge_call(const uint8_t *ifp, isis_size ifp_len, int32_t block_a, int32_t word_a, int32_t block_b,
+                            int32_t word_b, uint32_t *mfns, isis_size mfns_len, isis_size *count);
+
+/* Prints the MFNs of two lists, and tells whether they are those that are wanted, two at most. */
+static int show_mfns(const char *what, merge_call *merge, struct place a, struct place b, const uint32_t *wanted,
+                     unsigned wanted_len)
+{
+    uint32_t mfns[2] = { 0, 0 };
+    isis_size count;
+
+    report(what, merge(ifp, sizeof ifp, a.block, a.word, b.block, b.word, mfns, 2, &count));
+    printf("    MFNs:");
+    for (unsigned i = 0; i < count; i++)
+        printf(" %u", (unsigned)mfns[i]);
+    printf("\n");
+    return count == wanted_len && memcmp(mfns, wanted, wanted_len * sizeof *wanted) == 0;
 }
 
 int main(void)
@@ -221,14 +299,40 @@ int main(void)
     if (report("migrate again: it is not old", isis_migrate(mst, sizeof mst, xrf, sizeof xrf)) != ISIS_BAD_CONTROL)
         failed = 1;
 
-    write_tree(1, n01, l01, "KITE", 1, 0);
-    write_tree(2, n02, l02, "HOSSEINI, KHALED", 1, 7);
+    struct place kite, hosseini, none;
+    write_tree(1, n01, l01, "KITE", 1, KITE);
+    write_tree(2, n02, l02, "HOSSEINI, KHALED", 1, HOSSEINI);
     failed |= report("check the search index",
                      isis_check_index(cnt, sizeof cnt, n01, sizeof n01, l01, sizeof l01, n02, sizeof n02, l02,
                                       sizeof l02));
-    failed |= look_up("look a short term up", "KITE");
-    failed |= look_up("look a long term up", "HOSSEINI, KHALED");
-    if (look_up("look for what is not there", "WIND") != ISIS_NO_TERM)
+    failed |= look_up("look a short term up", "KITE", &kite);
+    failed |= look_up("look a long term up", "HOSSEINI, KHALED", &hosseini);
+    if (look_up("look for what is not there", "WIND", &none) != ISIS_NO_TERM)
+        failed = 1;
+
+    /* From the place that a lookup gave: where the term occurs, in ascending order. */
+    uint64_t list[2] = { 0, 0 };
+    isis_size count;
+    write_postings();
+    failed |= report("read the postings of KITE",
+                     isis_postings(ifp, sizeof ifp, kite.block, kite.word, list, 2, &count));
+    if (count != 2 || !show_posting(list[0], kite_1) || !show_posting(list[1], kite_4))
+        failed = 1;
+    if (isis_posting_compare(list[0], list[1]) != 0) /* 0: the first is less */
+        failed = 1;
+
+    /* Both terms are in MFN 1, and KITE is in MFN 4 besides. */
+    const uint32_t one_and_four[] = { 1, 4 };
+    if (!show_mfns("find records that have both terms", isis_common, kite, hosseini, one_and_four, 1))
+        failed = 1;
+    if (!show_mfns("find records that have either", isis_joined, kite, hosseini, one_and_four, 2))
+        failed = 1;
+
+    /* A list that leads back to its own beginning is refused, and not followed for ever. */
+    write_segment(KITE_MORE, KITE, 2, kite_4);
+    if (report("read a list that goes round",
+               isis_postings(ifp, sizeof ifp, kite.block, kite.word, list, 2, &count))
+        != ISIS_BAD_POSTINGS)
         failed = 1;
 
     puts(failed ? "something was refused" : "all done");

@@ -55,7 +55,7 @@ extern "C" {
 
 /* The interface. The first number rises when a function that was here changes, the second when something is added. */
 #define ISIS_VERSION_MAJOR 2
-#define ISIS_VERSION_MINOR 1
+#define ISIS_VERSION_MINOR 2
 
 /* The format. */
 #define ISIS_BLOCK           512     /* bytes of a block, of either file */
@@ -73,6 +73,9 @@ extern "C" {
 #define ISIS_TERM_MAX        30      /* bytes of the longest term */
 #define ISIS_NODES_MAX       16      /* the most nodes on one way down from a root */
 #define ISIS_SETTLE_MAX      4096    /* the most MFNs that isis_settle_list takes */
+#define ISIS_POSTING         8       /* bytes of a posting in the IFP */
+#define ISIS_IFP_WORDS       127     /* words of a block of the IFP, behind the block's number */
+#define ISIS_IFP_HEADER_MAX  120     /* the last word of a block at which a segment begins; the first is 0 */
 
 /* Bytes that a draft of so many fields and so many bytes of data takes in the MST: always even. */
 #define ISIS_NEED(fields, data) ((ISIS_LEADER + ISIS_DIRECTORY_ENTRY * (fields) + (data) + 1) / 2 * 2)
@@ -80,6 +83,13 @@ extern "C" {
 /* Where the four bytes of an MFN's entry begin in the XRF. */
 #define ISIS_ENTRY_AT(mfn) \
     (((mfn) - 1) / ISIS_MFNS_PER_BLOCK * ISIS_BLOCK + 4 + ((mfn) - 1) % ISIS_MFNS_PER_BLOCK * 4)
+
+/* The four numbers of a posting as isis_postings hands it out: the record, the field identifier, the occurrence of
+   the field, and the term's number in it. */
+#define ISIS_PMFN(posting) ((uint32_t)((posting) >> 40))
+#define ISIS_PTAG(posting) ((uint16_t)((posting) >> 24))
+#define ISIS_POCC(posting) ((uint8_t)((posting) >> 16))
+#define ISIS_PCNT(posting) ((uint16_t)(posting))
 
 /* A length, a start or an index: 64 bits wide on every processor, as in the library's proofs. */
 #if SIZE_MAX == UINT64_MAX
@@ -91,7 +101,7 @@ typedef uint64_t isis_size;
 /* No compiler accepts this where isis_size is not what the archive passes. */
 typedef char isis_size_has_64_bits[sizeof(isis_size) == 8 && (isis_size)-1 > 0 ? 1 : -1];
 
-/* The answers. Where more than one refusal applies, the lowest number is given. */
+/* The answers. Where more than one refusal applies, the lowest number is given, but for 17: it comes last, so 23 before 17. */
 enum isis_answer {
     ISIS_DONE            = 0,  /* done */
     ISIS_BAD_LENGTH      = 1,  /* a buffer is not 1 to 1048575 (MST) or 1 to 4096 (XRF) blocks of 512 bytes */
@@ -115,7 +125,9 @@ enum isis_answer {
                                   lists are not equally long, or over-long */
     ISIS_BAD_TERM        = 20, /* lookup: the term is not 1 to 30 bytes long, or ends with a space */
     ISIS_BAD_INDEX       = 21, /* lookup, index check: a rule of the index is broken, see isis_lookup */
-    ISIS_NO_TERM         = 22  /* lookup: the index does not hold the term */
+    ISIS_NO_TERM         = 22, /* lookup: the index does not hold the term */
+    ISIS_BAD_POSTINGS    = 23  /* a list of postings breaks a rule, see isis_postings; a posting: fewer than eight bytes
+                                  to read, or a number too wide to write */
 };
 
 /*
@@ -311,6 +323,80 @@ uint32_t isis_lookup(const uint8_t *cnt, isis_size cnt_len, const uint8_t *n01, 
 uint32_t isis_check_index(const uint8_t *cnt, isis_size cnt_len, const uint8_t *n01, isis_size n01_len,
                           const uint8_t *l01, isis_size l01_len, const uint8_t *n02, isis_size n02_len,
                           const uint8_t *l02, isis_size l02_len);
+
+/*
+ * The postings file (IFP) of a search index, whole in memory: for each term a list of
+ * postings, of which each says where the term occurs. A posting has four numbers: the
+ * record (PMFN, 24 bits), the field identifier that the indexing program assigned (PTAG,
+ * 16), the occurrence of the field (POCC, 8), and the term's number in it (PCNT, 16). In
+ * the file it is eight bytes, most significant first. In a list that is handed out it is
+ * the number PMFN x 2^40 + PTAG x 2^24 + POCC x 2^16 + PCNT of the machine, which
+ * ISIS_PMFN and the others take apart.
+ *
+ * Reads the four numbers of a posting from the first eight of len bytes. Answers 0, or 23
+ * where there are fewer than eight.
+ */
+uint32_t isis_posting_read(const uint8_t *bytes, isis_size len,
+                           uint32_t *mfn, uint32_t *tag, uint32_t *occurrence, uint32_t *sequence);
+
+/*
+ * Writes a posting of four numbers. Answers 0; 23 where a number is too wide for its
+ * bits; 17 where out has fewer than eight bytes. Touches the first eight bytes of out.
+ */
+uint32_t isis_posting_write(uint32_t mfn, uint32_t tag, uint32_t occurrence, uint32_t sequence,
+                            uint8_t *out, isis_size out_len);
+
+/*
+ * Compares two postings by PMFN, PTAG, POCC and PCNT in this order: 0 if a is less than
+ * b, 1 if they are equal, 2 if a is greater. These are no answers of the list above. The
+ * eight bytes of two postings, compared as unsigned bytes from the first on, stand in the
+ * same order.
+ */
+uint32_t isis_posting_compare(uint64_t a, uint64_t b);
+
+/*
+ * Hands out the postings of the list that begins at a block and word of the IFP, as
+ * isis_lookup gives them, in stored order. *count is their number; the first so many
+ * elements of out are written and the others kept.
+ *
+ * A block has 512 bytes: its number, and words 0 to 126 of four bytes. Blocks count from
+ * 1. A list is one segment or more. A segment's header is five words: the block and word
+ * of the next segment, which are 0 and 0 in the last; the total of the list's postings,
+ * read in the first segment only; the count of postings in this segment; its capacity.
+ * Its postings follow, two words each. None is split between two blocks: where a single
+ * word is left, the posting stands at word 0 of the next block. Neither the numbers of
+ * the blocks nor the pointer to free space in block 1 are read, and the file may have any
+ * length.
+ *
+ * Answers 0, 23 or 17; 23 before 17. 23 is given where a header, the first or one that
+ * another names, does not stand whole in the file at one of words 0 to 120 of a block;
+ * where a posting that is counted is not whole in the file; where the first segment's
+ * total, or a segment's count or capacity, is below 0, or a count is above its capacity;
+ * where the total is not the sum of the counts; where a segment comes twice; and where
+ * the postings do not ascend strictly over the whole list. 17 is given where there are
+ * more than out_len.
+ */
+uint32_t isis_postings(const uint8_t *ifp, isis_size ifp_len, int32_t block, int32_t word,
+                       uint64_t *out, isis_size out_len, isis_size *count);
+
+/*
+ * Gives the MFNs that two lists have in common, ascending, each once. *count is their
+ * number; the first so many elements of mfns are written and the others kept. Both lists
+ * may begin at the same place.
+ * Answers 0, 23 or 17. Both lists are read whole before 17 is given, where there are more
+ * than mfns_len: 23 before 17, and by the rules of isis_postings for each list.
+ */
+uint32_t isis_common(const uint8_t *ifp, isis_size ifp_len,
+                     int32_t block_a, int32_t word_a, int32_t block_b, int32_t word_b,
+                     uint32_t *mfns, isis_size mfns_len, isis_size *count);
+
+/*
+ * Gives the MFNs that are in one of two lists or in both, ascending, each once; a list
+ * beside itself gives its own. All else is as in isis_common.
+ */
+uint32_t isis_joined(const uint8_t *ifp, isis_size ifp_len,
+                     int32_t block_a, int32_t word_a, int32_t block_b, int32_t word_b,
+                     uint32_t *mfns, isis_size mfns_len, isis_size *count);
 
 #ifdef __cplusplus
 }

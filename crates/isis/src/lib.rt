@@ -2,7 +2,9 @@
 use layout::sizes::Mfn;
 use layout::sizes::Tag;
 use store::answer::number;
+use word::signed::to_bits;
 ghost use mathlib.Core.Path.{_≡_};
+ghost use mathlib.Core.Bool.{true, false};
 ghost use Rattle.store.specs.Answer.{numberOf};
 ghost use Rattle.writing.specs.Refusals.{formatAnswer, updateAnswer, deleteAnswer, settleAnswer, revertAnswer};
 ghost use Rattle.writing.specs.Calls.{formatLeaves, createOf, createLeaves, updateLeaves, deleteLeaves, settleLeaves, revertLeaves};
@@ -17,6 +19,11 @@ ghost use lib.ListN.{length};
 ghost use Rattle.index.specs.Files.{index};
 ghost use Rattle.index.specs.Lookup.{answerOf, blockOf, wordOf, lookupOf};
 ghost use Rattle.index_check.specs.Sound.{indexAnswer};
+ghost use Rattle.word.specs.Signed.{bitsOf};
+ghost use Rattle.posting.specs.Answer as posting-answer;
+ghost use Rattle.posting.specs.Posting.{readOf, writeAnswer, writeOut, compareOf};
+ghost use Rattle.postings.specs.Calls.{postingsGiven, postingsOut};
+ghost use Rattle.merging.specs.Calls.{mfnsGiven, mfnsOut};
 ghost use Rattle.store.specs.Store.{store};
 ghost use Rattle.drafts.specs.Draft.{draft};
 
@@ -327,4 +334,128 @@ pub extern "C" fn isis_check_index(
     ensures { λ r. ⌜ r ≡ indexAnswer (index (now (cnt .entry)) (now (n01 .entry)) (now (l01 .entry)) (now (n02 .entry)) (now (l02 .entry))) ⌝ }
 {
     index_check::check::check_index(cnt, n01, l01, n02, l02)
+}
+
+// The four numbers of a posting of eight bytes.
+#[no_mangle]
+pub extern "C" fn isis_posting_read(
+    bytes: &[u8],
+    mfn: &mut u32,
+    tag: &mut u32,
+    occurrence: &mut u32,
+    sequence: &mut u32,
+) -> u32
+    ensures answers { λ r. ⌜ r ≡ posting-answer.numberOf (readOf (now (bytes .entry)) .answer) ⌝ }
+    ensures mfns { λ _. ⌜ now (mfn .exit) ≡ readOf (now (bytes .entry)) .mfn ⌝ }
+    ensures tags { λ _. ⌜ now (tag .exit) ≡ readOf (now (bytes .entry)) .tag ⌝ }
+    ensures occurrences { λ _. ⌜ now (occurrence .exit) ≡ readOf (now (bytes .entry)) .occurrence ⌝ }
+    ensures sequences { λ _. ⌜ now (sequence .exit) ≡ readOf (now (bytes .entry)) .sequence ⌝ }
+{
+    let p = posting::codec::read(bytes);
+    *mfn = p.mfn;
+    *tag = p.tag;
+    *occurrence = p.occurrence;
+    *sequence = p.sequence;
+    let a = p.answer;
+    posting::answer::number(a)
+}
+
+// Writes the posting of four numbers as eight bytes.
+#[no_mangle]
+pub extern "C" fn isis_posting_write(
+    mfn: u32,
+    tag: u32,
+    occurrence: u32,
+    sequence: u32,
+    out: &mut [u8],
+) -> u32
+    ensures answers { λ r. ⌜ r ≡ posting-answer.numberOf (writeAnswer mfn tag occurrence sequence (now (out .entry))) ⌝ }
+    ensures writes { λ _. ⌜ now (out .exit) ≡ writeOut mfn tag occurrence sequence (now (out .entry)) ⌝ }
+{
+    posting::answer::number(posting::codec::write(mfn, tag, occurrence, sequence, out))
+}
+
+// Compares two postings: 0 less, 1 equal, 2 greater.
+#[no_mangle]
+pub extern "C" fn isis_posting_compare(a: u64, b: u64) -> u32
+    ensures { λ r. ⌜ r ≡ compareOf a b ⌝ }
+{
+    posting::codec::compare(a, b)
+}
+
+// The postings of the list at a place, in stored order.
+#[no_mangle]
+pub extern "C" fn isis_postings(
+    ifp: &[u8],
+    block: i32,
+    word: i32,
+    out: &mut [u64],
+    count: &mut usize,
+) -> u32
+    ensures answers { λ r. ⌜ r ≡ posting-answer.numberOf (postingsGiven (now (ifp .entry)) (bitsOf block) (bitsOf word) (now (out .entry)) .answer) ⌝ }
+    ensures writes { λ _. ⌜ now (out .exit) ≡ postingsOut (now (ifp .entry)) (bitsOf block) (bitsOf word) (now (out .entry)) ⌝ }
+    ensures counts { λ _. ⌜ now (count .exit) ≡ postingsGiven (now (ifp .entry)) (bitsOf block) (bitsOf word) (now (out .entry)) .count ⌝ }
+{
+    let g = postings::list::postings(ifp, to_bits(block), to_bits(word), out);
+    *count = g.count;
+    let a = g.answer;
+    posting::answer::number(a)
+}
+
+// The MFNs that two lists have in common.
+#[no_mangle]
+pub extern "C" fn isis_common(
+    ifp: &[u8],
+    block_a: i32,
+    word_a: i32,
+    block_b: i32,
+    word_b: i32,
+    mfns: &mut [u32],
+    count: &mut usize,
+) -> u32
+    ensures answers { λ r. ⌜ r ≡ posting-answer.numberOf (mfnsGiven true (now (ifp .entry)) (bitsOf «block_a») (bitsOf «word_a») (bitsOf «block_b») (bitsOf «word_b») (now (mfns .entry)) .answer) ⌝ }
+    ensures writes { λ _. ⌜ now (mfns .exit) ≡ mfnsOut true (now (ifp .entry)) (bitsOf «block_a») (bitsOf «word_a») (bitsOf «block_b») (bitsOf «word_b») (now (mfns .entry)) ⌝ }
+    ensures counts { λ _. ⌜ now (count .exit) ≡ mfnsGiven true (now (ifp .entry)) (bitsOf «block_a») (bitsOf «word_a») (bitsOf «block_b») (bitsOf «word_b») (now (mfns .entry)) .count ⌝ }
+{
+    let g = merging::merge::mfns(
+        ifp,
+        to_bits(block_a),
+        to_bits(word_a),
+        to_bits(block_b),
+        to_bits(word_b),
+        true,
+        mfns,
+    );
+    *count = g.count;
+    let a = g.answer;
+    posting::answer::number(a)
+}
+
+// The MFNs of either of two lists.
+#[no_mangle]
+pub extern "C" fn isis_joined(
+    ifp: &[u8],
+    block_a: i32,
+    word_a: i32,
+    block_b: i32,
+    word_b: i32,
+    mfns: &mut [u32],
+    count: &mut usize,
+) -> u32
+    ensures answers { λ r. ⌜ r ≡ posting-answer.numberOf (mfnsGiven false (now (ifp .entry)) (bitsOf «block_a») (bitsOf «word_a») (bitsOf «block_b») (bitsOf «word_b») (now (mfns .entry)) .answer) ⌝ }
+    ensures writes { λ _. ⌜ now (mfns .exit) ≡ mfnsOut false (now (ifp .entry)) (bitsOf «block_a») (bitsOf «word_a») (bitsOf «block_b») (bitsOf «word_b») (now (mfns .entry)) ⌝ }
+    ensures counts { λ _. ⌜ now (count .exit) ≡ mfnsGiven false (now (ifp .entry)) (bitsOf «block_a») (bitsOf «word_a») (bitsOf «block_b») (bitsOf «word_b») (now (mfns .entry)) .count ⌝ }
+{
+    let g = merging::merge::mfns(
+        ifp,
+        to_bits(block_a),
+        to_bits(word_a),
+        to_bits(block_b),
+        to_bits(word_b),
+        false,
+        mfns,
+    );
+    *count = g.count;
+    let a = g.answer;
+    posting::answer::number(a)
 }

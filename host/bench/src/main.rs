@@ -8,6 +8,7 @@
 //!
 //!   cargo measure                  all of it, some minutes
 //!   cargo measure quick            checks up to 16 MB only
+//!   cargo measure lists            the rows of posting lists only
 //!   cargo measure instructions     the instructions of each call, counted by callgrind
 
 mod biblio;
@@ -17,6 +18,7 @@ mod checks;
 mod clock;
 mod count;
 mod indexes;
+mod lists;
 mod lookups;
 mod machine;
 mod plain;
@@ -36,18 +38,18 @@ fn main() {
         [] => times(512),
         ["quick"] => times(16),
         ["instructions"] => instructions(&Task::Count),
+        ["lists"] => times_of_lists(),
         ["only", row, "library"] => only(row, Side::Library),
         ["only", row, "plain"] => only(row, Side::Plain),
         _ => {
-            eprintln!("bench: the words are 'quick' or 'instructions', or none");
+            eprintln!("bench: the words are 'quick', 'lists' or 'instructions', or none");
             std::process::exit(64);
         }
     }
 }
 
-/// All that is timed or measured, with checks up to so many megabytes.
-fn times(most: usize) {
-    machine::run();
+/// The head of the table of calls.
+fn head() {
     let columns = [
         "library",
         "safe Rust",
@@ -56,9 +58,23 @@ fn times(most: usize) {
         "ratio",
     ];
     clock::head("a call", &columns);
+}
+
+/// The rows of posting lists, timed.
+fn times_of_lists() {
+    machine::run();
+    head();
+    lists::run(&Task::Time);
+}
+
+/// All that is timed or measured, with checks up to so many megabytes.
+fn times(most: usize) {
+    machine::run();
+    head();
     calls::run(&Task::Time);
     let checks = checks::run(&Task::Time, most);
     let index_checks = lookups::run(&Task::Time, most.min(64));
+    lists::run(&Task::Time);
     calls::copies();
     println!("\n{checks} {index_checks}\n");
     biblio::run();
@@ -74,6 +90,7 @@ fn instructions(task: &Task) {
     calls::run(task);
     checks::run(task, 1);
     lookups::run(task, 1);
+    lists::run(task);
 }
 
 /// One row for one side, for callgrind to count.
@@ -82,4 +99,5 @@ fn only(row: &str, side: Side) {
     calls::run(&task);
     checks::run(&task, 1);
     lookups::run(&task, 1);
+    lists::run(&task);
 }

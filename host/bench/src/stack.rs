@@ -1,8 +1,11 @@
 //! The stack that each call uses, measured: the stack below is painted, the call is
 //! made, and the lowest byte that lost its paint is looked for.
 
+use crate::lists::ascending;
 use isis::raw;
 use model::OwnedDraft;
+use model::postings::build::in_turn;
+use model::random::Random;
 use std::hint::black_box;
 
 use crate::cards::{Kind, card, draft};
@@ -59,6 +62,7 @@ pub fn run() {
             drafts();
             acts();
             searching();
+            lists();
         })
         .expect("a thread")
         .join()
@@ -302,4 +306,36 @@ fn searching() {
         ));
     };
     report("index check, 16 nodes", &mut [&mut check]);
+}
+
+fn lists() {
+    let mut random = Random::new(1);
+    let lists = [(); 2].map(|()| ascending(500, &mut random));
+    let built = in_turn(&lists, 20);
+    let (file, starts) = (built.bytes(&mut |_| ()), built.starts());
+    let (ifp, len) = (file.as_ptr(), file.len());
+    let [(a, v), (b, w)] = [0, 1].map(|list| (starts[list].block, starts[list].word));
+    let (mut postings, mut mfns, mut count) = ([0; 500], [0; 1_000], 0);
+    // SAFETY: the file and the lists live to the end of this function.
+    report(
+        "postings",
+        &mut [&mut || unsafe {
+            let (out, room) = (postings.as_mut_ptr(), postings.len());
+            black_box(raw::isis_postings(ifp, len, a, v, out, room, &mut count));
+        }],
+    );
+    for (name, call) in [
+        ("common", raw::isis_common as raw::Merge),
+        ("joined", raw::isis_joined),
+    ] {
+        // The second time there is less room than the lists have postings.
+        let mut with = |room| unsafe {
+            let out = mfns.as_mut_ptr();
+            black_box(call(ifp, len, a, v, b, w, out, room, &mut count));
+        };
+        report(
+            name,
+            &mut [&mut || [1_000, 400].into_iter().for_each(&mut with)],
+        );
+    }
 }

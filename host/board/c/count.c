@@ -6,8 +6,8 @@
  * instructions take is measured first, so that no frequency need be known; and what
  * it takes to call a function that does nothing is taken away.
  *
- * The list in memory is an index: its five files and a term of each tree, each behind
- * its length (src/main.rs writes them).
+ * The list in memory is an index: its five files, a term of each tree, a postings file
+ * and the places of two lists in it, each behind its length (src/main.rs writes them).
  */
 #include "isis.h"
 #include "semihosting.h"
@@ -16,8 +16,8 @@
 
 extern const uint32_t list[];
 
-enum { FIELDS = 8, FIELD = 20, RECORDS = 50, CLOCK_BITS = 24 };
-enum { FILES = 5, SHORT_TERM = FILES, LONG_TERM, SLICES };
+enum { FIELDS = 8, FIELD = 20, RECORDS = 50, POSTINGS = 100, CLOCK_BITS = 24 };
+enum { FILES = 5, SHORT_TERM = FILES, LONG_TERM, IFP, PLACES, SLICES };
 
 static uint8_t mst[64 * ISIS_BLOCK], xrf[ISIS_BLOCK];
 static uint16_t tags[FIELDS], lens[FIELDS];
@@ -26,6 +26,8 @@ static isis_size start, len, end, count, starts[FIELDS], field_lens[FIELDS];
 static uint32_t mfn, answer, mark, deleted;
 static uint16_t tag, field_tags[FIELDS];
 static uint32_t mfns[RECORDS], answers[RECORDS];
+static uint64_t postings[POSTINGS];
+static uint32_t merged[2 * POSTINGS];
 static int32_t block, word;
 static struct {
     const uint8_t *at;
@@ -39,6 +41,12 @@ static volatile uint32_t *const systick = (volatile uint32_t *)0xE000E010; /* co
 #define DRAFT tags, FIELDS, lens, FIELDS, data, sizeof data
 #define SLICE(i) slices[i].at, slices[i].len
 #define INDEX SLICE(0), SLICE(1), SLICE(2), SLICE(3), SLICE(4)
+#define FIRST places()[0], places()[1]
+#define SECOND places()[2], places()[3]
+#define MERGED merged, 2 * POSTINGS, &count
+
+/* Blocks and words of two lists. */
+static const int32_t *places(void) { return (const int32_t *)slices[PLACES].at; }
 
 static void nothing(void) {}
 __attribute__((naked)) static void a_thousand_more(void)
@@ -66,6 +74,9 @@ static void check(void) { answer = isis_check(CARD); }
 static void lookup_short(void) { answer = isis_lookup(INDEX, SLICE(SHORT_TERM), &block, &word); }
 static void lookup_long(void) { answer = isis_lookup(INDEX, SLICE(LONG_TERM), &block, &word); }
 static void check_index(void) { answer = isis_check_index(INDEX); }
+static void read_list(void) { answer = isis_postings(SLICE(IFP), FIRST, postings, POSTINGS, &count); }
+static void common(void) { answer = isis_common(SLICE(IFP), FIRST, SECOND, MERGED); }
+static void joined(void) { answer = isis_joined(SLICE(IFP), FIRST, SECOND, MERGED); }
 
 /* A card of RECORDS records of FIELDS fields, in one of three states, or settled and as it was written before isis.h 2.0. */
 enum kind { NEW, SETTLED, CHANGED, OLD };
@@ -114,6 +125,9 @@ static const struct {
     { "lookup, 9 bytes, in 1000 terms", NEW, lookup_short },
     { "lookup, 17 bytes, in 1000 terms", NEW, lookup_long },
     { "index check, 1000 terms", NEW, check_index },
+    { "100 postings read", NEW, read_list },
+    { "two lists of 100 postings in common", NEW, common },
+    { "two lists of 100 postings joined", NEW, joined },
 };
 
 /* The clock counts down. */

@@ -8,21 +8,12 @@
  */
 #include "runner.h"
 
-enum { FILES = 5, TERM = FILES, SLICES, SLICE_MAX = 32 * 1024, ROOM = SLICE_MAX + 4 * STRIP };
+enum { FILES = 5, TERM = FILES, SLICES };
 enum { STACK = 2048, LOOKUP = 17 };
-
-#define NAMES(name) { " of " name, " before " name, " behind " name }
-
-static const struct {
-    const char *of, *before, *behind;
-} names[SLICES] = { NAMES("CNT"), NAMES("N01"), NAMES("L01"), NAMES("N02"), NAMES("L02"), NAMES("the term") };
 
 /* The slices that the list wants, and those that a call is lent. */
 static uint8_t wanted[SLICES][SLICE_MAX];
-static struct {
-    uint8_t *at;
-    uint32_t len;
-} lent[SLICES];
+static struct slice lent[SLICES] = { NAMED("CNT"), NAMED("N01"), NAMED("L01"), NAMED("N02"), NAMED("L02"), NAMED("the term") };
 static struct {
     int32_t block, word;
 } out;
@@ -60,26 +51,10 @@ static uint32_t read_step(void)
     return kind;
 }
 
-/* Calls a function for each strip of memory beside a slice. */
-static void each_strip(void (*look)(const char *what, uint8_t *strip))
-{
-    for (uint32_t i = 0; i < SLICES; i++) {
-        if (lent[i].at != cards_start)
-            look(names[i].before, lent[i].at - STRIP);
-        if (lent[i].at + lent[i].len != cards_end)
-            look(names[i].behind, lent[i].at + lent[i].len);
-    }
-}
-
 static void lend(void)
 {
-    uint32_t last = step % SLICES, first = step / SLICES % SLICES;
-
-    for (uint32_t i = 0; i < SLICES; i++)
-        lent[i].at = cards_start + (i + 1) * ROOM + (step + i) % 4;
-    lent[first].at = cards_start;
-    lent[last].at = cards_end - lent[last].len;
-    each_strip(paint);
+    place_slices(lent, SLICES, NONE_ALIGNED);
+    each_side(lent, SLICES, paint);
     for (uint32_t i = 0; i < SLICES; i++)
         memcpy(lent[i].at, wanted[i], lent[i].len);
 }
@@ -94,6 +69,6 @@ void index_step(void)
     is_wanted("the block", (uint32_t)out.block);
     is_wanted("the word", (uint32_t)out.word);
     for (uint32_t i = 0; i < SLICES; i++)
-        file_is_wanted(names[i].of, lent[i].at, wanted[i], lent[i].len);
-    each_strip(is_painted);
+        file_is_wanted(lent[i].of, lent[i].at, wanted[i], lent[i].len);
+    each_side(lent, SLICES, is_painted);
 }

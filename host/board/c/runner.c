@@ -16,14 +16,15 @@
  * painted, and the paint is looked at.
  *
  * The stack below each call is painted too, so that the most that a call ever used
- * is known at the end of the list. A step on an index is index.c's.
+ * is known at the end of the list. A step on an index is index.c's, one on postings
+ * postings.c's.
  */
 #include "runner.h"
 
 extern const uint32_t list[];
 
-enum { MST_MAX = 128 * 1024, XRF_MAX = 8 * 1024, STACK = 512, KINDS = 19 };
-enum { MST_LAST, XRF_LAST, MIDDLE, ON_AN_INDEX };
+enum { MST_MAX = 128 * 1024, XRF_MAX = 8 * 1024, STACK = 512, KINDS = 25 };
+enum { MST_LAST, XRF_LAST, MIDDLE, ON_AN_INDEX, ON_POSTINGS };
 
 /* The list, and how much of it is done. */
 static const uint32_t *at = list;
@@ -308,9 +309,9 @@ static void one_step(void)
     static uint32_t stood = ~0u;
     uint32_t stands = word(), mst_was = mst_len, xrf_was = xrf_len, changed, given;
 
-    if (stands == ON_AN_INDEX) {
+    if (stands == ON_AN_INDEX || stands == ON_POSTINGS) {
         stood = stands;
-        index_step();
+        stands == ON_AN_INDEX ? index_step() : postings_step();
         return;
     }
     mst_len = word();

@@ -1,5 +1,6 @@
 /*
- * runner.h: what the steps on a card (runner.c) and those on an index (index.c) share.
+ * runner.h: what the steps on a card (runner.c), those on an index (index.c) and those on
+ * postings (postings.c) share.
  */
 #ifndef RUNNER_H
 #define RUNNER_H
@@ -29,6 +30,27 @@ void is_painted(const char *what, uint8_t *strip);
 /* Paints a strip of memory beside a buffer. */
 void paint(const char *what, uint8_t *strip);
 
+/* A slice of a step on an index or on postings: what is said of it, and where it stands. */
+struct slice {
+    const char *of, *before, *behind;
+    uint8_t *at;
+    uint32_t len;
+};
+
+/* The words for a slice of a name. */
+#define NAMED(name) { .of = " of " name, .before = " before " name, .behind = " behind " name }
+
+/* The longest slice, and the memory that one stands in. */
+enum { SLICE_MAX = 32 * 1024, ROOM = SLICE_MAX + 4 * STRIP };
+
+/* Finds places for some slices: one at the last byte of the memory for cards and one at the first, each in
+   turn, the others between, at addresses of every remainder by 4 but for one that is aligned, if there is such. */
+enum { NONE_ALIGNED = ~0 };
+void place_slices(struct slice *slices, uint32_t count, uint32_t aligned);
+
+/* Calls a function for each strip of memory beside a slice. */
+void each_side(const struct slice *slices, uint32_t count, void (*look)(const char *what, uint8_t *strip));
+
 static inline uint32_t *stack_pointer(void)
 {
     uint32_t *here;
@@ -43,7 +65,8 @@ extern uint32_t *door;
 /* Makes a call, which sets the door, over so many painted words of stack; keeps the most that calls of its kind used. */
 uint32_t measured(uint32_t kind, uint32_t (*answer)(void), uint32_t words);
 
-/* A step on an index. */
+/* A step on an index, and one on postings. */
 void index_step(void);
+void postings_step(void);
 
 #endif

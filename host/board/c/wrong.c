@@ -1,8 +1,8 @@
 /*
  * wrong.c: a library that is wrong in one way, so that a test sees the runner say so.
  *
- * The linker puts these in the place of isis_check, isis_create and isis_lookup
- * (--wrap). Each makes the call and then does what WRONG names.
+ * The linker puts these in the place of isis_check, isis_create, isis_lookup and
+ * isis_postings (--wrap). Each makes the call and then does what WRONG names.
  */
 #include "isis.h"
 
@@ -12,6 +12,7 @@ uint32_t __real_isis_create(uint8_t *, isis_size, uint8_t *, isis_size, const ui
 uint32_t __real_isis_lookup(const uint8_t *, isis_size, const uint8_t *, isis_size, const uint8_t *, isis_size,
                             const uint8_t *, isis_size, const uint8_t *, isis_size, const uint8_t *, isis_size,
                             int32_t *, int32_t *);
+uint32_t __real_isis_postings(const uint8_t *, isis_size, int32_t, int32_t, uint64_t *, isis_size, isis_size *);
 
 enum way {
     READ_BEHIND_MST,
@@ -32,6 +33,13 @@ enum way {
     CHANGE_THE_TERM,
     TAKE_THE_NEXT_WORD,
     LEAVE_THE_BLOCK,
+    READ_BEHIND_IFP,
+    READ_BEFORE_IFP,
+    WRITE_BEHIND_LIST,
+    WRITE_BEFORE_LIST,
+    CHANGE_THE_IFP,
+    CHANGE_A_POSTING,
+    LEAVE_THE_COUNT,
 };
 
 static void read_at(const uint8_t *at)
@@ -100,6 +108,25 @@ uint32_t __wrap_isis_lookup(const uint8_t *cnt, isis_size cnt_len, const uint8_t
     case CHANGE_THE_TERM: write_at(term); break;
     case TAKE_THE_NEXT_WORD: ++*word; break;
     case LEAVE_THE_BLOCK: *block = answer == ISIS_DONE ? *block : left; break;
+    default: break;
+    }
+    return answer;
+}
+
+uint32_t __wrap_isis_postings(const uint8_t *ifp, isis_size ifp_len, int32_t block, int32_t word, uint64_t *out,
+                              isis_size out_len, isis_size *count)
+{
+    isis_size left = *count;
+    uint32_t answer = __real_isis_postings(ifp, ifp_len, block, word, out, out_len, count);
+
+    switch ((enum way)WRONG) {
+    case READ_BEHIND_IFP: read_at(ifp + ifp_len); break;
+    case READ_BEFORE_IFP: read_at(ifp - 1); break;
+    case WRITE_BEHIND_LIST: write_at((const uint8_t *)(out + out_len)); break;
+    case WRITE_BEFORE_LIST: write_at((const uint8_t *)out - 1); break;
+    case CHANGE_THE_IFP: write_at(ifp + 20); break;
+    case CHANGE_A_POSTING: write_at((const uint8_t *)out); break;
+    case LEAVE_THE_COUNT: *count = answer == ISIS_DONE ? *count : left; break;
     default: break;
     }
     return answer;

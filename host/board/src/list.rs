@@ -2,9 +2,11 @@
 //! each where the card stands, its two lengths, what somebody else changed, the call,
 //! what it must give, and what it must change. A step on an index has the files' five
 //! lengths, what changed in them since the last such step, the call, its term, and what
-//! it must give.
+//! it must give; a step on postings has the same of one file, and the list that the call
+//! must leave.
 
 use crate::core::LIST_ROOM;
+use crate::posted::{Outputs as OfPostings, Posted};
 use crate::search::{Found, Search};
 use differential::archive::Given;
 use model::Refusal;
@@ -23,11 +25,13 @@ const STEPS_IN_A_PLACE: usize = 50;
 const PLACES: usize = 3;
 /// What stands there for a step on an index; the runner finds places for its files.
 const ON_AN_INDEX: usize = PLACES;
+/// And for a step on postings.
+const ON_POSTINGS: usize = PLACES + 1;
 /// More bytes than a step takes: a draft, and a card before and after.
 const LONGEST_STEP: usize = 1 << 20;
 /// Equal bytes between two changes that are written down all the same.
 const GAP: usize = 16;
-/// The longest file of an index, as the runner has it.
+/// The longest file of an index, and the longest list of postings, as the runner has them.
 pub const SLICE_MAX: usize = 32 * 1024;
 /// The longest list that is lent for fields, as the runner has it.
 const LENT: usize = Taste::LONG.fields + 1;
@@ -174,6 +178,7 @@ pub struct List {
     steps: usize,
     card: Card,
     index: Files,
+    ifp: Vec<u8>,
 }
 
 impl List {
@@ -229,6 +234,29 @@ impl List {
         for output in [number, outputs[0], outputs[1]] {
             self.put_long(u64::from(output));
         }
+    }
+
+    /// Adds a step on postings: a call, and what it must give.
+    pub fn push_posted(&mut self, ifp: &[u8], posted: &Posted, wanted: &OfPostings) {
+        let longest = ifp.len().max(wanted.list.len());
+        assert!(longest <= SLICE_MAX, "a slice is longer than the runner's");
+        self.steps += 1;
+        self.put_all([ON_POSTINGS, ifp.len()]);
+        let old = std::mem::replace(&mut self.ifp, ifp.to_vec());
+        self.put_changes([&old], [ifp]);
+        self.put_all([posted.kind()]);
+        self.words.extend(posted.numbers());
+        self.put_all([posted.room(), posted.bytes().len()]);
+        self.put_bytes(posted.bytes());
+        self.put_all([wanted.list.len()]);
+        let numbers = wanted.numbers.map(u64::from);
+        for output in [u64::from(wanted.answer), wanted.count]
+            .iter()
+            .chain(&numbers)
+        {
+            self.put_long(*output);
+        }
+        self.put_bytes(&wanted.list);
     }
 
     /// What changes from the card as it was, which is this one then.

@@ -1,16 +1,19 @@
 //! The lists that every core is given.
 
-use crate::recorder::{Recorder, of_family, of_index_family, of_replay_lists};
+use crate::recorder::{
+    Recorder, of_family, of_index_family, of_postings_family, of_replay_lists, of_singles,
+};
 use differential::damage::Damaged;
 use differential::families::{FromFormat, Hostile};
 use differential::index::cases;
+use differential::postings::cases as postings;
 use differential::random_cards::RandomCards;
 
 /// What a list is called, and how it is made.
 pub type Named = (&'static str, fn() -> Recorder);
 
 /// All lists.
-pub const ALL: [Named; 10] = [
+pub const ALL: [Named; 16] = [
     ("replay-lists", of_replay_lists),
     ("lists-from-format", || {
         of_family(&mut FromFormat::new(), 20_000)
@@ -25,4 +28,20 @@ pub const ALL: [Named; 10] = [
     ("poked-indexes", || of_index_family(cases::poked, 300)),
     ("records-by-chance", || of_index_family(cases::chance, 200)),
     ("rubbish-indexes", || of_index_family(cases::rubbish, 50)),
+    ("built-postings", || {
+        of_postings_family(postings::built, 200)
+    }),
+    ("damaged-postings", || {
+        of_postings_family(postings::damaged, 600)
+    }),
+    ("poked-postings", || {
+        of_postings_family(postings::poked, 300)
+    }),
+    ("headers-by-chance", || {
+        of_postings_family(postings::chance, 100)
+    }),
+    ("rubbish-postings", || {
+        of_postings_family(postings::rubbish, 100)
+    }),
+    ("single-postings", || of_singles(1_000)),
 ];

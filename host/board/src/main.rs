@@ -6,11 +6,13 @@
 use board::core::{CORES, Core, root, run};
 use board::list::List;
 use board::lists::ALL;
+use board::posted::Posted;
 use board::recorder::Recorder;
 use board::runner;
 use board::search::Search;
 use model::Call;
 use model::index::{Entry, plain};
+use model::postings::build;
 use std::fs;
 use std::process::Command;
 
@@ -51,8 +53,9 @@ fn counted(core: &Core, name: &str, files: &[&str]) -> Vec<(String, String)> {
 /// The terms of both trees that are looked up, at a distance from either end.
 const ASKED: usize = 137;
 
-/// An index of a thousand terms, half in each tree, at the manual's order: the five files
-/// and a term of each tree as c/count.c finds them, each behind its length.
+/// An index of a thousand terms, half in each tree, at the manual's order: the five files,
+/// a term of each tree and the slices of two lists as c/count.c finds them, each behind its
+/// length.
 fn index() -> Vec<u8> {
     let terms = |number| {
         [
@@ -73,6 +76,8 @@ fn index() -> Vec<u8> {
         .all()
         .into_iter()
         .chain(asked.iter().map(String::as_bytes));
+    let lists = lists();
+    let slices = slices.chain(lists.iter().map(Vec::as_slice));
     let padded = slices.map(|slice| {
         let mut bytes = (slice.len() as u32).to_le_bytes().to_vec();
         bytes.extend(slice);
@@ -80,6 +85,19 @@ fn index() -> Vec<u8> {
         bytes
     });
     padded.flatten().collect()
+}
+
+/// A postings file with two lists of 100 postings, 20 to a segment: one has the even MFNs, the
+/// other those that 3 divides; and their blocks and words.
+fn lists() -> [Vec<u8>; 2] {
+    let every = |step: u64| (1..=100).map(|number| (number * step) << 40).collect();
+    let built = build::in_turn(&[every(2), every(3)], 20);
+    let starts = built.starts();
+    let places = starts.iter().flat_map(|place| [place.block, place.word]);
+    [
+        built.bytes(&mut |_| ()),
+        places.flat_map(i32::to_le_bytes).collect(),
+    ]
 }
 
 fn instructions() {
@@ -116,6 +134,7 @@ fn stack() {
         }
     }
     let names = Call::NAMES.into_iter().chain(Search::NAMES);
+    let names = names.chain(Posted::NAMES);
     for (kind, name) in names.enumerate() {
         let numbers: Vec<String> = most.iter().map(|of| of[kind].to_string()).collect();
         line(name, &numbers);

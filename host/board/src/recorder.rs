@@ -2,21 +2,29 @@
 //! stands in a list is so the model's alone; the library is asked only on the board.
 
 use crate::list::{List, SLICE_MAX};
+use crate::posted::Posted;
 use crate::search::Search;
 use differential::archive::{Given, Subject};
 use differential::families::{Family, drive_subject, first_seed};
 use differential::guarded::Side;
 use differential::index;
+use differential::postings;
+use differential::postings::compare::Single;
 use differential::tally::Tally;
 use model::call::{Call, Outcome, on_bytes};
 use model::index::Files;
 use model::index::fault::Why;
+use model::postings::fault::Why as WhyPosted;
+use model::postings::read::Merge;
 use model::random::Random;
 use model::replay;
 use std::collections::BTreeSet;
 
 /// A call on an index by its kind, and why it was refused if it was.
 pub type Searched = (usize, Result<(), Why>);
+
+/// A call on postings by its kind, and why it was refused if it was.
+pub type Read = (usize, Result<(), WhyPosted>);
 
 /// The model, and the lists of what it was asked.
 #[derive(Debug, Default)]
@@ -27,6 +35,8 @@ pub struct Recorder {
     pub tally: Tally,
     /// Which outcomes calls on an index had.
     pub searched: BTreeSet<Searched>,
+    /// Which outcomes calls on postings had.
+    pub posted: BTreeSet<Read>,
 }
 
 impl Recorder {
@@ -46,6 +56,13 @@ impl Recorder {
         let found = search.on(index);
         self.list().push_search(index, search, found);
         self.searched.insert((search.kind(), found.map(|_| ())));
+    }
+
+    /// A call on postings, written down with what the model's reader gives.
+    pub fn post(&mut self, ifp: &[u8], posted: &Posted) {
+        let (wanted, why) = posted.on(ifp);
+        self.list().push_posted(ifp, posted, &wanted);
+        self.posted.insert((posted.kind(), why));
     }
 
     /// A list that has room.
@@ -88,6 +105,66 @@ pub fn of_index_family(family: index::compare::Family, cases: u64) -> Recorder {
         for _ in 0..TERMS {
             let term = &case.terms[random.below(case.terms.len())];
             recorder.search(&case.files, &Search::Lookup(term.clone()));
+        }
+    }
+    recorder
+}
+
+/// So many places of a case are read from.
+const PLACES: usize = 4;
+
+/// So many cases of a family of postings files, each with some of its lists, into a list of
+/// some room around the number of items, or around 3 where the call is refused. A file longer
+/// than half of what the runner holds is left out, so that what it gives has room there.
+pub fn of_postings_family(family: postings::compare::Family, cases: u64) -> Recorder {
+    let mut recorder = Recorder::default();
+    for seed in first_seed()..first_seed() + cases {
+        let mut random = Random::new(seed);
+        let case = family(&mut random);
+        if case.file.len() > SLICE_MAX / 2 {
+            continue;
+        }
+        for _ in 0..PLACES {
+            let from = [(); 2].map(|()| random.pick(&case.places));
+            let merge = random.pick(&[Merge::Common, Merge::Joined]);
+            let of = |room| {
+                [
+                    Posted::Postings {
+                        from: from[0],
+                        room,
+                    },
+                    Posted::Merged { merge, from, room },
+                ]
+            };
+            for (n, call) in of(SLICE_MAX / 8).into_iter().enumerate() {
+                let count = match call.on(&case.file) {
+                    (outputs, Ok(())) => outputs.count as usize,
+                    (_, Err(_)) => 3,
+                };
+                let room = random.pick(&[0, count.saturating_sub(1), count, count + 1]);
+                recorder.post(&case.file, &of(room)[n]);
+            }
+        }
+    }
+    recorder
+}
+
+/// So many postings by chance, read, written and compared.
+pub fn of_singles(cases: u64) -> Recorder {
+    let mut recorder = Recorder::default();
+    for seed in first_seed()..first_seed() + cases {
+        let Single {
+            numbers,
+            room,
+            bytes,
+            two,
+        } = Single::any(&mut Random::new(seed));
+        for call in [
+            Posted::Read(bytes),
+            Posted::Write { numbers, room },
+            Posted::Compare(two),
+        ] {
+            recorder.post(&[], &call);
         }
     }
     recorder

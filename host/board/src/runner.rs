@@ -1,13 +1,14 @@
 //! Runs the model's lists on a board, and reads what the runner says.
 
 use crate::core::Core;
+use crate::posted::Posted;
 use crate::recorder::Recorder;
 use crate::search::Search;
 use model::Call;
 use std::fs;
 
-/// How many calls there are, on a card and on an index.
-pub const KINDS: usize = Call::NAMES.len() + Search::NAMES.len();
+/// How many calls there are, on a card, on an index and on postings.
+pub const KINDS: usize = Call::NAMES.len() + Search::NAMES.len() + Posted::NAMES.len();
 
 /// How much stack each call used at most, in bytes, by the call's kind.
 pub type Stack = [usize; KINDS];
@@ -25,7 +26,12 @@ pub fn run_with(
     files: &[&str],
     flags: &[&str],
 ) -> Result<Stack, String> {
-    let own = ["host/board/c/runner.c", "host/board/c/index.c"];
+    let own = [
+        "host/board/c/runner.c",
+        "host/board/c/slices.c",
+        "host/board/c/index.c",
+        "host/board/c/postings.c",
+    ];
     let files = [&own, files].concat();
     let program = core.build(name, &files, flags);
     let mut stack = Stack::default();

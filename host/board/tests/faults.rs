@@ -2,6 +2,7 @@
 //! the step and in the words that the way asks for.
 
 use board::core::{CORES, Core, M0};
+use board::posted::Posted;
 use board::recorder::Recorder;
 use board::runner::run_with;
 use board::search::Search;
@@ -9,6 +10,7 @@ use differential::archive::Subject;
 use differential::guarded::Side;
 use model::call::{Call, OwnedDraft};
 use model::index::{Entry, plain};
+use model::postings;
 
 /// Format, then creates and checks in turn: 50 steps with the MST at the last byte and the
 /// XRF at the first, 50 the other way round, and 50 with a list of the draft at the last.
@@ -41,11 +43,24 @@ fn searches() -> Recorder {
     recorder
 }
 
+/// Reads of a list of one posting, with room for it and without, in turn; the file stands at
+/// the last byte in step 0 and at the first in step 1.
+fn reads() -> Recorder {
+    let (ifp, mut recorder) = (postings::plain(&[vec![(7 << 40) + 1]]), Recorder::default());
+    let (file, from) = (ifp.bytes(&mut |_| ()), ifp.starts()[0]);
+    for _ in 0..2 {
+        for room in [1, 0] {
+            recorder.post(&file, &Posted::Postings { from, room });
+        }
+    }
+    recorder
+}
+
 /// What the runner says of a library that is wrong in one way.
 fn caught(core: &Core, way: &str, list: &Recorder) -> String {
     let flags = [
         &format!("-DWRONG={way}"),
-        "-Wl,--wrap=isis_check,--wrap=isis_create,--wrap=isis_lookup",
+        "-Wl,--wrap=isis_check,--wrap=isis_create,--wrap=isis_lookup,--wrap=isis_postings",
     ];
     let name = format!("wrong-{way}");
     run_with(core, &name, list, &["host/board/c/wrong.c"], &flags).expect_err("nothing was noticed")
@@ -139,6 +154,40 @@ fn a_wrong_lookup_is_said() {
         ),
     ] {
         assert_eq!(caught(&M0, way, &searches()), words);
+    }
+}
+
+#[test]
+fn a_byte_read_outside_of_postings_is_a_fault() {
+    faults(&reads(), "READ_BEHIND_IFP", 0);
+    faults(&reads(), "READ_BEFORE_IFP", 1);
+}
+
+#[test]
+fn a_wrong_read_of_postings_is_said() {
+    for (way, words) in [
+        (
+            "WRITE_BEHIND_LIST",
+            "byte 0 behind the list is 0, wanted 183, in step 0\n",
+        ),
+        (
+            "WRITE_BEFORE_LIST",
+            "byte 63 before the list is 0, wanted 183, in step 0\n",
+        ),
+        (
+            "CHANGE_THE_IFP",
+            "byte 20 of the IFP is 0, wanted 1, in step 0\n",
+        ),
+        (
+            "CHANGE_A_POSTING",
+            "byte 0 of the list is 0, wanted 1, in step 0\n",
+        ),
+        (
+            "LEAVE_THE_COUNT",
+            "the count is 4008636142, wanted 0, in step 1\n",
+        ),
+    ] {
+        assert_eq!(caught(&M0, way, &reads()), words);
     }
 }
 

@@ -5,6 +5,7 @@ use board::core::{CORES, root, run};
 use model::draft::need;
 use model::index;
 use model::layout::{self, slot_at};
+use model::postings::{self, Posting, posting};
 use std::collections::BTreeSet;
 use std::fs;
 use std::path::{Path, PathBuf};
@@ -62,6 +63,9 @@ fn sentences() -> Vec<String> {
         ("ISIS_SHORT_TERM_MAX", index::WIDTHS[0]),
         ("ISIS_TERM_MAX", index::LONGEST),
         ("ISIS_NODES_MAX", index::DEEPEST),
+        ("ISIS_POSTING", posting::BYTES),
+        ("ISIS_IFP_WORDS", postings::WORDS as usize),
+        ("ISIS_IFP_HEADER_MAX", postings::LAST_HEADER as usize),
     ];
     let plain = numbers.map(|(name, number)| format!("{name} == {number}"));
     let needs = [
@@ -77,7 +81,17 @@ fn sentences() -> Vec<String> {
     .map(|(fields, data)| format!("ISIS_NEED({fields}, {data}) == {}", need(fields, data)));
     let entries = [1, 2, 127, 128, 129, 254, 255, 520_192]
         .map(|mfn| format!("ISIS_ENTRY_AT({mfn}) == {}", slot_at(mfn)));
-    [&plain[..], &needs, &entries].concat()
+    let postings = [0, 1 << 40, 0x1234_5678_9ABC_DEF0, u64::MAX].map(taken_apart);
+    [&plain[..], &needs, &entries, &postings].concat()
+}
+
+/// That a posting has its four numbers.
+fn taken_apart(bits: u64) -> String {
+    let names = ["PMFN", "PTAG", "POCC", "PCNT"].into_iter();
+    let same = names
+        .zip(Posting::of_bits(bits).numbers())
+        .map(|(name, number)| format!("ISIS_{name}({bits}ULL) == {number}"));
+    same.collect::<Vec<_>>().join(" && ")
 }
 
 /// A C file that compiles only if a sentence is right.
@@ -95,7 +109,7 @@ fn the_numbers_of_the_format_are_the_models() {
         "{all}"
     );
     for sentence in sentences {
-        let wrong = file("wrong.c", &asserted(&sentence.replace("==", "!=")));
+        let wrong = file("wrong.c", &asserted(&format!("!({sentence})")));
         assert!(
             !compiles("arm-none-eabi-gcc", "-std=c99", "c", &wrong),
             "{sentence}"

@@ -4,13 +4,17 @@
 use board::core::CORES;
 use board::list::List;
 use board::lists::ALL;
-use board::recorder::Searched;
+use board::posted::Posted;
+use board::recorder::{Read, Searched};
 use board::runner;
 use board::search::Search;
 use differential::families::said;
 use differential::tally::{ANSWERS, Tally};
 use model::Call;
 use model::index::fault::{Broken, Why};
+use model::postings::fault as postings;
+use model::postings::place;
+use model::postings::read::Merge;
 use std::collections::BTreeSet;
 
 /// Makes a list and runs it on every core.
@@ -79,15 +83,47 @@ fn rubbish_indexes() {
     holds(9);
 }
 
+#[test]
+fn built_postings() {
+    holds(10);
+}
+
+#[test]
+fn damaged_postings() {
+    holds(11);
+}
+
+#[test]
+fn poked_postings() {
+    holds(12);
+}
+
+#[test]
+fn headers_by_chance() {
+    holds(13);
+}
+
+#[test]
+fn rubbish_postings() {
+    holds(14);
+}
+
+#[test]
+fn single_postings() {
+    holds(15);
+}
+
 /// A list that never meets an answer says nothing about it, nor one that never meets the
-/// breach of a rule of an index.
+/// breach of a rule of an index or of postings.
 #[test]
 fn the_lists_meet_every_answer_and_every_broken_rule() {
     let (mut tally, mut searched) = (Tally::default(), BTreeSet::new());
+    let mut posted = BTreeSet::new();
     for (_, make) in ALL {
         let made = make();
         tally.join(&made.tally);
         searched.extend(made.searched);
+        posted.extend(made.posted);
     }
     println!("{tally}");
     for (call, answers) in ANSWERS.iter().enumerate() {
@@ -100,6 +136,29 @@ fn the_lists_meet_every_answer_and_every_broken_rule() {
         }
     }
     every_rule_is_broken(&searched);
+    every_rule_of_postings_is_broken(&posted);
+}
+
+/// Whether each call on lists of postings was done, and refused for all that it asks.
+fn every_rule_of_postings_is_broken(posted: &BTreeSet<Read>) {
+    let from = place(1, 0);
+    let merged = |merge| Posted::Merged {
+        merge,
+        from: [from; 2],
+        room: 0,
+    };
+    for call in [
+        Posted::Postings { from, room: 0 },
+        merged(Merge::Common),
+        merged(Merge::Joined),
+    ] {
+        let rules = postings::Broken::ALL.map(postings::Why::Broken);
+        let refusals = rules.into_iter().chain([postings::Why::NoRoom]).map(Err);
+        for outcome in refusals.chain([Ok(())]) {
+            let kind = call.kind();
+            assert!(posted.contains(&(kind, outcome)), "{kind}: {outcome:?}");
+        }
+    }
 }
 
 /// Whether both calls on an index were done, and refused for everything that they ask.

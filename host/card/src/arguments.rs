@@ -1,6 +1,7 @@
 //! The words of the command line, each read strictly: what is not understood is
 //! said in one sentence.
 
+use crate::search::Wanted;
 use crate::trouble::Trouble;
 use std::ffi::{OsStr, OsString};
 use std::iter::Peekable;
@@ -101,6 +102,42 @@ impl Arguments {
             terms.push(term);
         }
         Ok(terms)
+    }
+
+    /// The terms of a search, one or more, and which records it is for: all words that are
+    /// left. Of several terms it must be said whether a record has all or any.
+    pub fn search(&mut self) -> Result<(Vec<OsString>, Wanted), Trouble> {
+        let (mut terms, mut wanted) = (Vec::new(), self.said(None)?);
+        while let Some(term) = self.unless_flag()? {
+            terms.push(term);
+            wanted = self.said(wanted)?;
+        }
+        match (terms.len(), wanted) {
+            (0, _) => Err(self.usage("a term is missing")),
+            (1, None) => Ok((terms, Wanted::All)),
+            (_, Some(wanted)) => Ok((terms, wanted)),
+            (_, None) => Err(self.usage(
+                "--and or --or is missing: it says whether a record has all of several terms or any",
+            )),
+        }
+    }
+
+    /// What flags that come next say of a search, beside what was said before.
+    fn said(&mut self, before: Option<Wanted>) -> Result<Option<Wanted>, Trouble> {
+        let mut wanted = before;
+        loop {
+            let said = if self.flag("--and") {
+                Wanted::All
+            } else if self.flag("--or") {
+                Wanted::Any
+            } else {
+                return Ok(wanted);
+            };
+            if wanted.is_some_and(|before| before != said) {
+                return Err(self.usage("--and and --or are both there"));
+            }
+            wanted = Some(said);
+        }
     }
 
     /// An MFN.
@@ -241,6 +278,32 @@ mod tests {
             assert!(named(&["1", bad]).is_err(), "{bad}");
         }
         assert!(named(&[]).is_err());
+    }
+
+    #[test]
+    fn a_search_has_terms_and_says_which() {
+        let search = |words: &[&str]| arguments(words).search().ok();
+        let some = |terms: &[&str], wanted| {
+            Some((terms.iter().map(OsString::from).collect::<Vec<_>>(), wanted))
+        };
+        assert_eq!(search(&["A"]), some(&["A"], Wanted::All));
+        assert_eq!(search(&["A", "--or"]), some(&["A"], Wanted::Any));
+        assert_eq!(search(&["A", "B", "--and"]), some(&["A", "B"], Wanted::All));
+        assert_eq!(search(&["--or", "A", "B"]), some(&["A", "B"], Wanted::Any));
+        let twice = ["A", "--or", "B", "--or"];
+        assert_eq!(search(&twice), some(&["A", "B"], Wanted::Any));
+        let plain = ["--and", "A", "--", "--or"];
+        assert_eq!(search(&plain), some(&["A", "--or"], Wanted::All));
+        for bad in [
+            &[][..],
+            &["--and"],
+            &["A", "B"],
+            &["A", "B", "--and", "--or"],
+            &["A", "--or", "B", "--and"],
+            &["A", "B", "--not"],
+        ] {
+            assert_eq!(search(bad), None, "{bad:?}");
+        }
     }
 
     #[test]

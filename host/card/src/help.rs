@@ -4,7 +4,7 @@
 use crate::arguments::{Arguments, quoted};
 use crate::say::print;
 use crate::trouble::{STATUSES, Trouble};
-use crate::{calls, check, draw, lookup, settle, show, stat};
+use crate::{calls, check, draw, lookup, search, settle, show, stat};
 use isis::Refusal;
 use std::ffi::OsStr;
 
@@ -47,6 +47,25 @@ both, CNT is taken in capitals and the others as CNT is. The files are only read
 ",
 };
 
+const POSTINGS: On = On {
+    names: "NAME",
+    about: SIX,
+};
+
+const SEARCH: On = On {
+    names: "NAME MST XRF",
+    about: SIX,
+};
+
+const SIX: &str = "\
+NAME is what the six files of a search index have in common: those of 'card lookup', and the
+postings file, NAME.IFP, whose ending is taken as the others are. They are only read; they may
+have 512 MB in all.
+";
+
+/// What the overview says of them behind the five.
+const POSTINGS_BESIDE: &str = "The postings file beside them is NAME.IFP.\n";
+
 const FIELDS: &str = "\
 A FIELD is TAG=TEXT, with a tag from 1 to 32767. TAG=@FILE takes the bytes of a file, of which no
 more are read than a record can hold; TAG=@@TEXT is a text that begins with an @. The word --empty
@@ -54,7 +73,7 @@ in place of the fields makes a record without any.
 ";
 
 /// Every command.
-pub const VERBS: [Verb; 13] = [
+pub const VERBS: [Verb; 15] = [
     Verb {
         name: "format",
         run: calls::format,
@@ -184,6 +203,32 @@ pub const VERBS: [Verb; 13] = [
                is named.\n",
         refusals: &[21],
     },
+    Verb {
+        name: "postings",
+        run: search::postings,
+        on: POSTINGS,
+        forms: &[("TERM", "show where a term occurs")],
+        more: "A line says where the term's list begins in the postings file and how many postings it has. Then\n\
+               each has its own, in stored order: the record, the field, the occurrence of the field, and the\n\
+               term's number in it:\n    \
+               KITE: block 3, word 12, 1 posting\n      \
+               MFN 1, field 24, occurrence 1, term 2\n\
+               Of a list that is not right the first broken rule is named.\n",
+        refusals: &[20, 21, 22, 23],
+    },
+    Verb {
+        name: "search",
+        run: search::search,
+        on: SEARCH,
+        forms: &[(
+            "TERM... --and|--or",
+            "show the records that have all or any of some terms",
+        )],
+        more: "The records are shown as 'card show' shows them, in the order of their MFNs. A single term needs\n\
+               neither flag. A term that the index does not hold is refused, also with --or. A record that is\n\
+               deleted or gone is shown as such; the status is that of the first that cannot be shown.\n",
+        refusals: &[1, 2, 4, 6, 8, 20, 21, 22, 23],
+    },
 ];
 
 /// The command of a name.
@@ -228,8 +273,9 @@ fn overview() -> String {
     text += "  card --version                         tell the version of this command\n\n";
     text += FIELDS;
     text += INDEX.about;
+    text += POSTINGS_BESIDE;
     text += "Words behind -- are no flags. A change is on the disk when the command ends, both files or none.\n\n";
-    text + "Exit status: 0 if done, the answer number if refused (1 to 22), and\n" + &statuses()
+    text + "Exit status: 0 if done, the answer number if refused (1 to 23), and\n" + &statuses()
 }
 
 /// The statuses that every command has.

@@ -1,10 +1,11 @@
-//! The five files of a search index: CNT, and the nodes and leaves of two trees. They share a
-//! name and have an ending each, in capitals or in small letters. They are only read.
+//! The files of a search index: CNT, the nodes and leaves of two trees, and the postings file.
+//! They share a name and have an ending each, in capitals or in small letters. They are only
+//! read.
 
 use crate::disk;
 use crate::files::read;
 use crate::trouble::Trouble;
-use isis::Index;
+use isis::{IfpPlace, Index};
 use std::fs;
 use std::io;
 use std::path::{Path, PathBuf};
@@ -14,6 +15,14 @@ const LONGEST: u64 = 1 << 29;
 
 /// The endings in capitals, CNT first.
 const ENDINGS: [&str; 5] = ["CNT", "N01", "L01", "N02", "L02"];
+
+/// The ending of the postings file.
+const POSTINGS: &str = "IFP";
+
+/// A place of the postings file in words.
+pub fn place_words(IfpPlace { block, word }: IfpPlace) -> String {
+    format!("block {block}, word {word}")
+}
 
 /// A file of an index in memory.
 pub struct IndexFile {
@@ -37,11 +46,18 @@ impl IndexFiles {
     /// Reads the five files of a name. Where an ending is there in capitals and in small
     /// letters, CNT is taken in capitals and the others as CNT is.
     pub fn read(name: &Path) -> Result<IndexFiles, Trouble> {
-        let mut reading = Reading {
-            name,
-            capitals: true,
-            left: LONGEST,
-        };
+        IndexFiles::from(&mut Reading::of(name, "five"))
+    }
+
+    /// Reads these and the postings file, which is taken as the others are.
+    pub fn with_postings(name: &Path) -> Result<(IndexFiles, IndexFile), Trouble> {
+        let mut reading = Reading::of(name, "six");
+        let files = IndexFiles::from(&mut reading)?;
+        let (postings, _) = reading.file(POSTINGS)?;
+        Ok((files, postings))
+    }
+
+    fn from(reading: &mut Reading) -> Result<IndexFiles, Trouble> {
         let [cnt, n01, l01, n02, l02] = ENDINGS;
         let (cnt, capitals) = reading.file(cnt)?;
         reading.capitals = capitals;
@@ -70,13 +86,25 @@ impl IndexFiles {
 /// Files of a name that are being read.
 struct Reading<'a> {
     name: &'a Path,
+    /// How many there are, in a word.
+    files: &'static str,
     /// Whether an ending is looked for in capitals first.
     capitals: bool,
     /// How many bytes may still be read.
     left: u64,
 }
 
-impl Reading<'_> {
+impl<'a> Reading<'a> {
+    /// Nothing read yet.
+    fn of(name: &'a Path, files: &'static str) -> Reading<'a> {
+        Reading {
+            name,
+            files,
+            capitals: true,
+            left: LONGEST,
+        }
+    }
+
     /// The file of an ending, and whether that is in capitals.
     fn file(&mut self, ending: &str) -> Result<(IndexFile, bool), Trouble> {
         let path = |capitals| with_ending(self.name, ending, capitals);
@@ -86,9 +114,9 @@ impl Reading<'_> {
         };
         let path = path(capitals);
         let (_, bytes) = read(&path, self.left, |len| {
-            let path = path.display();
+            let (path, files) = (path.display(), self.files);
             Trouble::File(format!(
-                "{path}: cannot be read: it has {len} bytes, and the five files may have {LONGEST} in all"
+                "{path}: cannot be read: it has {len} bytes, and the {files} files may have {LONGEST} in all"
             ))
         })?;
         self.left = self.left.saturating_sub(bytes.len() as u64);
@@ -128,7 +156,12 @@ fn none(name: &Path, [path, other]: [PathBuf; 2]) -> Trouble {
 fn advice(name: &Path) -> &'static str {
     let ending = name.extension().map(|ending| ending.to_ascii_uppercase());
     match ending {
-        Some(ending) if ENDINGS.iter().any(|known| ending == *known) => {
+        Some(ending)
+            if ENDINGS
+                .iter()
+                .chain([&POSTINGS])
+                .any(|known| ending == *known) =>
+        {
             "; an index is named without an ending"
         }
         _ if name.is_dir() => "; an index is named by its files, not by a folder",

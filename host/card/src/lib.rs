@@ -1,8 +1,8 @@
 //! `card`: the command for a CDS/ISIS card kept in two files, and its search index.
 //!
 //! Every change is made by the proved library, and every answer number is its own.
-//! The words beside a number come from a second reading of the bytes, in `faults` and
-//! `tree_faults`.
+//! The words beside a number come from a second reading of the bytes, in `faults`,
+//! `tree_faults` and `posting_faults`.
 
 mod arguments;
 mod calls;
@@ -20,12 +20,14 @@ mod layout;
 mod lookup;
 mod mark;
 mod picture;
+mod posting_faults;
 mod printable;
 mod progress;
 mod record;
 mod recover;
 pub mod replace;
 mod say;
+mod search;
 mod settle;
 mod show;
 mod stat;

@@ -2,10 +2,10 @@
 //! bytes says what is wrong with an index and where.
 
 use crate::arguments::{Arguments, quoted};
-use crate::index::IndexFiles;
+use crate::index::{IndexFiles, place_words};
 use crate::printable::printable;
 use crate::progress::with_progress;
-use crate::say::{Lines, print, tell};
+use crate::say::{Lines, print};
 use crate::tree::KEYS;
 use crate::tree_faults::{of_index, of_lookup};
 use crate::trouble::Trouble;
@@ -22,36 +22,28 @@ pub fn lookup(mut arguments: Arguments) -> Result<(), Trouble> {
     let mut first = Ok(());
     for term in &terms {
         match files.index().lookup(term.as_bytes()) {
-            Ok(place) => out.add(line(term, &words(place))),
+            Ok(place) => out.add(line(term, &place_words(place))),
             Err(refusal) => {
                 if terms.len() > 1 {
                     let refused = Trouble::Refused(refusal, String::new());
                     out.add(line(term, &refused.to_string()));
                 }
-                first = first.and_then(|()| {
-                    let found = reason(refusal, &files, term);
-                    Err(Trouble::Refused(refusal, found))
-                });
+                first = first.and_then(|()| place(&files, term).map(drop));
             }
         }
     }
-    match (first, out.end()) {
-        (Ok(()), printed) => printed,
-        (Err(trouble), printed) => {
-            printed.unwrap_or_else(tell);
-            Err(trouble)
-        }
-    }
+    out.end_after(first)
+}
+
+/// Where the postings of a term begin.
+pub fn place(files: &IndexFiles, term: &OsStr) -> Result<IfpPlace, Trouble> {
+    let place = files.index().lookup(term.as_bytes());
+    place.map_err(|refusal| Trouble::Refused(refusal, reason(refusal, files, term)))
 }
 
 /// What became of a term, in a line.
 fn line(term: &OsStr, words: &str) -> String {
     format!("{}: {words}\n", printable(term.as_bytes()))
-}
-
-/// Where postings begin, in words.
-fn words(IfpPlace { block, word }: IfpPlace) -> String {
-    format!("block {block}, word {word}")
 }
 
 /// What was found behind the refusal of a term, in words.

@@ -54,4 +54,16 @@ impl Lines {
             _ => Ok(()),
         }
     }
+
+    /// The same of a command's last text: where it has trouble of its own, that of the text is
+    /// only told.
+    pub fn end_after(self, done: Result<(), Trouble>) -> Result<(), Trouble> {
+        match (done, self.end()) {
+            (Ok(()), printed) => printed,
+            (Err(trouble), printed) => {
+                printed.unwrap_or_else(tell);
+                Err(trouble)
+            }
+        }
+    }
 }

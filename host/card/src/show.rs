@@ -6,7 +6,7 @@ use crate::arguments::Arguments;
 use crate::check::{About, opened, refused};
 use crate::files::Files;
 use crate::printable::printable;
-use crate::say::{Lines, tell};
+use crate::say::Lines;
 use crate::trouble::Trouble;
 use isis::{Answer, Fields, Mark, Refusal, State};
 
@@ -21,13 +21,7 @@ pub fn show(mut arguments: Arguments) -> Result<(), Trouble> {
         Some(mfn) => show_one(&files, mfn, &mut out),
         None => show_all(&files, &mut out),
     };
-    match (shown, out.end()) {
-        (Ok(()), printed) => printed,
-        (Err(trouble), printed) => {
-            printed.unwrap_or_else(tell);
-            Err(trouble)
-        }
-    }
+    out.end_after(shown)
 }
 
 /// One record. Its state is printed even if it is deleted or gone, and the exit
@@ -44,12 +38,21 @@ fn show_one(files: &Files, mfn: u32, out: &mut Lines) -> Result<(), Trouble> {
     })
 }
 
-/// Every record. Deleted and gone ones are part of the list; the first record that is
-/// not as it must be gives the exit status.
+/// Every record.
 fn show_all(files: &Files, out: &mut Lines) -> Result<(), Trouble> {
     let store = opened(files)?;
+    show_each(files, 1..store.next as u32, out)
+}
+
+/// Records of a card that is opened. Deleted and gone ones are part of the list; the first
+/// record that is not as it must be gives the exit status.
+pub fn show_each(
+    files: &Files,
+    mfns: impl IntoIterator<Item = u32>,
+    out: &mut Lines,
+) -> Result<(), Trouble> {
     let mut first = Ok(());
-    for mfn in 1..store.next as u32 {
+    for mfn in mfns {
         match show_one(files, mfn, out) {
             Err(Trouble::Refused(Refusal::Deleted, _)) | Ok(()) => {}
             Err(Trouble::Refused(Refusal::Gone, _)) => {

@@ -1,9 +1,10 @@
-//! Cards and indexes for tests: made at random, by calls of the library and by the model's
-//! builder, and then damaged.
+//! Cards, indexes and postings for tests: made at random, by calls of the library and by the
+//! model's builders, and then damaged.
 
 use crate::index::{IndexFile, IndexFiles};
-use isis::Card;
+use isis::{Card, IfpPlace};
 use model::index::{Entry, shuffled};
+use model::postings;
 use model::random::Random;
 use std::collections::BTreeSet;
 
@@ -115,6 +116,42 @@ pub fn damage_index(dice: &mut Dice, files: &mut IndexFiles) {
             5..12 => bytes[at] = bytes[at].wrapping_add(1),
             12..19 => bytes[at] = bytes[at].wrapping_sub(1),
             _ => bytes[at] ^= 1 << dice.below(8),
+        }
+    }
+}
+
+/// A postings file of any shape, and where its lists begin.
+pub fn postings(dice: &mut Dice) -> (IndexFile, Vec<IfpPlace>) {
+    let list = |dice: &mut Dice| -> Vec<u64> {
+        let list: BTreeSet<u64> = (0..dice.below(30))
+            .map(|_| ((dice.below(9) as u64) << 40) + dice.below(9) as u64)
+            .collect();
+        list.into_iter().collect()
+    };
+    let lists: Vec<Vec<u64>> = (0..1 + dice.below(3)).map(|_| list(dice)).collect();
+    let ifp = postings::shuffled(&lists, &mut Random::new(dice.0));
+    let places = ifp.starts().into_iter().map(|at| IfpPlace {
+        block: at.block,
+        word: at.word,
+    });
+    let file = IndexFile {
+        path: "a.IFP".into(),
+        bytes: ifp.bytes(&mut |_| ()),
+    };
+    (file, places.collect())
+}
+
+/// Changes a few bytes of it anywhere, or cuts it.
+pub fn damage_postings(dice: &mut Dice, file: &mut IndexFile) {
+    let bytes = &mut file.bytes;
+    for _ in 0..dice.below(6) {
+        let at = dice.below(bytes.len().max(1));
+        match dice.below(12) {
+            0 => bytes.truncate(at),
+            _ if at >= bytes.len() => {}
+            1..4 => bytes[at] = dice.below(256) as u8,
+            4..8 => bytes[at] = bytes[at].wrapping_add(1),
+            _ => bytes[at] = bytes[at].wrapping_sub(1),
         }
     }
 }

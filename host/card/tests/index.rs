@@ -4,8 +4,8 @@
 
 mod folder;
 
+use folder::Folder;
 use folder::index::{ENDINGS, TERMS, files, trees};
-use folder::{Folder, as_nobody};
 use std::fs;
 use std::os::unix::fs::symlink;
 
@@ -161,18 +161,7 @@ fn missing_files_are_said_in_a_sentence() {
     folder.refused("lookup no/a KITE", 66, "there is no folder no\n");
     folder.refused("lookup a.CNT/a KITE", 66, "a.CNT is no folder");
     for ending in ENDINGS {
-        let path = folder.0.join(format!("a.{ending}"));
-        let bytes = fs::read(&path).unwrap();
-        fs::remove_file(&path).unwrap();
-        let small = ending.to_lowercase();
-        let why = format!("a.{ending}: cannot be read: there is no such file, nor a.{small}\n");
-        folder.refused("lookup a KITE", 66, &why);
-        folder.refused("check-index a", 66, &why);
-        fs::create_dir(&path).unwrap();
-        let why = format!("a.{ending}: cannot be read: this is a folder");
-        folder.refused("check-index a", 66, &why);
-        fs::remove_dir(&path).unwrap();
-        fs::write(&path, bytes).unwrap();
+        folder.needs(ending, &["lookup a KITE", "check-index a"]);
     }
     fs::rename(folder.0.join("a.CNT"), folder.0.join("a.cnt")).unwrap();
     fs::remove_file(folder.0.join("a.L02")).unwrap();
@@ -207,18 +196,7 @@ fn a_name_that_is_none_of_an_index() {
 fn files_that_may_not_be_read() {
     let folder = Folder::with_index("lookup-locked");
     for ending in ENDINGS {
-        let name = format!("a.{ending}");
-        folder.permit(&name, 0o000);
-        let mut command = folder.command("lookup a KITE");
-        if !as_nobody(&mut command) {
-            return;
-        }
-        let output = command.output().unwrap();
-        let said = String::from_utf8(output.stderr).unwrap();
-        assert_eq!(output.status.code(), Some(66), "{said}");
-        let why = format!("card: {name}: cannot be read: permission denied\n");
-        assert_eq!(said, why);
-        folder.permit(&name, 0o644);
+        folder.refused_unread(&format!("a.{ending}"), "lookup a KITE");
     }
 }
 
@@ -239,12 +217,6 @@ fn links_and_what_is_no_plain_file() {
 #[test]
 fn no_more_than_512_mb_are_read() {
     let folder = Folder::with_index("lookup-huge");
-    let lengthen = |name: &str, len: u64| {
-        let file = fs::OpenOptions::new()
-            .append(true)
-            .open(folder.0.join(name));
-        file.unwrap().set_len(len).unwrap();
-    };
     let is_refused = |why: &str| {
         let run = folder.card("lookup a KITE");
         assert_eq!((run.status, run.out.as_str()), (66, ""), "{run:?}");
@@ -254,9 +226,9 @@ fn no_more_than_512_mb_are_read() {
             "{run:?}"
         );
     };
-    lengthen("a.N02", (1 << 40) + 1);
+    folder.lengthen("a.N02", (1 << 40) + 1);
     is_refused("a.N02: cannot be read: it has 1099511627777 bytes");
-    lengthen("a.N02", (1 << 29) - 1);
+    folder.lengthen("a.N02", (1 << 29) - 1);
     is_refused("a.N02: cannot be read: it has 536870911 bytes");
 }
 
@@ -270,12 +242,7 @@ fn output_that_is_lost() {
         ("lookup a KIT", 22),
         ("lookup a KITE KIT KITE_", 22),
     ] {
-        let full = fs::OpenOptions::new()
-            .write(true)
-            .open("/dev/full")
-            .unwrap();
-        let output = folder.command(words).stdout(full).output().unwrap();
-        assert_eq!(output.status.code(), Some(status), "{words}");
+        assert_eq!(folder.unprinted(words), Some(status), "{words}");
     }
     let (reader, writer) = std::io::pipe().unwrap();
     drop(reader);

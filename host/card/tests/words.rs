@@ -10,7 +10,7 @@ use std::process::Command;
 use std::thread::JoinHandle;
 
 /// Every command, and what it works on.
-const VERBS: [(&str, &str); 12] = [
+const VERBS: [(&str, &str); 15] = [
     ("format", "MST XRF"),
     ("show", "MST XRF"),
     ("create", "MST XRF"),
@@ -18,11 +18,14 @@ const VERBS: [(&str, &str); 12] = [
     ("delete", "MST XRF"),
     ("settle", "MST XRF"),
     ("revert", "MST XRF"),
+    ("migrate", "MST XRF"),
     ("check", "MST XRF"),
     ("stat", "MST XRF"),
     ("draw", "MST XRF"),
     ("lookup", "NAME TERM..."),
     ("check-index", "NAME"),
+    ("postings", "NAME TERM"),
+    ("search", "NAME MST XRF TERM... --and|--or"),
 ];
 
 #[test]
@@ -55,6 +58,8 @@ fn every_command_has_help() {
         ("lookup", "KITE: block 3, word 12"),
         ("lookup", "NAME.CNT"),
         ("check-index", "small letters"),
+        ("postings", "NAME.IFP"),
+        ("search", "also with --or"),
     ] {
         assert!(
             folder.done(&format!("help {verb}")).contains(word),

@@ -121,7 +121,7 @@ impl Archive {
                 b.0, b.1, b.2, b.3, d.tags, d.tags_len, d.lens, d.lens_len, d.data, d.data_len, mfn,
             )
         };
-        self.drafts.only_read(draft, side);
+        self.drafts.only_read(draft);
         Given {
             mfn: self.words[0].one(side),
             ..plain(number)
@@ -136,15 +136,16 @@ impl Archive {
                 b.0, b.1, b.2, b.3, mfn, d.tags, d.tags_len, d.lens, d.lens_len, d.data, d.data_len,
             )
         };
-        self.drafts.only_read(draft, side);
+        self.drafts.only_read(draft);
         plain(number)
     }
 
     unsafe fn settle_list(&mut self, b: Buffers, mfns: &[u32], room: usize, side: Side) -> Given {
-        let (m, a) = (self.mfns.lend(mfns, side), self.words[0].lend(room, side));
+        let (m, len) = self.mfns.lend(mfns, side, false);
+        let a = self.words[0].lend(room, side);
         // SAFETY: as in `run`.
-        let number = unsafe { raw::isis_settle_list(b.0, b.1, b.2, b.3, m, mfns.len(), a, room) };
-        assert!(self.mfns.kept(mfns, side), "a lent list was written to");
+        let number = unsafe { raw::isis_settle_list(b.0, b.1, b.2, b.3, m, len, a, room) };
+        assert!(self.mfns.kept(mfns), "a lent list was written to");
         Given {
             answers: self.words[0].taken(room, side),
             ..plain(number)

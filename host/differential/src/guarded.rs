@@ -92,9 +92,11 @@ impl Area {
         buffer
     }
 
-    /// How many bytes have room.
-    pub fn room(&self) -> usize {
-        self.len
+    /// Takes a larger area where so many bytes have no room.
+    pub fn grow(&mut self, room: usize) {
+        if room > self.len {
+            *self = Area::new(room);
+        }
     }
 
     /// From now on the bytes of the buffer belong to none.

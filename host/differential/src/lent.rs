@@ -1,6 +1,6 @@
 //! What a call is lent beside the card, each in an area of its own between guard pages:
-//! the lists of a draft and a list of MFNs, which must only be read, and outputs, which are
-//! full of rubbish before and beside which no byte may be written.
+//! the lists of a draft, a list of MFNs, and files of an index, which must only be read, and
+//! outputs, which are full of rubbish before and beside which no byte may be written.
 
 use crate::guarded::{Area, Side};
 use model::OwnedDraft;
@@ -21,6 +21,7 @@ impl Number for u8 {}
 impl Number for u16 {}
 impl Number for u32 {}
 impl Number for i32 {}
+impl Number for u64 {}
 impl Number for usize {}
 
 /// The bytes of some numbers.
@@ -29,36 +30,63 @@ fn bytes_of<T: Number>(numbers: &[T]) -> &[u8] {
     unsafe { std::slice::from_raw_parts(numbers.as_ptr().cast(), size_of_val(numbers)) }
 }
 
-/// An area for a list that must only be read.
+/// A list against a guard page that must only be read. Where its area is shut, who writes
+/// there is caught.
 #[derive(Debug)]
 pub struct Input<T> {
     area: Area,
+    bytes: usize,
+    side: Side,
+    shut: bool,
     kind: PhantomData<T>,
 }
 
 impl<T: Number> Input<T> {
-    /// An area that grows where it must.
+    /// No element, in an area that grows where it must.
     #[allow(clippy::new_without_default)]
     pub fn new() -> Input<T> {
         Input {
             area: Area::new(0),
+            bytes: 0,
+            side: Side::Back,
+            shut: false,
             kind: PhantomData,
         }
     }
 
-    /// Copies a list to the guard pages.
-    pub fn lend(&mut self, list: &[T], side: Side) -> *const T {
+    /// Lends another list, shut against writing or not.
+    pub fn lend(&mut self, list: &[T], side: Side, shut: bool) -> (*const T, usize) {
+        self.shut(false);
+        self.area.give_back(self.bytes, self.side);
         let bytes = bytes_of(list);
-        if bytes.len() > self.area.room() {
-            self.area = Area::new(bytes.len());
-        }
-        pointer(self.area.bytes(bytes, side), side).cast()
+        self.area.grow(bytes.len());
+        self.area.bytes(bytes, side);
+        (self.bytes, self.side) = (bytes.len(), side);
+        self.shut(shut);
+        self.lent()
     }
 
-    /// Whether a list that was lent was only read.
-    pub fn kept(&mut self, list: &[T], side: Side) -> bool {
-        let bytes = bytes_of(list);
-        *self.area.buffer(bytes.len(), side) == *bytes
+    fn shut(&mut self, shut: bool) {
+        if self.shut != shut {
+            self.area.read_only(shut);
+            self.shut = shut;
+        }
+    }
+
+    /// Where the list is, NULL for an empty one at the front guard page, and how many elements
+    /// it has.
+    pub fn lent(&mut self) -> (*const T, usize) {
+        let buffer = self.area.buffer(self.bytes, self.side);
+        (
+            pointer(buffer, self.side).cast(),
+            self.bytes / size_of::<T>(),
+        )
+    }
+
+    /// Whether nothing was written, there or beside it.
+    pub fn kept(&mut self, list: &[T]) -> bool {
+        self.area.slack_kept(self.bytes, self.side)
+            && *self.area.buffer(self.bytes, self.side) == *bytes_of(list)
     }
 }
 
@@ -93,21 +121,24 @@ impl Drafts {
 
     /// Copies a draft to the guard pages; gives the six arguments.
     pub fn lend(&mut self, draft: &OwnedDraft, side: Side) -> Lent {
+        let (tags, tags_len) = self.tags.lend(&draft.tags, side, false);
+        let (lens, lens_len) = self.lens.lend(&draft.lens, side, false);
+        let (data, data_len) = self.data.lend(&draft.data, side, false);
         Lent {
-            tags: self.tags.lend(&draft.tags, side),
-            tags_len: draft.tags.len(),
-            lens: self.lens.lend(&draft.lens, side),
-            lens_len: draft.lens.len(),
-            data: self.data.lend(&draft.data, side),
-            data_len: draft.data.len(),
+            tags,
+            tags_len,
+            lens,
+            lens_len,
+            data,
+            data_len,
         }
     }
 
     /// Holds that a lent draft was only read.
-    pub fn only_read(&mut self, draft: &OwnedDraft, side: Side) {
-        let kept = self.tags.kept(&draft.tags, side)
-            && self.lens.kept(&draft.lens, side)
-            && self.data.kept(&draft.data, side);
+    pub fn only_read(&mut self, draft: &OwnedDraft) {
+        let kept = self.tags.kept(&draft.tags)
+            && self.lens.kept(&draft.lens)
+            && self.data.kept(&draft.data);
         assert!(kept, "a lent draft was written to");
     }
 }
@@ -131,9 +162,7 @@ impl<T: Number> Output<T> {
     /// Lends so many elements, full of rubbish.
     pub fn lend(&mut self, elements: usize, side: Side) -> *mut T {
         let bytes = elements * size_of::<T>();
-        if bytes > self.area.room() {
-            self.area = Area::new(bytes);
-        }
+        self.area.grow(bytes);
         let buffer = self.area.buffer(bytes, side);
         buffer.fill(RUBBISH);
         pointer(buffer, side).cast()

@@ -8,7 +8,8 @@
 //! ([`shrink`]) before it is shown. [`families`] makes trials at random; every seed
 //! is printed, and `ISIS_SEED=n` runs others.
 //!
-//! [`index`] does the same for the two calls on a search index, which is only read.
+//! [`index`] does the same for the two calls on a search index, which is only read, and
+//! [`postings`] for the six on its postings.
 
 pub mod archive;
 pub mod biblio;
@@ -17,7 +18,9 @@ pub mod families;
 pub mod guarded;
 pub mod index;
 mod lent;
+pub mod postings;
 pub mod random_cards;
+pub mod seeds;
 pub mod shrink;
 pub mod tally;
 pub mod trial;

@@ -5,21 +5,34 @@
 //! What request C-11 makes of it: every one of its 107 terms is found, at a place of the
 //! postings file where a list begins. The check answers 21, since the first key of each root
 //! is all spaces and not its leaf's first key; with these two keys put right it answers 0.
+//!
+//! What request C-14 makes of it: all 137 postings of these terms are read, and each leads to
+//! a field of its record in which the term stands; MFN 3, which WinISIS deleted, cannot be
+//! shown.
 
 use differential::guarded::Side;
 use differential::index::compare::{Case, Tally};
 use differential::index::terms::around;
 use differential::index::{Archive, Given, Reader};
+use differential::postings::{self, Reader as _, given_for};
 use model::bytes::i32_at;
 use model::index::fault::Broken;
 use model::index::{Entry, Files};
+use model::postings::read::Merge;
+use model::postings::{Place, Posting, place};
 use model::random::Random;
+use std::collections::BTreeMap;
 use std::fs;
-use std::path::Path;
+use std::path::{Path, PathBuf};
+
+/// The folder of the databases.
+fn folder() -> PathBuf {
+    Path::new(env!("CARGO_MANIFEST_DIR")).join("../../target/desktop-cards")
+}
 
 /// CNT, N01, L01, N02 and L02, and the postings file, if they are there.
 fn desktop() -> Option<(Files, Vec<u8>)> {
-    let folder = Path::new(env!("CARGO_MANIFEST_DIR")).join("../../target/desktop-cards");
+    let folder = folder();
     if !folder.is_dir() {
         println!("skipped, there is no target/desktop-cards: .ci/desktop-cards fetches it");
         return None;
@@ -150,4 +163,122 @@ fn terms_known_by_eye() {
         };
         assert_eq!(archive.lookup(term, Side::Front), wanted, "{term:?}");
     }
+}
+
+/// The postings of each term, as the archive reads them.
+fn read_all(files: &Files, ifp: &[u8]) -> BTreeMap<Vec<u8>, Vec<Posting>> {
+    let mut archive = postings::Archive::new();
+    archive.lend(ifp, Side::Back);
+    let read = |Entry { term, block, word }| {
+        let given = archive.postings(place(block, word), 20, Side::Back);
+        assert_eq!(given.number, 0, "{term:?}");
+        let list = given.list[..given.count].iter();
+        (term, list.map(|&bits| Posting::of_bits(bits)).collect())
+    };
+    terms(files).into_iter().map(read).collect()
+}
+
+/// A text as its words in capitals, a space around each: subfield marks and all that is no
+/// letter or digit divide words, and a letter that is not ASCII is 0.
+fn in_words(text: &[u8]) -> Vec<u8> {
+    let marks = text.split(|&byte| byte == b'^').enumerate();
+    let parts = marks.map(|(n, part)| {
+        if n == 0 {
+            part
+        } else {
+            &part[1.min(part.len())..]
+        }
+    });
+    let mut words = vec![b' '];
+    for byte in parts.collect::<Vec<_>>().join(&b' ') {
+        match byte.to_ascii_uppercase() {
+            letter if letter.is_ascii_alphanumeric() => words.push(letter),
+            0x80.. => words.push(0),
+            _ if words.ends_with(b" ") => {}
+            _ => words.push(b' '),
+        }
+    }
+    words.push(b' ');
+    words
+}
+
+/// Whether the words of a field have a term's, where a letter that is not ASCII is any.
+fn has(field: &[u8], term: &[u8]) -> bool {
+    let (field, mut wanted) = (in_words(field), in_words(term));
+    let cut = wanted.trim_ascii_end().len();
+    wanted.truncate(if term.len() < 30 { cut + 1 } else { cut });
+    let same = |(a, b): (&u8, &u8)| a == b || *a == 0 || *b == 0;
+    let mut at = field.windows(wanted.len());
+    at.any(|part| part.iter().zip(&wanted).all(same))
+}
+
+#[test]
+fn every_posting_leads_to_a_field_that_has_its_term() {
+    let Some((files, ifp)) = desktop() else {
+        return;
+    };
+    let read = |kind: &str| fs::read(folder().join(format!("winisis/BIBL.{kind}"))).expect(kind);
+    let (mst, xrf) = (read("mst"), read("XRF"));
+    let card = isis::CardRef::over(&mst, &xrf);
+    let (mut shown, mut deleted) = (0, 0);
+    for (term, postings) in read_all(&files, &ifp) {
+        for Posting { mfn, tag, .. } in postings {
+            let mut fields = match card.fields(mfn) {
+                Ok(fields) => fields,
+                Err(refusal) => {
+                    assert_eq!((mfn, refusal.number()), (3, 6));
+                    deleted += 1;
+                    continue;
+                }
+            };
+            let found = fields.any(|field| u32::from(field.tag) == tag && has(field.bytes, &term));
+            assert!(found, "MFN {mfn}, tag {tag}: {}", term.escape_ascii());
+            shown += 1;
+        }
+    }
+    assert_eq!((shown, deleted), (113, 24));
+}
+
+/// A list of MFNs.
+type Mfns = &'static [u32];
+
+#[test]
+fn records_that_terms_have_in_common() {
+    let Some((files, ifp)) = desktop() else {
+        return;
+    };
+    let entries = terms(&files);
+    let of = |term: &[u8]| -> Place {
+        let entry = entries.iter().find(|entry| entry.term == term);
+        let Entry { block, word, .. } = entry.expect("the term is there");
+        place(*block, *word)
+    };
+    let mut archive = postings::Archive::new();
+    archive.lend(&ifp, Side::Front);
+    let rows: [(_, Mfns, Mfns); 4] = [
+        ([&b"FREUD"[..], b"AND"], &[1, 3], &[1, 2, 3]),
+        ([b"FREUD", b"ELIZABETH"], &[1], &[1, 3, 5]),
+        ([b"PSYCHOLOGY", b"ELIZABETH"], &[5], &[1, 2, 4, 5]),
+        ([b"2100", b"2140"], &[4], &[1, 2, 3, 4, 5]),
+    ];
+    for (terms, common, joined) in rows {
+        for (merge, wanted) in [(Merge::Common, common), (Merge::Joined, joined)] {
+            let given = archive.merged(merge, terms.map(of), 5, Side::Front);
+            assert_eq!(given, given_for(Ok(wanted), 5), "{merge:?}");
+        }
+    }
+}
+
+#[test]
+fn postings_known_by_eye() {
+    let Some((files, ifp)) = desktop() else {
+        return;
+    };
+    let all = read_all(&files, &ifp);
+    assert_eq!(all.values().map(Vec::len).sum::<usize>(), 137);
+    let [one, two] = [Posting::of(1, 675, 1, 1), Posting::of(2, 675, 1, 1)];
+    assert_eq!(all[&b"159.9"[..]], [one, two]);
+    let by = [12, 17, 27, 33].map(|sequence| Posting::of(1, 200, 1, sequence));
+    assert_eq!(all[&b"BY"[..]], by);
+    assert_eq!(all[&b"TURKLE, SHIRLIE"[..]], [Posting::of(3, 700, 1, 1)]);
 }

@@ -9,15 +9,18 @@ mod subject {
     use differential::archive::{Archive, Given, Subject};
     use differential::guarded::Side;
     use differential::index::{self, Reader};
+    use differential::postings::{self as posted, Element, Reader as _};
     use model::ask::{Lists, State};
     use model::call::{Call, OwnedDraft};
     use model::index::Files;
+    use model::postings::read::Merge;
+    use model::postings::{Place, Posting};
     use model::{Draft, Refusal};
     use std::ops::Range;
 
     pub type Answer<T> = Result<T, Refusal>;
 
-    const REFUSALS: [Refusal; 18] = [
+    const REFUSALS: [Refusal; 19] = [
         Refusal::Length,
         Refusal::Control,
         Refusal::Draft,
@@ -36,6 +39,7 @@ mod subject {
         Refusal::Term,
         Refusal::Index,
         Refusal::NoTerm,
+        Refusal::Postings,
     ];
 
     fn numbered<T>(number: u32, given: T) -> Answer<T> {
@@ -200,6 +204,56 @@ mod subject {
 
     pub fn check_index(files: &Files) -> Answer<()> {
         numbered(over(files).check(), ())
+    }
+
+    /// The archive with a postings file lent to it.
+    fn posted(file: &[u8]) -> posted::Archive {
+        let mut archive = posted::Archive::new();
+        archive.lend(file, Side::Back);
+        archive
+    }
+
+    /// A list as it was where the call is refused, and behind what it gives.
+    fn taken<T: Element>(given: posted::Given<T>, list: &mut [T]) -> Answer<usize> {
+        let (items, kept) = given.list.split_at(given.count);
+        assert!(kept.iter().all(|item| *item == T::RUBBISH), "not kept");
+        list[..items.len()].copy_from_slice(items);
+        numbered(given.number, given.count)
+    }
+
+    pub fn postings(file: &[u8], from: Place, list: &mut [u64]) -> Answer<usize> {
+        let given = posted(file).postings(from, list.len(), Side::Back);
+        taken(given, list)
+    }
+
+    pub fn common(file: &[u8], from: [Place; 2], mfns: &mut [u32]) -> Answer<usize> {
+        let given = posted(file).merged(Merge::Common, from, mfns.len(), Side::Back);
+        taken(given, mfns)
+    }
+
+    pub fn joined(file: &[u8], from: [Place; 2], mfns: &mut [u32]) -> Answer<usize> {
+        let given = posted(file).merged(Merge::Joined, from, mfns.len(), Side::Back);
+        taken(given, mfns)
+    }
+
+    pub fn posting_read(bytes: &[u8]) -> Answer<Posting> {
+        let (number, [mfn, tag, occurrence, sequence]) = posted(&[]).read(bytes, Side::Back);
+        numbered(number, Posting::of(mfn, tag, occurrence, sequence))
+    }
+
+    pub fn posting_write(posting: Posting, out: &mut [u8]) -> Answer<()> {
+        let (number, list) = posted(&[]).write(posting.numbers(), out.len(), Side::Back);
+        let count = if number == 0 { 8 } else { 0 };
+        let given = posted::Given {
+            number,
+            count,
+            list,
+        };
+        taken(given, out).map(drop)
+    }
+
+    pub fn posting_compare(a: u64, b: u64) -> u32 {
+        posted(&[]).compare(a, b)
     }
 }
 

@@ -23,11 +23,12 @@
 //! ```
 //!
 //! A [`CardRef`] reads a card whose bytes may not be written. An [`Index`] looks terms up in
-//! the five files of a search index.
+//! the five files of a search index, and an [`Ifp`] reads the lists of their postings.
 
 mod draft;
 mod fields;
 mod index;
+mod postings;
 pub mod raw;
 mod reader;
 mod refusal;
@@ -36,6 +37,7 @@ mod state;
 pub use draft::{Draft, Lists};
 pub use fields::{Field, Fields};
 pub use index::{IfpPlace, Index};
+pub use postings::{Ifp, Posting, Postings};
 pub use reader::CardRef;
 pub use refusal::{Answer, Refusal};
 pub use state::{Mark, Next, State};

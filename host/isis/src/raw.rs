@@ -1,5 +1,10 @@
 //! The C interface as it stands in `include/isis.h`. The safe functions of
-//! [`Card`](crate::Card) and [`Index`](crate::Index) are all that most programs need.
+//! [`Card`](crate::Card), [`Index`](crate::Index) and [`Ifp`](crate::Ifp) are all that most
+//! programs need.
+
+/// What [`isis_common`] and [`isis_joined`] are: a call that gives MFNs of two lists.
+pub type Merge =
+    unsafe extern "C" fn(*const u8, usize, i32, i32, i32, i32, *mut u32, usize, *mut usize) -> u32;
 
 unsafe extern "C" {
     /// Empties a card.
@@ -200,5 +205,65 @@ unsafe extern "C" {
         n02_len: usize,
         l02: *const u8,
         l02_len: usize,
+    ) -> u32;
+
+    /// Reads the four numbers of a posting.
+    pub fn isis_posting_read(
+        bytes: *const u8,
+        len: usize,
+        mfn: *mut u32,
+        tag: *mut u32,
+        occurrence: *mut u32,
+        sequence: *mut u32,
+    ) -> u32;
+
+    /// Writes a posting.
+    pub fn isis_posting_write(
+        mfn: u32,
+        tag: u32,
+        occurrence: u32,
+        sequence: u32,
+        out: *mut u8,
+        out_len: usize,
+    ) -> u32;
+
+    /// Compares two postings: 0 less, 1 equal, 2 greater.
+    pub fn isis_posting_compare(a: u64, b: u64) -> u32;
+
+    /// Hands out the postings of a list.
+    pub fn isis_postings(
+        ifp: *const u8,
+        ifp_len: usize,
+        block: i32,
+        word: i32,
+        out: *mut u64,
+        out_len: usize,
+        count: *mut usize,
+    ) -> u32;
+
+    /// Gives the MFNs that two lists have in common.
+    pub fn isis_common(
+        ifp: *const u8,
+        ifp_len: usize,
+        block_a: i32,
+        word_a: i32,
+        block_b: i32,
+        word_b: i32,
+        mfns: *mut u32,
+        mfns_len: usize,
+        count: *mut usize,
+    ) -> u32;
+
+    /// Gives the MFNs of either of two lists.
+    pub fn isis_joined(
+        ifp: *const u8,
+        ifp_len: usize,
+        block_a: i32,
+        word_a: i32,
+        block_b: i32,
+        word_b: i32,
+        mfns: *mut u32,
+        mfns_len: usize,
+        count: *mut usize,
     ) -> u32;
 }

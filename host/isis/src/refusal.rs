@@ -6,8 +6,8 @@ use std::fmt;
 /// What a call gives: a value if it was accepted, or why it was refused.
 pub type Answer<T> = Result<T, Refusal>;
 
-/// Why a call was refused. Where several apply, the library gives the lowest number. More
-/// may come with more calls.
+/// Why a call was refused. Where several apply, the library gives the lowest number, but for
+/// [`NoRoomInList`](Refusal::NoRoomInList), which comes last. More may come with more calls.
 #[non_exhaustive]
 #[derive(Clone, Copy, Debug, PartialEq, Eq, PartialOrd, Ord, Hash)]
 #[repr(u32)]
@@ -49,6 +49,8 @@ pub enum Refusal {
     BadIndex = 21,
     /// 22: the index does not hold the term.
     NoTerm = 22,
+    /// 23: a rule of posting lists is broken, or a number is too wide for a posting.
+    BadPostings = 23,
 }
 
 impl Refusal {
@@ -72,6 +74,7 @@ impl Refusal {
         Refusal::BadTerm,
         Refusal::BadIndex,
         Refusal::NoTerm,
+        Refusal::BadPostings,
     ];
 
     /// The number of the refusal.
@@ -112,6 +115,7 @@ impl Refusal {
             Refusal::BadTerm => "a term has 1 to 30 bytes and no space at its end",
             Refusal::BadIndex => "the index is not right",
             Refusal::NoTerm => "the index does not hold this term",
+            Refusal::BadPostings => "the postings are not right",
         }
     }
 }

@@ -37,9 +37,15 @@ fn the_example_compiles_without_a_warning_and_does_what_it_says() {
         "{printed}"
     );
     assert!(printed.contains("answer 10\n"), "{printed}");
-    let postings = "    postings of HOSSEINI, KHALED: block 1, word 7\n";
+    let postings = "    postings of HOSSEINI, KHALED: block 1, word 9\n";
     assert!(printed.contains(postings), "{printed}");
     assert!(printed.contains("answer 22\n"), "{printed}");
+    let kite =
+        "    MFN 1, field 24, occurrence 1, term 2\n    MFN 4, field 24, occurrence 1, term 3\n";
+    assert!(printed.contains(kite), "{printed}");
+    assert!(printed.contains("    MFNs: 1\n"), "{printed}");
+    assert!(printed.contains("    MFNs: 1 4\n"), "{printed}");
+    assert!(printed.contains("answer 23\n"), "{printed}");
     assert!(printed.ends_with("all done\n"), "{printed}");
 }
 

@@ -42,6 +42,7 @@ fn in_rust(parameter: &str) -> String {
         "uint8_t" => "u8",
         "uint16_t" => "u16",
         "uint32_t" => "u32",
+        "uint64_t" => "u64",
         "int32_t" => "i32",
         "isis_size" => "usize",
         other => panic!("isis.h has the type {other}"),

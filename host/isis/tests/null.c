@@ -23,6 +23,10 @@ int main(void)
     const uint32_t one = 1;
     uint16_t tag;
     int32_t block, word;
+    uint32_t sequence;
+    uint8_t bytes[ISIS_POSTING];
+    uint64_t posting;
+    static uint8_t empty_list[ISIS_BLOCK]; /* at word 0 of block 1 a header of five zeros */
 
     IS(ISIS_BAD_LENGTH, isis_format(NO_CARD));
     IS(ISIS_BAD_LENGTH, isis_format(mst, sizeof mst, NULL, 0));
@@ -52,6 +56,18 @@ int main(void)
     IS(ISIS_BAD_TERM, isis_lookup(NO_INDEX, NULL, 0, &block, &word));
     IS(ISIS_BAD_INDEX, isis_lookup(NO_INDEX, (const uint8_t *)"KITE", 4, &block, &word));
     IS(ISIS_BAD_INDEX, isis_check_index(NO_INDEX));
+    IS(ISIS_BAD_POSTINGS, isis_posting_read(NULL, 0, &mfn, &next, &mark, &sequence));
+    IS(ISIS_BAD_POSTINGS, isis_posting_write(0, 0, 256, 0, NULL, 0));
+    IS(ISIS_NO_ROOM_IN_LIST, isis_posting_write(0, 0, 255, 0, NULL, 0));
+    IS(ISIS_DONE, isis_posting_write(0, 0, 255, 0, bytes, sizeof bytes));
+    IS(ISIS_BAD_POSTINGS, isis_postings(NULL, 0, 1, 0, NULL, 0, &count));
+    IS(ISIS_BAD_POSTINGS, isis_postings(NULL, 0, 1, 0, &posting, 1, &count));
+    IS(ISIS_BAD_POSTINGS, isis_common(NULL, 0, 1, 0, 1, 0, NULL, 0, &count));
+    IS(ISIS_BAD_POSTINGS, isis_joined(NULL, 0, 1, 0, 1, 0, NULL, 0, &count));
+    IS(ISIS_DONE, isis_postings(empty_list, sizeof empty_list, 1, 0, NULL, 0, &count));
+    IS(ISIS_DONE, isis_common(empty_list, sizeof empty_list, 1, 0, 1, 0, NULL, 0, &count));
+    IS(ISIS_DONE, isis_joined(empty_list, sizeof empty_list, 1, 0, 1, 0, NULL, 0, &count));
+    IS(0, count);
 
     IS(ISIS_DONE, isis_format(CARD));
     IS(ISIS_DONE, isis_create(CARD, NO_DRAFT, &mfn));

@@ -82,12 +82,12 @@ fn a_whole_list_is_settled() {
 fn refusals_have_the_papers_numbers() {
     let all: &[Refusal] = Refusal::ALL;
     let numbers = all.iter().map(|refusal| refusal.number());
-    assert!(numbers.eq((1..=14).chain([17]).chain(20..=22)));
+    assert!(numbers.eq((1..=14).chain([17]).chain(20..=23)));
     for &refusal in all {
         assert_eq!(Refusal::answer(refusal.number()), Some(Err(refusal)));
     }
     assert_eq!(Refusal::answer(0), Some(Ok(())));
-    for number in [15, 16, 18, 19, 23, 99, u32::MAX] {
+    for number in [15, 16, 18, 19, 24, 99, u32::MAX] {
         assert_eq!(Refusal::answer(number), None);
     }
 }

@@ -34,7 +34,7 @@ pub enum Refusal {
     NoRoom = 13,
     /// 14: check only, the store is not sound.
     NotSound = 14,
-    /// 17: a list that is lent for fields has too few elements.
+    /// 17: a list that is lent for outputs has too few elements.
     NoRoomInList = 17,
     /// 20: the term is not 1 to 30 bytes without a trailing space.
     Term = 20,
@@ -42,6 +42,8 @@ pub enum Refusal {
     Index = 21,
     /// 22: the index does not have the term.
     NoTerm = 22,
+    /// 23: a rule of posting lists is broken, or a posting has a number too wide.
+    Postings = 23,
 }
 
 impl Refusal {

@@ -13,7 +13,8 @@
 //!   buffer and is only fed the calls.
 //!
 //! Beside them stands the search index of request C-11 ([`index`]), which has files of its
-//! own: it is built from lists of terms, looked up and checked.
+//! own: it is built from lists of terms, looked up and checked; and the lists of postings
+//! that it leads to, as request C-14 has them ([`postings`]).
 //!
 //! [`call`] gives both the same list of calls to answer, and [`lists`] makes such
 //! lists at random from a seed.
@@ -29,6 +30,7 @@ pub mod layout;
 pub mod ledger;
 pub mod lists;
 pub mod outcome;
+pub mod postings;
 pub mod random;
 pub mod record;
 pub mod replay;

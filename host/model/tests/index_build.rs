@@ -151,27 +151,3 @@ fn records_are_as_long_as_their_orders_say() {
     assert_eq!((node_len(10, 5), leaf_len(10, 5)), (148, 192));
     assert_eq!((node_len(30, 5), leaf_len(30, 5)), (348, 392));
 }
-
-#[test]
-fn a_line_is_a_term_and_two_numbers() {
-    let of = Entry::of_line;
-    let right = of(b"A KITE 7 -8").unwrap();
-    assert_eq!(
-        (&right.term[..], right.block, right.word),
-        (&b"A KITE"[..], 7, -8)
-    );
-    assert_eq!(of(b" X\xFF 1 2").unwrap().term, b" X\xFF");
-    let long = [&[b'x'; 31][..], b" 1 2"].concat();
-    for wrong in [
-        &b""[..],
-        b"KITE",
-        b"KITE 1",
-        b"1 2",
-        b" 1 2",
-        b"KITE  1 2",
-        b"KITE 1 x",
-        &long,
-    ] {
-        assert_eq!(of(wrong), None, "{wrong:?}");
-    }
-}

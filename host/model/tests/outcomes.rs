@@ -8,6 +8,10 @@ mod script;
 mod subject {
     pub use model::ask::{fields, fields_settled, next, state};
     pub use model::index::{check as check_index, lookup};
+    pub use model::postings::posting::{
+        compare as posting_compare, read as posting_read, write as posting_write,
+    };
+    pub use model::postings::{common, joined, postings};
     pub use model::store::{
         Answer, Indexed, check, create, delete, field, field_settled, format, migrate, revert,
         settle, settle_list, update, view, view_settled,
@@ -21,7 +25,7 @@ const EXPECTED: &str = include_str!("../examples/outcomes/expected.txt");
 
 /// The calls and the answers that the paper's table gives to each; a field by its
 /// index is answered as a view, and the calls that tell something as the header says.
-const ANSWERS: [(&str, &[u32]); 19] = [
+const ANSWERS: [(&str, &[u32]); 25] = [
     ("format", &[0, 1]),
     ("view", &[0, 1, 2, 4, 6, 7, 8, 9, 12]),
     ("settled view", &[0, 1, 2, 4, 6, 7, 8, 9, 11, 12]),
@@ -41,6 +45,12 @@ const ANSWERS: [(&str, &[u32]); 19] = [
     ("settled fields", &[0, 1, 2, 4, 6, 7, 8, 9, 11, 17]),
     ("lookup", &[0, 20, 21, 22]),
     ("index check", &[0, 21]),
+    ("posting read", &[0, 23]),
+    ("posting write", &[0, 17, 23]),
+    ("posting compare", &[0, 1, 2]),
+    ("postings", &[0, 17, 23]),
+    ("common", &[0, 17, 23]),
+    ("joined", &[0, 17, 23]),
 ];
 
 /// The answer of a line that tells of a call.

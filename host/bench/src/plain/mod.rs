@@ -6,6 +6,7 @@
 
 mod check;
 mod index;
+mod postings;
 mod record;
 mod store;
 mod tell;
@@ -44,6 +45,9 @@ pub mod called {
         check::check(mst: &[u8], xrf: &[u8]) -> u32;
         index::lookup(cnt: &[u8], n01: &[u8], l01: &[u8], n02: &[u8], l02: &[u8], term: &[u8]) -> (u32, i32, i32);
         index::check_index(cnt: &[u8], n01: &[u8], l01: &[u8], n02: &[u8], l02: &[u8]) -> u32;
+        postings::postings(ifp: &[u8], from: (i32, i32), out: &mut [u64]) -> (u32, usize);
+        postings::common(ifp: &[u8], a: (i32, i32), b: (i32, i32), out: &mut [u32]) -> (u32, usize);
+        postings::joined(ifp: &[u8], a: (i32, i32), b: (i32, i32), out: &mut [u32]) -> (u32, usize);
         tell::next(mst: &[u8], xrf: &[u8]) -> (u32, u32, usize);
         tell::state(mst: &[u8], xrf: &[u8], mfn: u32) -> (u32, u32, u32);
         tell::fields(mst: &[u8], xrf: &[u8], mfn: u32, lists: &mut Lists) -> (u32, usize);
@@ -55,6 +59,7 @@ pub mod called {
 pub mod inlined {
     pub use super::check::check;
     pub use super::index::{check_index, lookup};
+    pub use super::postings::{common, joined, postings};
     pub use super::store::{
         delete, field, field_settled, revert, settle, settle_list, view, view_settled,
     };

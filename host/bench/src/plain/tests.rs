@@ -1,13 +1,19 @@
 //! What is timed does the model's work.
 
 use super::called;
+use differential::guarded::Side;
 use differential::index::cases;
 use differential::index::compare::{Case, Family};
+use differential::postings::compare::{KINDS, broken, drive_reader};
+use differential::postings::{self as posted, Element, Given, Reader};
 use model::Refusal;
 use model::ask::{Lists, RUBBISH, Room};
 use model::call::{Call, Outcome, Shown, on_bytes};
 use model::index::{check, lookup};
 use model::lists::{self, Taste};
+use model::postings::Place;
+use model::postings::fault::Broken;
+use model::postings::read::Merge;
 use model::random::Random;
 
 /// The outcome of a call in plain safe Rust.
@@ -177,5 +183,73 @@ fn the_plain_lookup_and_index_check_do_the_same_as_the_model() {
         let (number, ()) = numbered(check(&files));
         let found = called::check_index(cnt, n01, l01, n02, l02);
         assert_eq!(found, number, "{seed}, {what}");
+    }
+}
+
+/// Lists of postings in plain safe Rust; single postings are not timed.
+struct Plain(Vec<u8>);
+
+impl Reader for Plain {
+    fn lend(&mut self, file: &[u8], _: Side) {
+        self.0 = file.to_vec();
+    }
+
+    fn postings(&mut self, from: Place, room: usize, _: Side) -> Given<u64> {
+        given(room, |list| called::postings(&self.0, pair(from), list))
+    }
+
+    fn merged(&mut self, merge: Merge, from: [Place; 2], room: usize, _: Side) -> Given<u32> {
+        let [a, b] = from.map(pair);
+        given(room, |list| match merge {
+            Merge::Common => called::common(&self.0, a, b, list),
+            Merge::Joined => called::joined(&self.0, a, b, list),
+        })
+    }
+
+    fn read(&mut self, _: &[u8], _: Side) -> (u32, [u32; 4]) {
+        unreachable!()
+    }
+
+    fn write(&mut self, _: [u32; 4], _: usize, _: Side) -> (u32, Vec<u8>) {
+        unreachable!()
+    }
+
+    fn compare(&mut self, _: u64, _: u64) -> u32 {
+        unreachable!()
+    }
+}
+
+fn pair(Place { block, word }: Place) -> (i32, i32) {
+    (block, word)
+}
+
+fn given<T: Element>(room: usize, work: impl FnOnce(&mut [T]) -> (u32, usize)) -> Given<T> {
+    let mut list = vec![T::RUBBISH; room];
+    let (number, count) = work(&mut list);
+    Given {
+        number,
+        count,
+        list,
+    }
+}
+
+/// On the families that the library is held to the model with, each rule broken.
+#[test]
+fn the_plain_lists_are_those_of_the_model() {
+    let families: [(posted::compare::Family, usize); 5] = [
+        (posted::cases::damaged, 5_000),
+        (posted::cases::built, 500),
+        (posted::cases::poked, 2_000),
+        (posted::cases::chance, 500),
+        (posted::cases::rubbish, 1_000),
+    ];
+    let [damaged, ..] = families.map(|(family, cases)| {
+        let held = drive_reader(&mut Plain(Vec::new()), family, cases, 1);
+        held.unwrap_or_else(|words| panic!("{words}"))
+    });
+    for kind in KINDS {
+        for rule in Broken::ALL {
+            assert!(damaged.times(kind, broken(rule)) > 0, "{kind:?}, {rule:?}");
+        }
     }
 }

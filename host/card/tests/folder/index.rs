@@ -4,6 +4,7 @@ use super::Folder;
 use model::index::build::plain_trees;
 use model::index::tree::{Leaf, Node, Tree};
 use model::index::{Entry, Files};
+use std::fs;
 
 /// The endings of the five files.
 pub const ENDINGS: [&str; 5] = ["CNT", "N01", "L01", "N02", "L02"];
@@ -60,6 +61,22 @@ impl Folder {
         let folder = Folder::new(name);
         folder.put_index("a", &files(&trees()));
         folder
+    }
+
+    /// Without one of its files, and with a folder in its place, every command must say so.
+    pub fn needs(&self, ending: &str, commands: &[&str]) {
+        let (path, small) = (self.0.join(format!("a.{ending}")), ending.to_lowercase());
+        let bytes = fs::read(&path).unwrap();
+        fs::remove_file(&path).unwrap();
+        for command in commands {
+            let why = format!("a.{ending}: cannot be read: there is no such file, nor a.{small}\n");
+            self.refused(command, 66, &why);
+            fs::create_dir(&path).unwrap();
+            let why = format!("a.{ending}: cannot be read: this is a folder");
+            self.refused(command, 66, &why);
+            fs::remove_dir(&path).unwrap();
+        }
+        fs::write(&path, bytes).unwrap();
     }
 
     /// Writes the five files of an index.

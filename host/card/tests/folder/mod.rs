@@ -5,6 +5,7 @@
 
 pub mod cut;
 pub mod index;
+pub mod postings;
 
 use std::fs;
 use std::os::unix::fs::PermissionsExt;
@@ -92,6 +93,27 @@ impl Folder {
         assert!(before == self.files(), "{words} changed a file");
     }
 
+    /// Runs `card` with a standard output that takes nothing; gives its status.
+    pub fn unprinted(&self, words: &str) -> Option<i32> {
+        let full = fs::OpenOptions::new().write(true).open("/dev/full");
+        let output = self.command(words).stdout(full.unwrap()).output();
+        output.unwrap().status.code()
+    }
+
+    /// Runs `card` as a user who may not read a file, if that can be tried: it must say so.
+    pub fn refused_unread(&self, name: &str, words: &str) {
+        self.permit(name, 0o000);
+        let mut command = self.command(words);
+        if as_nobody(&mut command) {
+            let output = command.output().unwrap();
+            let said = String::from_utf8(output.stderr).unwrap();
+            assert_eq!(output.status.code(), Some(66), "{said}");
+            let why = format!("card: {name}: cannot be read: permission denied\n");
+            assert_eq!(said, why);
+        }
+        self.permit(name, 0o644);
+    }
+
     /// Every file of the folder with its bytes.
     pub fn files(&self) -> Vec<(PathBuf, Vec<u8>)> {
         let mut files: Vec<_> = fs::read_dir(&self.0)
@@ -123,6 +145,12 @@ impl Folder {
     /// Sets the permissions of a name in the folder.
     pub fn permit(&self, name: &str, mode: u32) {
         fs::set_permissions(self.0.join(name), fs::Permissions::from_mode(mode)).unwrap();
+    }
+
+    /// Gives a file another length; what is new takes no room on the disk.
+    pub fn lengthen(&self, name: &str, len: u64) {
+        let file = fs::OpenOptions::new().append(true).open(self.0.join(name));
+        file.unwrap().set_len(len).unwrap();
     }
 
     /// Changes some bytes of a file.

@@ -2,8 +2,8 @@
 //! answer came, by its reason; and the driver that runs random cases.
 
 use super::{Archive, Given, Reader};
-use crate::families::{first_seed, said};
-use crate::guarded::{Side, at_work, report_hits};
+use crate::guarded::Side;
+use crate::seeds;
 use model::Refusal;
 use model::index::fault::{Broken, Why};
 use model::index::read::{self, Held, Request, Rules};
@@ -158,16 +158,8 @@ pub type Family = fn(&mut Random) -> Case;
 
 /// Runs so many cases of a family on the archive; panics at the first difference.
 pub fn drive(name: &str, family: Family, cases: usize) -> Tally {
-    report_hits();
-    let first = first_seed();
-    let tally = drive_reader(&mut Archive::new(), family, cases, first)
-        .unwrap_or_else(|words| panic!("{name}: {words}"));
-    let (last, calls) = (first + cases as u64 - 1, tally.calls());
-    said(&format!(
-        "{name}: seeds {first} to {last}, {calls} calls, all equal"
-    ));
-    println!("{tally}");
-    tally
+    let run = |first| drive_reader(&mut Archive::new(), family, cases, first);
+    seeds::drive(name, cases, run, Tally::calls)
 }
 
 /// The same on any reader; gives the tally, or the seed and the difference.
@@ -178,12 +170,8 @@ pub fn drive_reader(
     first: u64,
 ) -> Result<Tally, String> {
     let mut tally = Tally::default();
-    for seed in (first..).take(cases) {
-        at_work(seed, 0);
-        let mut random = Random::new(seed);
-        let case = family(&mut random);
-        case.compare(reader, &mut random, &mut tally)
-            .map_err(|words| format!("seed {seed}: {words}"))?;
-    }
+    seeds::each(cases, first, |random| {
+        family(random).compare(reader, random, &mut tally)
+    })?;
     Ok(tally)
 }

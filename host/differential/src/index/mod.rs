@@ -11,8 +11,8 @@ pub mod damage;
 pub mod poke;
 pub mod terms;
 
-use crate::guarded::{Area, Side};
-use crate::lent::{Output, pointer};
+use crate::guarded::Side;
+use crate::lent::{Input, Output};
 use isis::raw;
 use model::index::Files;
 
@@ -40,61 +40,11 @@ pub trait Reader {
 /// The archive of the proved library, with areas for what it is lent.
 #[derive(Debug)]
 pub struct Archive {
-    files: [Lent; 5],
-    term: Lent,
+    files: [Input<u8>; 5],
+    term: Input<u8>,
     block: Output<i32>,
     word: Output<i32>,
     lookups: usize,
-}
-
-/// Bytes against a guard page that may only be read. Where the area is shut, who writes
-/// there is caught.
-#[derive(Debug)]
-struct Lent {
-    area: Area,
-    len: usize,
-    side: Side,
-    shut: bool,
-}
-
-impl Lent {
-    fn new() -> Lent {
-        Lent {
-            area: Area::new(0),
-            len: 0,
-            side: Side::Back,
-            shut: false,
-        }
-    }
-
-    fn put(&mut self, bytes: &[u8], side: Side, shut: bool) {
-        self.shut(false);
-        self.area.give_back(self.len, self.side);
-        if bytes.len() > self.area.room() {
-            self.area = Area::new(bytes.len());
-        }
-        self.area.bytes(bytes, side);
-        (self.len, self.side) = (bytes.len(), side);
-        self.shut(shut);
-    }
-
-    fn shut(&mut self, shut: bool) {
-        if self.shut != shut {
-            self.area.read_only(shut);
-            self.shut = shut;
-        }
-    }
-
-    /// NULL for nothing at the front guard page.
-    fn lent(&mut self) -> (*const u8, usize) {
-        let buffer = self.area.buffer(self.len, self.side);
-        (pointer(buffer, self.side), self.len)
-    }
-
-    fn kept(&mut self, bytes: &[u8]) -> bool {
-        self.area.slack_kept(self.len, self.side)
-            && *self.area.buffer(self.len, self.side) == *bytes
-    }
 }
 
 impl Archive {
@@ -102,8 +52,8 @@ impl Archive {
     #[allow(clippy::new_without_default)]
     pub fn new() -> Archive {
         Archive {
-            files: [(); 5].map(|()| Lent::new()),
-            term: Lent::new(),
+            files: [(); 5].map(|()| Input::new()),
+            term: Input::new(),
             block: Output::new(),
             word: Output::new(),
             lookups: 0,
@@ -111,23 +61,23 @@ impl Archive {
     }
 
     fn lent(&mut self) -> [(*const u8, usize); 5] {
-        self.files.each_mut().map(Lent::lent)
+        self.files.each_mut().map(Input::lent)
     }
 }
 
 impl Reader for Archive {
     fn lend(&mut self, files: &Files, sides: [Side; 5]) {
         for (area, (bytes, side)) in self.files.iter_mut().zip(files.all().iter().zip(sides)) {
-            area.put(bytes, side, true);
+            area.lend(bytes, side, true);
         }
     }
 
     /// One in sixteen lookups finds the term shut too, which takes longer than the lookup.
     fn lookup(&mut self, term: &[u8], side: Side) -> Given {
         self.lookups += 1;
-        self.term.put(term, side, self.lookups.is_multiple_of(16));
+        let shut = self.lookups.is_multiple_of(16);
+        let wanted = self.term.lend(term, side, shut);
         let [cnt, n01, l01, n02, l02] = self.lent();
-        let wanted = self.term.lent();
         let (block, word) = (self.block.lend(1, side), self.word.lend(1, side));
         // SAFETY: each pointer goes with the length of the buffer that it begins, or is
         // NULL for none; the outputs are elements of their own areas.

@@ -7,6 +7,10 @@ mod script;
 mod subject {
     pub use model::ask::{fields, fields_settled, next, state};
     pub use model::index::{check as check_index, lookup};
+    pub use model::postings::posting::{
+        compare as posting_compare, read as posting_read, write as posting_write,
+    };
+    pub use model::postings::{common, joined, postings};
     pub use model::store::{
         Answer, Indexed, check, create, delete, field, field_settled, format, migrate, revert,
         settle, settle_list, update, view, view_settled,

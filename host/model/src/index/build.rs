@@ -23,16 +23,6 @@ pub struct Entry {
 pub type Orders = (u16, u16);
 
 impl Entry {
-    /// Reads a line `TERM BLOCK WORD`; the term may hold spaces.
-    pub fn of_line(line: &[u8]) -> Option<Entry> {
-        let mut parts = line.rsplitn(3, |&byte| byte == b' ');
-        let mut number = || std::str::from_utf8(parts.next()?).ok()?.parse().ok();
-        let (word, block) = (number()?, number()?);
-        let term = parts.next()?.to_vec();
-        let entry = Entry { term, block, word };
-        entry.right().then_some(entry)
-    }
-
     /// Whether the term is one.
     pub fn right(&self) -> bool {
         (1..=LONGEST).contains(&self.term.len()) && !self.term.ends_with(b" ")

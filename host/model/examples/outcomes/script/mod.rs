@@ -10,6 +10,7 @@ mod lists;
 mod marks;
 mod migration;
 mod order;
+mod postings;
 mod records;
 mod refusals;
 mod soundness_faults;
@@ -33,5 +34,5 @@ pub fn lines() -> String {
     refusals::lengths(&mut card);
     let mut large = Card::new(3584);
     limits::capacity(&mut large);
-    card.lines + &large.lines + &index::lines()
+    card.lines + &large.lines + &index::lines() + &postings::lines()
 }

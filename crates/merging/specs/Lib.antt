@@ -1,0 +1,4 @@
+pub mod Merge
+pub mod Calls
+pub mod Theorems
+pub mod Heads

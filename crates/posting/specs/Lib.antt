@@ -1,0 +1,4 @@
+pub mod Answer
+pub mod Posting
+pub mod Theorems
+pub mod Bytes

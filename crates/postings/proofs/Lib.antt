@@ -1,0 +1,10 @@
+pub mod Answers
+pub mod Headers
+pub mod Runs
+pub mod Cursors
+pub mod Ascent
+pub mod Opening
+pub mod Steps
+pub mod Giving
+pub mod Rings
+pub mod Theorems

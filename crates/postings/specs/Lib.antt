@@ -1,0 +1,5 @@
+pub mod Segment
+pub mod Rules
+pub mod Calls
+pub mod Theorems
+pub mod Cursor
