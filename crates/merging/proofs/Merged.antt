@@ -3,7 +3,7 @@
 use Prim.Native.Nat.{ℕ, suc, _≤_, _<_}
 use native.Mathlib.Omega.{arith}
 use mathlib.Core.Path.{_≡_, refl, sym, ap, _∙_}
-use mathlib.Core.Bool.{Bool, true, false, _&&_, _||_, cond, and-false}
+use mathlib.Core.Bool.{Bool, true, false, _&&_, _||_, cond, and-false, or-assoc, or-and-distrib-left}
 use mathlib.Core.List.{List, [], _∷_}
 use lib.Dec.{ltb, leb, eqb}
 use borrow.Author.Tests.{ltb-true, ltb-false, leb-true, le-leb, lt-ltb, le-ltb, eqb-true, eqb-false, eq-eqb, ne-eqb}
@@ -135,10 +135,6 @@ joined-ascends k (x ∷ xs) ys e g =
 
 -- ---- what is among them
 
-or-nil : (a b : Bool) → a || (b || false) ≡ ((a || b) || false)
-or-nil true b = refl
-or-nil false b = refl
-
 or-swap : (a b c : Bool) → a || (b || c) ≡ (b || (a || c))
 or-swap true true c = refl
 or-swap true false c = refl
@@ -148,14 +144,6 @@ or-both : (a b c : Bool) → a || (b || c) ≡ ((a || b) || (a || c))
 or-both true b c = refl
 or-both false b c = refl
 
-or-three : (a b c d : Bool) → a || (b || (c || d)) ≡ ((a || b) || (c || d))
-or-three true b c d = refl
-or-three false b c d = refl
-
-and-or : (a b c : Bool) → a || (b && c) ≡ ((a || b) && (a || c))
-and-or true b c = refl
-and-or false b c = refl
-
 module _ (m x : ℕ) (f : List ℕ → List ℕ) (a : Bool) where
   module _ (g : (ys : List ℕ) → among m (f ys) ≡ (a || among m ys)) where
     joins-among-step : (y : ℕ) (ys : List ℕ) → among m (joins x f ys) ≡ ((eqb m x || a) || among m ys) → Way x y
@@ -163,11 +151,11 @@ module _ (m x : ℕ) (f : List ℕ → List ℕ) (a : Bool) where
     unfolding among
     joins-among-step y ys r (lower l) = rw (joins-lower x y f ys l, r) (or-swap (eqb m y) (eqb m x || a) (among m ys))
     joins-among-step y ys r (equal q) = rw (joins-equal x y f ys q, g ys, q) (or-both (eqb m y) a (among m ys))
-    joins-among-step y ys r (higher l) = rw (joins-higher x y f ys l, g (y ∷ ys)) (or-three (eqb m x) a (eqb m y) (among m ys))
+    joins-among-step y ys r (higher l) = rw (joins-higher x y f ys l, g (y ∷ ys)) (sym (or-assoc (eqb m x) a (eqb m y || among m ys)))
 
     joins-among : (ys : List ℕ) → among m (joins x f ys) ≡ ((eqb m x || a) || among m ys)
     unfolding joins among
-    joins-among [] = rw (g []) (or-nil (eqb m x) a)
+    joins-among [] = rw (g []) (sym (or-assoc (eqb m x) a false))
     joins-among (y ∷ ys) = joins-among-step y ys (joins-among ys) (way x y)
 
 pub joined-among : (m : ℕ) (xs ys : List ℕ) → among m (joined xs ys) ≡ (among m xs || among m ys)
@@ -200,7 +188,7 @@ module _ (m x : ℕ) (f : List ℕ → List ℕ) (xs : List ℕ) (up : above (su
   meets-among-step k y ys e r (lower l) = ap (among m) (meets-lower x y f ys l) ∙ r ∙ pass-lower y ys l (eqb m y) refl
   meets-among-step k y ys e r (equal q) =
       ap (among m) (meets-equal x y f ys q)
-      ∙ (unfold among in rw (g (suc y) ys (above-rest k y ys e), q) (and-or (eqb m y) (among m xs) (among m ys)))
+      ∙ (unfold among in rw (g (suc y) ys (above-rest k y ys e), q) (or-and-distrib-left (eqb m y) (among m xs) (among m ys)))
   meets-among-step k y ys e r (higher l) =
       ap (among m) (meets-higher x y f ys l)
       ∙ g k (y ∷ ys) e

@@ -2,12 +2,10 @@
 use Prim.Native.Nat.{ℕ, _+_, _*_, _-_, _≤_, _<_}
 use native.Mathlib.Omega.{arith}
 use mathlib.Core.Path.{_≡_, refl, sym, ap, _∙_}
-use mathlib.Core.Logic.{⊎-elim}
 use mathlib.Core.Bool.{Bool, true, false, _&&_, cond, true≢false}
 use mathlib.Core.List.{List, _∷_}
 use lib.ListN.{length, getD, set}
 use lib.Seq.{set-getD, getD-set-same}
-use Rattle.word.proofs.Overwrite.{lt-or-ge}
 use Rattle.postings.proofs.Steps.{Gave}
 use Rattle.merging.specs.Heads.{bit, writesFrom}
 use Rattle.merging.proofs.Taking.{Took, took-index, took-put, took-counted}
@@ -16,18 +14,11 @@ pub bit-small : (b : Bool) → bit b ≤ 1
 bit-small true = omega arith
 bit-small false = omega arith
 
-pub small-times : (r s : ℕ) → r ≤ 1 → s ≤ 1 → r * s ≤ 1
-small-times r s h g = ⊎-elim (λ l. let e : r ≡ 0 = omega arith in rw e (omega arith)) (λ l. let e : r ≡ 1 = omega arith in rw e (omega arith)) (lt-or-ge r 1)
-
 pub bit-times : (a b : Bool) → bit a * bit b ≡ bit (a && b)
 bit-times true true = refl
 bit-times true false = refl
 bit-times false true = refl
 bit-times false false = refl
-
-pub and-true : (a : Bool) → (a && true) ≡ a
-and-true true = refl
-and-true false = refl
 
 -- where all MFNs of either list are put, the last one stands before the place of the next
 abbrev pub Held : Bool → Bool → ℕ → List ℕ → ℕ → Type 0

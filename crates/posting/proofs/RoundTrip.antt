@@ -68,6 +68,24 @@ module _ (a b c d : ℕ) (ha : a < 256) (hb : b < 256) (hc : c < 256) (hd : d < 
   quad-fourth : (((a * 256 + b) * 256 + c) * 256 + d) % 256 ≡ d
   quad-fourth = omega arith
 
+-- the number of the same four bytes in the other order, written with the lowest first
+pub swapped-bytes : (v x : ℕ) → x ≡ highFirst 0 (le 4 v) → le 4 x ≡ quadBytes v
+swapped-bytes v x e =
+    let a : ℕ = v % 256 in
+    let b : ℕ = v / 256 % 256 in
+    let c : ℕ = v / 65536 % 256 in
+    let d : ℕ = v / 16777216 % 256 in
+    let is : x ≡ ((a * 256 + b) * 256 + c) * 256 + d =
+    e ∙ rw (div-div-eq-div-mul v 256 256, div-div-eq-div-mul v 65536 256) (omega arith) in
+    rw (div-div-eq-div-mul x 256 256, div-div-eq-div-mul x 65536 256, is) (
+    rw (
+      quad-first a b c d (omega arith) (omega arith) (omega arith) (omega arith),
+      quad-second a b c d (omega arith) (omega arith) (omega arith) (omega arith),
+      quad-third a b c d (omega arith) (omega arith) (omega arith) (omega arith),
+      quad-fourth a b c d (omega arith) (omega arith) (omega arith) (omega arith),
+    )
+    )
+
 -- the bytes at the front of a list
 pub posting-written : (p : ℕ) (rest : List ℕ) → p < 18446744073709551616 → postingAt (postingBytes p ++ rest) 0 ≡ p
 unfolding postingAt postingBytes quadAt

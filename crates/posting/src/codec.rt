@@ -1,5 +1,6 @@
 // A posting: eight bytes, most significant first.
 use crate::answer::Answer;
+use word::integer::put_u32;
 use word::integer::u32_at;
 use word::integer::u64_at;
 ghost use mathlib.Core.Path.{_≡_};
@@ -98,14 +99,11 @@ fn fits(mfn: u32, tag: u32, occurrence: u32, sequence: u32) -> bool
 }
 
 // Writes the four bytes of `v`.
-fn put_quad(s: &mut [u8], at: usize, v: u64)
+fn put_quad(s: &mut [u8], at: usize, v: u32)
     requires { ⌜ at + 4 ≤ length (now s) ⌝ }
     ensures { λ _. ⌜ now (s .exit) ≡ overwrite (now (s .entry)) at (quadBytes v) ⌝ }
 {
-    s[at] = (v / 16777216 % 256) as u8;
-    s[at + 1] = (v / 65536 % 256) as u8;
-    s[at + 2] = (v / 256 % 256) as u8;
-    s[at + 3] = (v % 256) as u8;
+    put_u32(s, at, swapped_u32(v))
 }
 
 // Writes the eight bytes of a posting.
@@ -113,8 +111,8 @@ fn put_posting(s: &mut [u8], p: u64)
     requires { ⌜ 8 ≤ length (now s) ⌝ }
     ensures { λ _. ⌜ now (s .exit) ≡ overwrite (now (s .entry)) 0 (postingBytes p) ⌝ }
 {
-    put_quad(s, 0, p / 4294967296);
-    put_quad(s, 4, p % 4294967296)
+    put_quad(s, 0, (p / 4294967296) as u32);
+    put_quad(s, 4, (p % 4294967296) as u32)
 }
 
 // The posting of four numbers that fit.

@@ -1,7 +1,9 @@
+use native.Mathlib.Nat.{mul-le-mul}
 use native.Mathlib.Omega.{arith}
+use mathlib.Core.Bool.{and-true}
 use borrow.Author.Needs.{needs}
 use Rattle.merging.specs.Heads.{givesOf}
-use Rattle.merging.proofs.Writing.{small-times, bit-times, and-true}
+use Rattle.merging.proofs.Writing.{bit-times}
 use Rattle.merging.proofs.merge.gives.Statement.{statement}
 use Rattle.merging.proofs.merge.gives.Tie as tie
 
@@ -12,7 +14,7 @@ one-requires-2 : tie.Need-one-requires-2
 one-requires-2 c κs = search needs
 
 mul-result : tie.Need-mul-result
-mul-result c = omega (arith, small-times _ _ (c .before .one .ensures .1) (c .one2 .ensures .1))
+mul-result c = omega (arith, mul-le-mul (c .before .one .ensures .1) (c .one2 .ensures .1))
 
 returns : tie.Need-returns
 unfolding givesOf

@@ -1,65 +1,23 @@
-use native.Mathlib.Omega.{arith}
-use native.Mathlib.Numerals.{add-one, add-two, add-three}
-use lib.ListN.{length-set}
-use Rattle.word.proofs.Overwrite.{overwrite-stores}
-use Rattle.posting.specs.Posting.{quadBytes}
+use mathlib.Core.Path.{ap, _∙_}
+use Rattle.word.specs.Overwrite.{overwrite}
+use Rattle.posting.proofs.RoundTrip.{swapped-bytes}
 use borrow.Author.Needs.{needs}
 use Rattle.posting.proofs.codec.put_quad.Statement.{statement}
 use Rattle.posting.proofs.codec.put_quad.Tie as tie
 
-cast-s : tie.Need-cast-s
-cast-s c = search needs
+swapped-u32-requires : tie.Need-swapped-u32-requires
+swapped-u32-requires c κs = search needs
 
-slice-write-s : tie.Need-slice-write-s
-slice-write-s c = search needs
-
-cast-s-2 : tie.Need-cast-s-2
-cast-s-2 c = search needs
-
-add-s : tie.Need-add-s
-add-s c = search needs
-
-slice-write-s-2 : tie.Need-slice-write-s-2
-slice-write-s-2 c = simp length-set (omega arith)
-
-cast-s-3 : tie.Need-cast-s-3
-cast-s-3 c = search needs
-
-add-s-2 : tie.Need-add-s-2
-add-s-2 c = search needs
-
-slice-write-s-3 : tie.Need-slice-write-s-3
-slice-write-s-3 c = simp length-set (omega arith)
-
-cast-s-4 : tie.Need-cast-s-4
-cast-s-4 c = search needs
-
-add-s-3 : tie.Need-add-s-3
-add-s-3 c = search needs
-
-slice-write-s-4 : tie.Need-slice-write-s-4
-slice-write-s-4 c = simp length-set (omega arith)
+put-u32-requires : tie.Need-put-u32-requires
+put-u32-requires c κs = search needs
 
 same-length : tie.Need-same-length
 same-length c = search needs
 
 returns : tie.Need-returns
-returns c = rw (add-one (c .args .at), add-two (c .args .at), add-three (c .args .at)) (overwrite-stores (c .args .s .now) (c .args .at) (quadBytes (c .args .v)) (omega arith))
+returns c =
+    let a = c .before .before .before .before .before .before .args in
+    c .before .before .put-u32 .ensures ∙ ap (overwrite (a .s .now) (a .at)) (swapped-bytes (a .v) _ (c .before .before .before .swapped-u32 .ensures))
 
 pub put-quad-spec : {M : Type 1} → statement M
-put-quad-spec =
-    tie.close
-    (tie.spec
-    cast-s
-    slice-write-s
-    cast-s-2
-    add-s
-    slice-write-s-2
-    cast-s-3
-    add-s-2
-    slice-write-s-3
-    cast-s-4
-    add-s-3
-    slice-write-s-4
-    same-length
-    returns)
+put-quad-spec = tie.close (tie.spec swapped-u32-requires put-u32-requires same-length returns)
