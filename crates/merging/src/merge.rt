@@ -164,11 +164,12 @@ fn take(ifp: &[u8], a: Cursor, b: Cursor, both: bool, put: bool, out: &mut [u32]
             if floor <= given {
                 out[i - 1] = m;
             }
-            if p <= q {
+            // A selection by "below" is one step of a processor, one by "below or equal" may be two.
+            if !(q < p) {
                 x.mfn = behind_x;
                 x.at += 8;
             }
-            if q <= p {
+            if !(p < q) {
                 y.mfn = behind_y;
                 y.at += 8;
             }

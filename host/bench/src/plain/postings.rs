@@ -198,11 +198,12 @@ fn merge<const BOTH: bool>(mut x: Rest, mut y: Rest, mut give: impl FnMut(u32, b
             let wanted = !BOTH || a == b;
             give(low, wanted && low != last);
             last = if wanted { low } else { last };
-            let (in_x, in_y) = (a == low, b == low);
-            i += usize::from(in_x);
-            j += usize::from(in_y);
-            a = if in_x { behind_a } else { a };
-            b = if in_y { behind_b } else { b };
+            // A selection by "below" is one step of a processor, one by "below or equal" may be two.
+            let (not_in_x, not_in_y) = (b < a, a < b);
+            i += usize::from(!not_in_x);
+            j += usize::from(!not_in_y);
+            a = if not_in_x { a } else { behind_a };
+            b = if not_in_y { b } else { behind_b };
         }
         (x.run, y.run) = (&x.run[i..], &y.run[j..]);
     }

@@ -1,7 +1,9 @@
 -- What is taken and what the two heads stand for are the merged MFNs, after each turn.
 use Prim.Native.Nat.{_+_, _≤_, _<_}
 use mathlib.Core.Logic.{⊎-elim}
+use borrow.Author.Tests.{ltb-true, ltb-false, not-true, not-false}
 use native.Mathlib.Omega.{arith}
+use lib.Dec.{ltb}
 use lib.ListN.{length}
 use Rattle.merging.specs.Heads.{headSize}
 use Rattle.merging.proofs.Taking.{Took, took-length, took-all}
@@ -128,12 +130,12 @@ mul-out c =
 add-x : tie.Need-add-x Inv-loop2 μ-loop2 Inv-loop μ-loop
 add-x c =
     let g = c .before .before .before .before .before .before .before .loop2 .inv in
-    omega (arith, g .x-right .low (omega (arith, c .before .if5 .taken, g .some)), g .x-right .inside, c .before .before .before .before .before .before .before .before .before .before .before .before .before .before .before .before .before .before .before .before .good .0 .1)
+    omega (arith, g .x-right .low (omega (arith, ltb-false (c .before .before .before .before .before .before .before .loop2 .y .mfn) (c .before .before .before .before .before .before .before .loop2 .x .mfn) (not-true (ltb (c .before .before .before .before .before .before .before .loop2 .y .mfn) (c .before .before .before .before .before .before .before .loop2 .x .mfn)) (c .before .if5 .taken)), g .some)), g .x-right .inside, c .before .before .before .before .before .before .before .before .before .before .before .before .before .before .before .before .before .before .before .before .good .0 .1)
 
 add-y : tie.Need-add-y Inv-loop2 μ-loop2 Inv-loop μ-loop
 add-y c =
     let g = c .before .before .before .before .before .before .before .before .loop2 .inv in
-    omega (arith, g .y-right .low (omega (arith, c .before .if6 .taken, g .some)), g .y-right .inside, c .before .before .before .before .before .before .before .before .before .before .before .before .before .before .before .before .before .before .before .before .before .good .0 .1)
+    omega (arith, g .y-right .low (omega (arith, ltb-false (c .before .before .before .before .before .before .before .before .loop2 .x .mfn) (c .before .before .before .before .before .before .before .before .loop2 .y .mfn) (not-true (ltb (c .before .before .before .before .before .before .before .before .loop2 .x .mfn) (c .before .before .before .before .before .before .before .before .loop2 .y .mfn)) (c .before .if6 .taken)), g .some)), g .y-right .inside, c .before .before .before .before .before .before .before .before .before .before .before .before .before .before .before .before .before .before .before .before .before .good .0 .1)
 
 -- each head has passed the MFN of the turn, or did not have it
 x-passed : (c : tie.Joined6 Inv-loop2 μ-loop2 Inv-loop μ-loop)
@@ -145,8 +147,8 @@ x-passed c =
     let e = c .before .before .before .before .lower .ensures in
     let l = turn-small _ _ _ _ _ _ _ _ _ _ _ _ _ (d .before .before .before .before .loop2 .inv) _ (d .before .lower .ensures) in
     ⊎-elim
-    (λ w. rw (w .2) (pass-on _ (s .last) _ (s .x) (i .x-right) (i .x-in) (i .x-rises) l (omega (arith, e, w .0 .taken)) _ (c .before .before .before .before .before .before .behind .ensures .0) (c .before .before .before .before .before .before .behind .ensures .1)))
-    (λ w. rw (w .1) (pass-other _ (s .last) _ (s .x) (i .x-right) (i .x-in) (i .x-rises) l (omega (arith, e, w .0 .left))))
+    (λ w. rw (w .2) (pass-on _ (s .last) _ (s .x) (i .x-right) (i .x-in) (i .x-rises) l (omega (arith, e, ltb-false (s .y .mfn) (s .x .mfn) (not-true (ltb (s .y .mfn) (s .x .mfn)) (w .0 .taken)))) _ (c .before .before .before .before .before .before .behind .ensures .0) (c .before .before .before .before .before .before .behind .ensures .1)))
+    (λ w. rw (w .1) (pass-other _ (s .last) _ (s .x) (i .x-right) (i .x-in) (i .x-rises) l (omega (arith, e, ltb-true (s .y .mfn) (s .x .mfn) (not-false (ltb (s .y .mfn) (s .x .mfn)) (w .0 .left))))))
     (c .before .if5 .came)
 
 y-passed : (c : tie.Joined6 Inv-loop2 μ-loop2 Inv-loop μ-loop)
@@ -158,8 +160,8 @@ y-passed c =
     let e = c .before .before .before .before .lower .ensures in
     let l = turn-small _ _ _ _ _ _ _ _ _ _ _ _ _ (d .before .before .before .before .loop2 .inv) _ (d .before .lower .ensures) in
     ⊎-elim
-    (λ w. rw (w .2) (pass-on _ (s .last) _ (s .y) (i .y-right) (i .y-in) (i .y-rises) l (omega (arith, e, w .0 .taken)) _ (c .before .before .before .before .before .behind2 .ensures .0) (c .before .before .before .before .before .behind2 .ensures .1)))
-    (λ w. rw (w .1) (pass-other _ (s .last) _ (s .y) (i .y-right) (i .y-in) (i .y-rises) l (omega (arith, e, w .0 .left))))
+    (λ w. rw (w .2) (pass-on _ (s .last) _ (s .y) (i .y-right) (i .y-in) (i .y-rises) l (omega (arith, e, ltb-false (s .x .mfn) (s .y .mfn) (not-true (ltb (s .x .mfn) (s .y .mfn)) (w .0 .taken)))) _ (c .before .before .before .before .before .behind2 .ensures .0) (c .before .before .before .before .before .behind2 .ensures .1)))
+    (λ w. rw (w .1) (pass-other _ (s .last) _ (s .y) (i .y-right) (i .y-in) (i .y-rises) l (omega (arith, e, ltb-true (s .x .mfn) (s .y .mfn) (not-false (ltb (s .x .mfn) (s .y .mfn)) (w .0 .left))))))
     (c .if6 .came)
 
 -- the MFN is written, or need not be
