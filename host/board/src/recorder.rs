@@ -88,6 +88,12 @@ pub fn of_family(family: &mut dyn Family, calls: usize) -> Recorder {
     recorder
 }
 
+/// The random numbers of so many cases, from the first seed on.
+fn seeded(cases: u64) -> impl Iterator<Item = Random> {
+    let first = first_seed();
+    (first..first + cases).map(Random::new)
+}
+
 /// So many terms of a case are looked up.
 const TERMS: usize = 8;
 
@@ -95,8 +101,7 @@ const TERMS: usize = 8;
 /// with a file that is longer than the runner's is left out.
 pub fn of_index_family(family: index::compare::Family, cases: u64) -> Recorder {
     let mut recorder = Recorder::default();
-    for seed in first_seed()..first_seed() + cases {
-        let mut random = Random::new(seed);
+    for mut random in seeded(cases) {
         let case = family(&mut random);
         if case.files.all().iter().any(|file| file.len() > SLICE_MAX) {
             continue;
@@ -118,8 +123,7 @@ const PLACES: usize = 4;
 /// than half of what the runner holds is left out, so that what it gives has room there.
 pub fn of_postings_family(family: postings::compare::Family, cases: u64) -> Recorder {
     let mut recorder = Recorder::default();
-    for seed in first_seed()..first_seed() + cases {
-        let mut random = Random::new(seed);
+    for mut random in seeded(cases) {
         let case = family(&mut random);
         if case.file.len() > SLICE_MAX / 2 {
             continue;
@@ -152,13 +156,13 @@ pub fn of_postings_family(family: postings::compare::Family, cases: u64) -> Reco
 /// So many postings by chance, read, written and compared.
 pub fn of_singles(cases: u64) -> Recorder {
     let mut recorder = Recorder::default();
-    for seed in first_seed()..first_seed() + cases {
+    for mut random in seeded(cases) {
         let Single {
             numbers,
             room,
             bytes,
             two,
-        } = Single::any(&mut Random::new(seed));
+        } = Single::any(&mut random);
         for call in [
             Posted::Read(bytes),
             Posted::Write { numbers, room },

@@ -28,7 +28,7 @@ pub fn lookup(mut arguments: Arguments) -> Result<(), Trouble> {
                     let refused = Trouble::Refused(refusal, String::new());
                     out.add(line(term, &refused.to_string()));
                 }
-                first = first.and_then(|()| place(&files, term).map(drop));
+                first = first.and_then(|()| Err(refused(refusal, &files, term)));
             }
         }
     }
@@ -38,7 +38,12 @@ pub fn lookup(mut arguments: Arguments) -> Result<(), Trouble> {
 /// Where the postings of a term begin.
 pub fn place(files: &IndexFiles, term: &OsStr) -> Result<IfpPlace, Trouble> {
     let place = files.index().lookup(term.as_bytes());
-    place.map_err(|refusal| Trouble::Refused(refusal, reason(refusal, files, term)))
+    place.map_err(|refusal| refused(refusal, files, term))
+}
+
+/// The refusal of a term, with what was found behind it.
+fn refused(refusal: Refusal, files: &IndexFiles, term: &OsStr) -> Trouble {
+    Trouble::Refused(refusal, reason(refusal, files, term))
 }
 
 /// What became of a term, in a line.

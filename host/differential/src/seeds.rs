@@ -6,17 +6,20 @@ use crate::guarded::{at_work, report_hits};
 use model::random::Random;
 use std::fmt::Display;
 
-/// Runs a case of each of so many seeds; gives the seed and the first difference.
-pub fn each(
+/// Runs a case of each of so many seeds; gives the tally of all of them, or the seed and the
+/// first difference.
+pub fn each<T: Default>(
     cases: usize,
     first: u64,
-    mut case: impl FnMut(&mut Random) -> Result<(), String>,
-) -> Result<(), String> {
+    mut case: impl FnMut(&mut Random, &mut T) -> Result<(), String>,
+) -> Result<T, String> {
+    let mut tally = T::default();
     for seed in (first..).take(cases) {
         at_work(seed, 0);
-        case(&mut Random::new(seed)).map_err(|words| format!("seed {seed}: {words}"))?;
+        case(&mut Random::new(seed), &mut tally)
+            .map_err(|words| format!("seed {seed}: {words}"))?;
     }
-    Ok(())
+    Ok(tally)
 }
 
 /// Has so many cases run from the first seed on, and says how many calls were equal; panics

@@ -169,9 +169,7 @@ pub fn drive_reader(
     cases: usize,
     first: u64,
 ) -> Result<Tally, String> {
-    let mut tally = Tally::default();
-    seeds::each(cases, first, |random| {
-        family(random).compare(reader, random, &mut tally)
-    })?;
-    Ok(tally)
+    seeds::each(cases, first, |random, tally| {
+        family(random).compare(reader, random, tally)
+    })
 }

@@ -278,7 +278,7 @@ impl Single {
 
 /// Runs so many random postings on a reader; gives the seed and the first difference.
 pub fn drive_singles(reader: &mut dyn Reader, cases: usize, first: u64) -> Result<(), String> {
-    seeds::each(cases, first, |random| {
+    seeds::each(cases, first, |random, ()| {
         let side = random.pick(&[Side::Front, Side::Back]);
         Single::any(random).compare(reader, side)
     })
@@ -300,11 +300,9 @@ pub fn drive_reader(
     cases: usize,
     first: u64,
 ) -> Result<Tally, String> {
-    let mut tally = Tally::default();
-    seeds::each(cases, first, |random| {
-        family(random).compare(reader, random, &mut tally)
-    })?;
-    Ok(tally)
+    seeds::each(cases, first, |random, tally| {
+        family(random).compare(reader, random, tally)
+    })
 }
 
 /// A rule that is broken, as an answer's reason.
