@@ -32,13 +32,30 @@ static uint32_t report(const char *what, uint32_t answer)
 static void show_title(uint32_t mfn)
 {
     isis_size start, len;
+    uint32_t titles;
 
-    if (isis_view(mst, sizeof mst, xrf, sizeof xrf, mfn, TITLE, 1, &start, &len) == ISIS_DONE)
+    if (isis_view(mst, sizeof mst, xrf, sizeof xrf, mfn, TITLE, 1, &start, &len, &titles) == ISIS_DONE)
         printf("    title now:     %.*s\n", (int)len, (const char *)mst + start);
-    if (isis_view_settled(mst, sizeof mst, xrf, sizeof xrf, mfn, TITLE, 1, &start, &len) == ISIS_DONE)
+    if (isis_view_settled(mst, sizeof mst, xrf, sizeof xrf, mfn, TITLE, 1, &start, &len, &titles) == ISIS_DONE)
         printf("    title settled: %.*s\n", (int)len, (const char *)mst + start);
     else
         printf("    title settled: none yet\n");
+}
+
+/* Prints one of the authors of a record, or which kind of missing it is: there are fewer, or none. */
+static uint32_t show_author(uint32_t mfn, uint32_t number)
+{
+    isis_size start, len;
+    uint32_t authors;
+    uint32_t answer = isis_view(mst, sizeof mst, xrf, sizeof xrf, mfn, AUTHOR, number, &start, &len, &authors);
+
+    if (answer == ISIS_DONE)
+        printf("    author %u: %.*s\n", (unsigned)number, (int)len, (const char *)mst + start);
+    else if (answer == ISIS_FEWER_FIELDS)
+        printf("    author %u: not there, the record has %u\n", (unsigned)number, (unsigned)authors);
+    else if (answer == ISIS_NO_FIELD)
+        printf("    no author\n");
+    return answer;
 }
 
 /* Hands out a field by its index: isis_field or isis_field_settled. */
@@ -248,6 +265,8 @@ int main(void)
     printf("    its fields:\n");
     if (show_fields(isis_field, mfn) != 2)
         failed = 1;
+    if (show_author(mfn, 1) != ISIS_DONE || show_author(mfn, 2) != ISIS_FEWER_FIELDS)
+        failed = 1;
 
     failed |= report("settle it, now indexed (touch 2)",
                      isis_settle(mst, sizeof mst, xrf, sizeof xrf, mfn));
@@ -272,6 +291,8 @@ int main(void)
     /* A record without fields: the lists of its draft have no element, so they may be NULL. */
     failed |= report("create an empty record (touch 5)",
                      isis_create(mst, sizeof mst, xrf, sizeof xrf, NULL, 0, NULL, 0, NULL, 0, &other));
+    if (show_author(other, 1) != ISIS_NO_FIELD)
+        failed = 1;
     failed |= report("delete it (touch 6)", isis_delete(mst, sizeof mst, xrf, sizeof xrf, other));
     failed |= show_state(other);
     if (show_fields(isis_field_settled, other) != 0)

@@ -101,14 +101,14 @@ static uint32_t number_at(const uint8_t *bytes)
 static void show_card(void)
 {
     isis_size start, len, end;
-    uint32_t next;
+    uint32_t next, occurrences;
 
     isis_next(mst, sizeof mst, xrf, sizeof xrf, &next, &end);
     say("    end ");
     say_number((uint32_t)end);
     say(", entry ");
     say_number(number_at(xrf + ISIS_ENTRY_AT(1)));
-    if (isis_view(mst, sizeof mst, xrf, sizeof xrf, 1, TITLE, 1, &start, &len) == ISIS_DONE) {
+    if (isis_view(mst, sizeof mst, xrf, sizeof xrf, 1, TITLE, 1, &start, &len, &occurrences) == ISIS_DONE) {
         say(", title ");
         while (len--) {
             const char letter[] = { (char)mst[start++], 0 };

@@ -22,9 +22,10 @@
  *   - a pointer may be NULL where its length is 0; an output's may not;
  *   - no area that is written overlaps another area.
  * A refused call (any answer but 0) changes no byte of the MST, the XRF or a list
- * that it is lent for its outputs, and sets its other outputs to 0. A call that is done writes its outputs and the bytes that
- * its paragraph names under "Touches", and no other; what is lent as const is
- * only read. So firmware needs to flush no more than these.
+ * that it is lent for its outputs, and sets its other outputs to 0, but for the one
+ * that comes with answer 15: the number of occurrences. A call that is done writes
+ * its outputs and the bytes that its paragraph names under "Touches", and no other;
+ * what is lent as const is only read. So firmware needs to flush no more than these.
  *
  * Nothing is kept between calls and nothing is allocated: every function may be
  * entered again while it runs, from an interrupt or another thread, as long as no
@@ -54,8 +55,8 @@ extern "C" {
 #endif
 
 /* The interface. The first number rises when a function that was here changes, the second when something is added. */
-#define ISIS_VERSION_MAJOR 2
-#define ISIS_VERSION_MINOR 2
+#define ISIS_VERSION_MAJOR 3
+#define ISIS_VERSION_MINOR 0
 
 /* The format. */
 #define ISIS_BLOCK           512     /* bytes of a block, of either file */
@@ -118,9 +119,10 @@ enum isis_answer {
                                   deleted, and the deletion is settled */
     ISIS_NOT_PENDING     = 10, /* settle, revert: nothing is pending */
     ISIS_NEVER_SETTLED   = 11, /* revert, a field of the settled version: the record was never settled */
-    ISIS_NO_FIELD        = 12, /* no field of that tag and occurrence, or of that index */
+    ISIS_NO_FIELD        = 12, /* the tag does not occur, or occurrence 0 is asked for; no field of that index */
     ISIS_NO_ROOM         = 13, /* the record does not fit before the end of the MST */
     ISIS_NOT_SOUND       = 14, /* check: the store is not sound */
+    ISIS_FEWER_FIELDS    = 15, /* a view by tag: the tag occurs, but fewer times than asked for */
     ISIS_NO_ROOM_IN_LIST = 17, /* a list that is lent for outputs is too short for them; isis_settle_list: the two
                                   lists are not equally long, or over-long */
     ISIS_BAD_TERM        = 20, /* lookup: the term is not 1 to 30 bytes long, or ends with a space */
@@ -140,21 +142,26 @@ uint32_t isis_format(uint8_t *mst, isis_size mst_len, uint8_t *xrf, isis_size xr
 /*
  * Shows a field of the current version of a record. The field is the part
  * mst[*start] to mst[*start + *len - 1]; it may be empty.
- * Answers 0, 1, 2, 4, 6, 7, 8, 9 or 12.
+ * Answers 0, 1, 2, 4, 6, 7, 8, 9, 12 or 15: 12 if no field of the record has the
+ * tag, or occurrence 0 is asked for; 15 if some have it, but fewer than asked for.
+ * *occurrences is how many have it where the answer is 15, and 0 where it is any
+ * other, 0 among them. No record has occurrence UINT32_MAX of a tag, so who asks for
+ * it is told how many there are.
  */
 uint32_t isis_view(const uint8_t *mst, isis_size mst_len, const uint8_t *xrf, isis_size xrf_len,
                    uint32_t mfn, uint16_t tag, uint32_t occurrence,
-                   isis_size *start, isis_size *len);
+                   isis_size *start, isis_size *len, uint32_t *occurrences);
 
 /*
  * Shows a field of the settled version of a record: the version before the
  * pending change, or the current one if nothing is pending. It is there even
  * while the deletion of the record is pending.
- * Answers 0, 1, 2, 4, 6, 7, 8, 9, 11 or 12.
+ * Answers 0, 1, 2, 4, 6, 7, 8, 9, 11, 12 or 15; *occurrences is how many fields of
+ * the settled version have the tag where the answer is 15, and 0 otherwise.
  */
 uint32_t isis_view_settled(const uint8_t *mst, isis_size mst_len, const uint8_t *xrf, isis_size xrf_len,
                            uint32_t mfn, uint16_t tag, uint32_t occurrence,
-                           isis_size *start, isis_size *len);
+                           isis_size *start, isis_size *len, uint32_t *occurrences);
 
 /*
  * Hands out a field of the current version of a record by its index in the

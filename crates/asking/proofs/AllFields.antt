@@ -18,7 +18,7 @@ use Rattle.walking.specs.declared.walker.Spot.{Spot}
 use Rattle.record.proofs.FieldData.{fields-count}
 use Rattle.record.proofs.Facts.{readable-facts}
 use Rattle.walking.proofs.Walking.{spots-are, spots-length, Within, spots-within}
-use Rattle.store.specs.Answer.{numberOf, after}
+use Rattle.store.specs.Answer.{numberOf, refuse, after}
 use Rattle.store.specs.Reading.{placeFor, recordAt, shownSettled, currentFields}
 use Rattle.store.specs.Store.{store}
 use Rattle.store.specs.declared.answer.Answer.{Answer}
@@ -82,7 +82,7 @@ module _ (mst xrf : List ℕ) (m : ℕ) (l : Lists) where
       → NamesAll mst (currentFields mst (placeFor (store mst xrf) m)) (allFieldsOf (store mst xrf) m l .count) l (allFieldsLeaves (store mst xrf) m l)
   unfolding allFieldsAnswer allFieldsOf allFieldsLeaves
   all-fields-named e =
-      let d = done-before _ _ (sym (current-then mst xrf m NoRoomInList (shortFor (recordAt mst (placeFor (store mst xrf) m)) l)) ∙ e) in
+      let d = done-before _ _ (sym (current-then mst xrf m (refuse NoRoomInList (shortFor (recordAt mst (placeFor (store mst xrf) m)) l) ∷ [])) ∙ e) in
       rw e (names-all mst (placeAddress (placeFor (store mst xrf) m)) (endOf mst) (current-readable mst xrf m d) l)
 
   -- and of the settled view's record
@@ -90,7 +90,7 @@ module _ (mst xrf : List ℕ) (m : ℕ) (l : Lists) where
       → NamesAll mst (fieldsOf (shownSettled mst (placeFor (store mst xrf) m))) (settledAllFieldsOf (store mst xrf) m l .count) l (settledAllFieldsLeaves (store mst xrf) m l)
   unfolding settledAllFieldsAnswer settledAllFieldsOf settledAllFieldsLeaves
   settled-all-fields-named e =
-      let d = done-before _ _ (sym (settled-then mst xrf m NoRoomInList (shortFor (shownSettled mst (placeFor (store mst xrf) m)) l)) ∙ e) in
+      let d = done-before _ _ (sym (settled-then mst xrf m (refuse NoRoomInList (shortFor (shownSettled mst (placeFor (store mst xrf) m)) l) ∷ [])) ∙ e) in
       rw (e, ← settled-from mst (placeFor (store mst xrf) m))
       (names-all mst (settledAddress mst (placeFor (store mst xrf) m)) (endOf mst) (settled-readable mst xrf m d) l)
 

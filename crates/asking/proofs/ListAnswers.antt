@@ -4,7 +4,7 @@ use Prim.Native.Nat.{ℕ, _-_, _^_, _≤_, _<_}
 use native.Mathlib.Omega.{arith}
 use mathlib.Core.Path.{_≡_, refl, sym, _∙_}
 use mathlib.Core.Bool.{Bool, true, false, not}
-use mathlib.Core.List.{List, []}
+use mathlib.Core.List.{List, [], _∷_}
 use lib.Dec.{leb}
 use lib.ListN.{length}
 use borrow.Author.Tests.{not-false, le-leb, lt-leb, leb-true}
@@ -18,7 +18,7 @@ use Rattle.layout.specs.declared.entry.Place.{Place}
 use Rattle.record.proofs.Facts.{readable-facts}
 use Rattle.walking.specs.Inner.{Listable}
 use Rattle.walking.specs.Walker.{tagsOf, startsOf, lengthsOf}
-use Rattle.store.specs.Answer.{numberOf, lowest, after}
+use Rattle.store.specs.Answer.{numberOf, refuse, lowest, after}
 use Rattle.store.specs.Reading.{placeFor, recordAt, recordFrom}
 use Rattle.store.specs.Store.{store}
 use Rattle.store.specs.declared.answer.Answer.{Answer}
@@ -136,7 +136,7 @@ module _ (mst xrf : List ℕ) (m : ℕ) (l : Lists) (v : Version) where
     unfolding currentVersion allFieldsOf allFieldsLeaves allFieldsAnswer
     current-listed =
         let p : Place = placeFor (store mst xrf) m in
-        version-listed (lowest (onCurrent (store mst xrf) m [])) _ (placeAddress p) e (current-then mst xrf m NoRoomInList (shortFor (recordAt mst p) l))
+        version-listed (lowest (onCurrent (store mst xrf) m [])) _ (placeAddress p) e (current-then mst xrf m (refuse NoRoomInList (shortFor (recordAt mst p) l) ∷ []))
 
     pub fields-are : (r : Listed) → r ≡ listedIn mst v l → r ≡ allFieldsOf (store mst xrf) m l
     fields-are r s = s ∙ current-listed .0
@@ -150,7 +150,7 @@ module _ (mst xrf : List ℕ) (m : ℕ) (l : Lists) (v : Version) where
     settled-listed =
         let at : ℕ = settledAddress mst (placeFor (store mst xrf) m) in
         rw (← settled-from mst (placeFor (store mst xrf) m))
-        (version-listed (lowest (onSettled (store mst xrf) m [])) _ at e (settled-then mst xrf m NoRoomInList (shortFor (recordFrom mst at) l)))
+        (version-listed (lowest (onSettled (store mst xrf) m [])) _ at e (settled-then mst xrf m (refuse NoRoomInList (shortFor (recordFrom mst at) l) ∷ [])))
 
     pub settled-fields-are : (r : Listed) → r ≡ listedIn mst v l → r ≡ settledAllFieldsOf (store mst xrf) m l
     settled-fields-are r s = s ∙ settled-listed .0

@@ -36,7 +36,7 @@ pub extern "C" fn isis_format(mst: &mut [u8], xrf: &mut [u8]) -> u32
     number(writing::format::format(mst, xrf))
 }
 
-// Where a field of the current version lies in the MST.
+// Where a field of the current version lies in the MST, and with answer 15 how often its tag occurs.
 #[no_mangle]
 pub extern "C" fn isis_view(
     mst: &[u8],
@@ -46,19 +46,22 @@ pub extern "C" fn isis_view(
     occurrence: u32,
     start: &mut usize,
     len: &mut usize,
+    occurrences: &mut u32,
 ) -> u32
     ensures answers { λ r. ⌜ r ≡ numberOf (viewOf (store (now (mst .entry)) (now (xrf .entry))) mfn tag occurrence .answer) ⌝ }
     ensures first { λ _. ⌜ now (start .exit) ≡ viewOf (store (now (mst .entry)) (now (xrf .entry))) mfn tag occurrence .start ⌝ }
     ensures size { λ _. ⌜ now (len .exit) ≡ viewOf (store (now (mst .entry)) (now (xrf .entry))) mfn tag occurrence .len ⌝ }
+    ensures counted { λ _. ⌜ now (occurrences .exit) ≡ viewOf (store (now (mst .entry)) (now (xrf .entry))) mfn tag occurrence .occurrences ⌝ }
 {
     let shown = views::views::view(mst, xrf, Mfn(mfn), Tag(tag), occurrence);
     *start = shown.start;
     *len = shown.len;
+    *occurrences = shown.occurrences;
     let a = shown.answer;
     number(a)
 }
 
-// Where a field of the settled version lies in the MST.
+// The same for the settled version.
 #[no_mangle]
 pub extern "C" fn isis_view_settled(
     mst: &[u8],
@@ -68,14 +71,17 @@ pub extern "C" fn isis_view_settled(
     occurrence: u32,
     start: &mut usize,
     len: &mut usize,
+    occurrences: &mut u32,
 ) -> u32
     ensures answers { λ r. ⌜ r ≡ numberOf (settledViewOf (store (now (mst .entry)) (now (xrf .entry))) mfn tag occurrence .answer) ⌝ }
     ensures first { λ _. ⌜ now (start .exit) ≡ settledViewOf (store (now (mst .entry)) (now (xrf .entry))) mfn tag occurrence .start ⌝ }
     ensures size { λ _. ⌜ now (len .exit) ≡ settledViewOf (store (now (mst .entry)) (now (xrf .entry))) mfn tag occurrence .len ⌝ }
+    ensures counted { λ _. ⌜ now (occurrences .exit) ≡ settledViewOf (store (now (mst .entry)) (now (xrf .entry))) mfn tag occurrence .occurrences ⌝ }
 {
     let shown = views::views::view_settled(mst, xrf, Mfn(mfn), Tag(tag), occurrence);
     *start = shown.start;
     *len = shown.len;
+    *occurrences = shown.occurrences;
     let a = shown.answer;
     number(a)
 }

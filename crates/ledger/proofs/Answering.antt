@@ -16,7 +16,7 @@ use Rattle.layout.specs.declared.entry.Place.{Place}
 use Rattle.layout.specs.declared.entry.Entry.the-variants.{Gone, At}
 use Rattle.record.specs.Fields.{fieldsOf}
 use Rattle.drafts.specs.Bytes.{needFor}
-use Rattle.store.specs.Reading.{mfnInRange, entryFor, isMalformed, isGone, isSettled, isChanged, isNew, recordAt, leaderAt, recordFine, settledRecord, versionFine, shownSettled, currentFields}
+use Rattle.store.specs.Reading.{mfnInRange, entryFor, isMalformed, isGone, isSettled, isChanged, isNew, recordAt, leaderAt, recordFine, settledRecord, versionFine, currentFields}
 use Rattle.store.specs.Refusals.{fine, bothFine}
 use Rattle.store.specs.Answer.{numberOf}
 use Rattle.store.proofs.Gates.{after-refused}
@@ -35,7 +35,6 @@ use Rattle.ledger.specs.Ledger.{gone, held, mfnIn, itemOf, isGoneItem, i
 use Rattle.ledger.specs.LedgerAnswers.{overfull, appends, refusalsL, numberL, replyL}
 use Rattle.ledger.specs.LedgerOf.{markingAt, itemFor, ledgerOf}
 use Rattle.ledger.proofs.Reading.{Opened, Seen, absent, physically, present, next-is, lengths-are, mfn-is, item-is}
-use Rattle.ledger.proofs.Showing.{missing-is}
 
 -- the mark of the bytes and of the ledger
 pub settled-mark : (mst : List ℕ) (p : Place) (k : Mark) → isSettledMark (markingAt mst p k) ≡ isSettled k
@@ -109,7 +108,7 @@ module _ (s : Store) (o : Opened s) where
     unfolding viewAnswer numberL refusalsL replyL
     view-answer tag occ =
         rw (o .lengths, o .control, lengths-are s o)
-        (shared (fine s m) _ _ fine-fits (λ p k e. rw (e, item-at m p k e, missing-is (recordAt (s .mst) p) tag occ)))
+        (shared (fine s m) _ _ fine-fits (λ p k e. rw (e, item-at m p k e)))
 
     pub settled-view-answer : (tag occ : ℕ) → settledViewAnswer s m tag occ ≡ numberL (ledgerOf s) (viewSettled m tag occ)
     unfolding settledViewAnswer numberL refusalsL replyL
@@ -123,7 +122,6 @@ module _ (s : Store) (o : Opened s) where
           settled-mark (s .mst) p (p .mark),
           new-mark (s .mst) p (p .mark),
           settled-fields (s .mst) p (p .mark),
-          missing-is (shownSettled (s .mst) p) tag occ,
         )))
 
     pub update-answer : (d : Draft) → updateAnswer s m d ≡ numberL (ledgerOf s) (update m d)

@@ -9,7 +9,7 @@ use Rattle.files.proofs.ControlRecord.{even-wrong}
 use Rattle.store.specs.Store.{Store}
 use Rattle.store.specs.Answer.{numberOf, after}
 use Rattle.store.specs.Reading.{lengthsPermitted, controlFine}
-use Rattle.views.specs.Views.{viewAnswer, settledViewAnswer, shownAt, viewOf, settledViewOf}
+use Rattle.views.specs.Views.{viewAnswer, settledViewAnswer, occurrencesWith, shownAt, viewOf, settledViewOf}
 use Rattle.views.specs.Fields.{fieldAnswer, fieldOf, settledFieldAnswer, settledFieldOf, handedOut}
 use Rattle.asking.specs.Listing.{allFieldsAnswer, allFieldsOf, allFieldsLeaves, settledAllFieldsAnswer, settledAllFieldsOf, settledAllFieldsLeaves}
 use Rattle.asking.specs.State.{nextFreeAnswer, nextFreeOf, stateAnswer, stateOf}
@@ -24,7 +24,7 @@ use Rattle.ledger.specs.EvenCount.{Refused2, ShowsNothing, EvenIsRefused
 
 module _ (s : Store) (l : lengthsPermitted s ≡ true) (c : controlFine s ≡ false) where
   refused : (call : Call) → (call ≡ format → ⊥) → (call ≡ migrate → ⊥) → ((ms : List ℕ) (lent : ℕ) → call ≡ settleList ms lent → ⊥) → Refused2 s call
-  unfolding answerS nextS resultS viewOf viewAnswer settledViewOf settledViewAnswer shownAt createOf createAnswer updateAnswer deleteAnswer settleAnswer revertAnswer checkAnswer createLeaves updateLeaves deleteLeaves settleLeaves revertLeaves after numberOf
+  unfolding answerS nextS resultS viewOf viewAnswer settledViewOf settledViewAnswer shownAt occurrencesWith createOf createAnswer updateAnswer deleteAnswer settleAnswer revertAnswer checkAnswer createLeaves updateLeaves deleteLeaves settleLeaves revertLeaves after numberOf
   refused format no-format no-migrate no-list = absurd (no-format refl)
   refused (view m tag occ) no-format no-migrate no-list = record { answer = rw (l, c); nothing = refl }
   refused (viewSettled m tag occ) no-format no-migrate no-list = record { answer = rw (l, c); nothing = refl }

@@ -42,7 +42,7 @@ number-is L c = go (givesL L c)
     go : (g : Given) → outcomeOf (numberL L c) g .answer ≡ numberL L c
     go nothing = refl
     go (theMfn m) = refl
-    go (theField bytes) = refl
+    go (theField bytes n) = refl
     go (theAnswers each) = refl
 
 module _ (s : Store) (h : SoundStore s) where

@@ -1,5 +1,6 @@
 -- In a list of calls from format, 1, 2, 6, 7, 8 and 14 never come from document 01's own calls: the lengths stay right, and nothing makes a record
--- gone. From a migration nothing but 2 comes, from a list of MFNs 0 and 17, and in it what its settles answer.
+-- gone. 15 comes from views alone, and from them neither 13 nor another number that is not said of fields. From a migration nothing but 2 comes,
+-- from a list of MFNs 0 and 17, and in it what its settles answer.
 use Prim.Native.Nat.{ℕ, _-_, _≤_, _<_}
 use native.Mathlib.Omega.{arith}
 use native.Mathlib.Decide.{ℕ-discrete}
@@ -65,8 +66,8 @@ module _ (L : Ledger) (w : Whole L) where
   rows-may : (c : Call) → RowsMay c (refusalsL L c)
   unfolding refusalsL numberOf replyL
   rows-may format = no-length (no-row refl)
-  rows-may (view m tag occ) = no-length (no-gone m refl (may refl (may refl (no-row refl))))
-  rows-may (viewSettled m tag occ) = no-length (no-gone m refl (may refl (may refl (may refl (no-row refl)))))
+  rows-may (view m tag occ) = no-length (no-gone m refl (may refl (may refl (may refl (no-row refl)))))
+  rows-may (viewSettled m tag occ) = no-length (no-gone m refl (may refl (may refl (may refl (may refl (no-row refl))))))
   rows-may (create d) = no-length (may refl (may refl (may refl (no-row refl))))
   rows-may (update m d) = no-length (may refl (no-gone m refl (may refl (may refl (no-row refl)))))
   rows-may (delete m) = no-length (no-gone m refl (may refl (may refl (no-row refl))))

@@ -14,6 +14,7 @@ use Rattle.word.proofs.Tests.{false-true}
 use Rattle.store.specs.Answer.{after, numberOf}
 use Rattle.store.specs.declared.answer.Answer.the-variants.{BadLength, NoMfn}
 use Rattle.store.specs.Store.{Store}
+use Rattle.views.specs.Views.{occurrencesWith}
 use Rattle.settling.specs.Theorems.{among}
 use Rattle.ledger.specs.Call.{Call, view, viewSettled}
 use Rattle.ledger.specs.Ledger.{Item, held, new, Ledger, nextMfn, lengthsFine, mfnIn, itemOf}
@@ -86,11 +87,11 @@ module _ (L : Ledger) (o : ℕ) where
       go _ (settles-each ms lent e) t = same-each ms t
 
 -- an MFN that is not there shows nothing
-unknown-same : (fine : Bool) (x y : List ℕ)
-    → outcomeOf (cond (not fine) BadLength NoMfn) (theField x) ≡ outcomeOf (cond (not fine) BadLength NoMfn) (theField y)
-unfolding after numberOf
-unknown-same true x y = refl
-unknown-same false x y = refl
+unknown-same : (fine : Bool) (x y : List ℕ) (n k : ℕ)
+    → outcomeOf (cond (not fine) BadLength NoMfn) (theField x n) ≡ outcomeOf (cond (not fine) BadLength NoMfn) (theField y k)
+unfolding after numberOf occurrencesWith
+unknown-same true x y n k = refl
+unknown-same false x y n k = refl
 
 -- the same item, the same views
 module _ (L L′ : Ledger) (o : ℕ) (r : Same L o L′) (tag occ : ℕ) where
@@ -100,7 +101,7 @@ module _ (L L′ : Ledger) (o : ℕ) (r : Same L o L′) (tag occ : ℕ) where
     where
       go : (b : Bool) → mfnIn L o ≡ b → answerL L′ (view o tag occ) ≡ answerL L (view o tag occ)
       go true e = rw (r .lengths, r .known, r .item e)
-      go false e = rw (r .lengths, r .known, e) (unknown-same (lengthsFine L) _ _)
+      go false e = rw (r .lengths, r .known, e) (unknown-same (lengthsFine L) _ _ _ _)
 
   settled-view-same : answerL L′ (viewSettled o tag occ) ≡ answerL L (viewSettled o tag occ)
   unfolding answerL numberL refusalsL givesL replyL
@@ -108,7 +109,7 @@ module _ (L L′ : Ledger) (o : ℕ) (r : Same L o L′) (tag occ : ℕ) where
     where
       go : (b : Bool) → mfnIn L o ≡ b → answerL L′ (viewSettled o tag occ) ≡ answerL L (viewSettled o tag occ)
       go true e = rw (r .lengths, r .known, r .item e)
-      go false e = rw (r .lengths, r .known, e) (unknown-same (lengthsFine L) _ _)
+      go false e = rw (r .lengths, r .known, e) (unknown-same (lengthsFine L) _ _ _ _)
 
 pub other-views : (s : Store) → SoundStore s → (c : Call) (o : ℕ) → touches (ledgerOf s) (effectOf (ledgerOf s) c) o ≡ false → SameViews s (nextS s c) o
 other-views s h c o t =

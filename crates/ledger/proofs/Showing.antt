@@ -1,26 +1,17 @@
 -- What a search in a right record shows is what its list of fields names.
 use Prim.Native.Nat.{ℕ, _+_}
-use mathlib.Core.Path.{_≡_, refl, ap, _∙_}
+use mathlib.Core.Path.{_≡_, refl}
 use mathlib.Core.Bool.{Bool}
 use mathlib.Core.List.{List}
 use Rattle.word.specs.Overwrite.{part}
 use Rattle.layout.specs.declared.leader.Leader.{Leader}
-use Rattle.record.specs.Fields.{Field, fieldsOf, fieldNamed, findOf, foundBytes}
+use Rattle.record.specs.Fields.{Field, fieldNamed, findOf}
 use Rattle.record.specs.declared.fields.Found.{Found}
-use Rattle.record.specs.declared.fields.Found.the-variants.{Span, Missing}
+use Rattle.record.specs.declared.fields.Found.the-variants.{Span, Fewer, Missing}
 use Rattle.record.proofs.Local.{ReadsAs}
-use Rattle.record.proofs.Search.{find-field-is}
-use Rattle.record.proofs.Find.{reads-found, reads-missing}
-use Rattle.views.specs.Views.{isMissing, foundStart, foundLength}
-use Rattle.ledger.specs.LedgerAnswers.{isNone, bytesOf}
-
-missing-found : (rec : List ℕ) (f : Found) → isMissing f ≡ isNone (foundBytes rec f)
-missing-found rec (Span start len) = refl
-missing-found rec Missing = refl
-
--- a field that is not found is not among the fields
-pub missing-is : (rec : List ℕ) (tag occ : ℕ) → isMissing (findOf rec tag occ) ≡ isNone (fieldNamed (fieldsOf rec) tag occ)
-missing-is rec tag occ = missing-found rec (findOf rec tag occ) ∙ ap isNone (find-field-is rec tag occ)
+use Rattle.record.proofs.Find.{reads-found, reads-none}
+use Rattle.views.specs.Views.{foundStart, foundLength}
+use Rattle.ledger.specs.LedgerAnswers.{bytesOf}
 
 -- a view that is done shows the field's bytes
 pub shown-done : (d : List ℕ) (at n : ℕ) {m : ℕ} {deleted : Bool} {l : Leader} {fs : List Field} → ReadsAs (part d at n) m deleted l fs → (tag occ : ℕ)
@@ -29,4 +20,5 @@ shown-done d at n {fs = fs} r tag occ = go (findOf (part d at n) tag occ) refl
   where
     go : (f : Found) → findOf (part d at n) tag occ ≡ f → part d (at + foundStart f) (foundLength f) ≡ bytesOf (fieldNamed fs tag occ)
     go (Span start len) e = rw (reads-found d at n r tag occ start len e)
-    go Missing e = rw (reads-missing r tag occ e)
+    go (Fewer k) e = rw (reads-none r tag occ (rw e))
+    go Missing e = rw (reads-none r tag occ (rw e))

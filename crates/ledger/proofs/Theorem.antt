@@ -1,7 +1,7 @@
 -- DEMAND 3. Format two buffers of permitted size, whatever they held; then for every list of calls, refused ones included, every answer, every
--- MFN returned and every field shown equals, in order, what the ledger answers to the same calls, and the buffers hold what the ledger keeps.
--- One statement about the whole list, by induction from one step; it starts from any sound store, with the ledger that its bytes give, and
--- format is the special case.
+-- MFN returned, every field shown and every count equals, in order, what the ledger answers to the same calls, and the buffers hold what the
+-- ledger keeps. One statement about the whole list, by induction from one step; it starts from any sound store, with the ledger that its bytes
+-- give, and format is the special case.
 use Prim.Native.Nat.{ℕ}
 use mathlib.Core.Path.{_≡_, refl, sym, ap, _∙_}
 use mathlib.Core.Bool.{Bool, true, false}
@@ -22,7 +22,7 @@ use Rattle.soundness.proofs.SoundEntries.{Sound, stands, body-sound, EntryStand
 use Rattle.soundness.proofs.Asked.{create-asked, update-asked, delete-asked, settle-asked, revert-asked}
 use Rattle.store.specs.Store.{Store, store}
 use Rattle.drafts.specs.Draft.{Draft}
-use Rattle.ledger.specs.Call.{Call, format, view, viewSettled, create, update, delete, settle, revert, check, migrate, settleList, Outcome, outcome, plain, listed}
+use Rattle.ledger.specs.Call.{Call, format, view, viewSettled, create, update, delete, settle, revert, check, migrate, settleList, Outcome, plain, returned, listed}
 use Rattle.ledger.specs.Ledger.{Ledger, nextMfn}
 use Rattle.ledger.specs.LedgerAnswers.{settleRows, settledOne, settledEach, answersEach, refusalsL, numberL, givesL, outcomeOf, answerL, replyL}
 use Rattle.ledger.specs.LedgerSteps.{stays, applied, effectOf, nextL, afterL}
@@ -85,7 +85,7 @@ module _ (t : Store) (h : SoundStore t) where
   create-gives : (d : Draft) → answerS t (create d) ≡ outcomeOf (createAnswer t d) (givesL (ledgerOf t) (create d))
   unfolding answerS givesL createOf replyL resultS
   create-gives d =
-      ap (λ (n : ℕ). outcome (createAnswer t d) (after (createAnswer t d) n 0) [])
+      ap (λ (n : ℕ). returned (createAnswer t d) (after (createAnswer t d) n 0))
       (sym (next-is t opened))
 
   -- one MFN is settled
@@ -171,7 +171,7 @@ module _ (t : Store) (h : SoundStore t) where
 
 -- ---- THE THEOREM
 
--- from any sound store: every answer, MFN and field of a list of calls is the ledger's, and so is the store after it
+-- from any sound store: every answer, MFN, field and count of a list of calls is the ledger's, and so is the store after it
 pub answers-are-the-ledgers : (t : Store) → SoundStore t → (cs : List Call) → FromSound t cs
 answers-are-the-ledgers t h cs =
     let r = run-all step t h cs in

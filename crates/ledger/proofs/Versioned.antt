@@ -1,27 +1,28 @@
 -- What the ledger answers of a record whose mark is known: a live one shows its fields, one under changed shows its settled fields to the settled
 -- view and can be reverted to them, and one under new is refused by 11.
-use Prim.Native.Nat.{ℕ, _+_}
+use Prim.Native.Nat.{ℕ}
 use native.Mathlib.Omega.{arith}
 use mathlib.Core.Path.{_≡_, refl, ap}
 use mathlib.Core.Bool.{Bool, true, false, _&&_, cond}
 use mathlib.Core.List.{List}
-use Rattle.record.specs.Fields.{Field, fieldNamed}
+use Rattle.record.specs.Fields.{Field, fieldNamed, occurrencesOf}
 use Rattle.drafts.specs.Bytes.{needFor}
-use Rattle.store.specs.Answer.{numberOf, after}
-use Rattle.store.specs.declared.answer.Answer.the-variants.{Done, Deleted, NeverSettled, NoField}
+use Rattle.store.specs.Answer.{numberOf, lowest, after}
+use Rattle.store.specs.declared.answer.Answer.the-variants.{Done, Deleted, NeverSettled}
 use Rattle.store.proofs.Gates.{after-done}
 use Rattle.drafts.specs.Draft.{Draft, fieldsIn}
+use Rattle.views.specs.Views.{amongFields, occurrencesWith}
 use Rattle.ledger.specs.Call.{Call, view, viewSettled, create, update, delete, revert, Outcome, plain}
 use Rattle.ledger.specs.Ledger.{Marking, settled, new, changed, Item, held, Ledger, nextMfn, lengthsFine, itemOf, settledFields}
-use Rattle.ledger.specs.LedgerAnswers.{isNone, bytesOf, appends, refusalsL, numberL, theField, givesL, outcomeOf, answerL, replyL}
+use Rattle.ledger.specs.LedgerAnswers.{bytesOf, appends, refusalsL, numberL, theField, givesL, outcomeOf, answerL, replyL}
 use Rattle.ledger.specs.LedgerSteps.{applied, endWith, effectOf, nextL}
 use Rattle.ledger.specs.History.{UpdatesOrDeletes, updates, deletes}
 use Rattle.ledger.proofs.Effects.{Known, known-in, create-lengths, set-own, added-long, added-own}
 use Rattle.ledger.proofs.Between.{Marked, Over, Fresh, marked-own}
 
--- a field of these fields, or 12
+-- a field of these fields, or 12 or 15
 abbrev pub fieldShown : List Field → ℕ → ℕ → Outcome
-fieldShown fs tag occ = outcomeOf (cond (isNone (fieldNamed fs tag occ)) NoField Done) (theField (bytesOf (fieldNamed fs tag occ)))
+fieldShown fs tag occ = outcomeOf (lowest (amongFields fs tag occ)) (theField (bytesOf (fieldNamed fs tag occ)) (occurrencesOf fs tag))
 
 module _ (L : Ledger) (m : ℕ) (k : Known L m) where
   pub live-view : (fs : List Field) (s : Marking) → itemOf L m ≡ held fs false s → (tag occ : ℕ) → answerL L (view m tag occ) ≡ fieldShown fs tag occ
@@ -50,7 +51,8 @@ module _ (old : List Field) (m : ℕ) (L : Ledger) (w : Marked (Over old) m L) w
   unfolding answerL numberL givesL refusalsL replyL
   over-view tag occ = rw (w .known .lengths, known-in (w .known), w .item, w .kind .is) (go (w .flag))
     where
-      go : (b : Bool) → outcomeOf (cond (b && false) Deleted (cond (isNone (fieldNamed old tag occ)) NoField Done)) (theField (bytesOf (fieldNamed old tag occ))) ≡ fieldShown old tag occ
+      go : (b : Bool)
+          → outcomeOf (cond (b && false) Deleted (lowest (amongFields old tag occ))) (theField (bytesOf (fieldNamed old tag occ)) (occurrencesOf old tag)) ≡ fieldShown old tag occ
       go true = refl
       go false = refl
 
@@ -83,10 +85,10 @@ module _ (m : ℕ) (L : Ledger) (w : Marked Fresh m L) where
   fresh-reverts = rw (w .known .lengths, known-in (w .known), w .item, w .kind .is)
 
   pub fresh-view : (tag occ : ℕ) → answerL L (viewSettled m tag occ) ≡ plain NeverSettled
-  unfolding answerL numberL givesL refusalsL after numberOf replyL
+  unfolding answerL numberL givesL refusalsL after numberOf occurrencesWith replyL
   fresh-view tag occ = rw (w .known .lengths, known-in (w .known), w .item, w .kind .is) (go (w .flag))
     where
-      go : (b : Bool) → outcomeOf (cond (b && false) Deleted NeverSettled) (theField (bytesOf (fieldNamed (w .fields) tag occ))) ≡ plain NeverSettled
+      go : (b : Bool) → outcomeOf (cond (b && false) Deleted NeverSettled) (theField (bytesOf (fieldNamed (w .fields) tag occ)) (occurrencesOf (w .fields) tag)) ≡ plain NeverSettled
       go true = refl
       go false = refl
 

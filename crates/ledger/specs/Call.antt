@@ -27,17 +27,20 @@ pub record Outcome : Type 0 where
   pub mfn : ℕ
   -- the field shown: empty but from a view that is done
   pub shown : List ℕ
-  -- how many: 0 from a call that counts nothing
+  -- how many: the occurrences of the tag from a view that answers 15, else 0
   pub count : ℕ
   -- the answers that it lists: empty but from a list that is settled
   pub answers : List Answer
 
--- an answer with an MFN and a field, one with neither, and one with a list of answers
-abbrev pub outcome : Answer → ℕ → List ℕ → Outcome
-outcome a m bytes = record { answer = a; mfn = m; shown = bytes; count = 0; answers = [] }
-
+-- an answer with nothing else, one with an MFN, one with a field and how many, and one with a list of answers
 abbrev pub plain : Answer → Outcome
-plain a = outcome a 0 []
+plain a = record { answer = a; mfn = 0; shown = []; count = 0; answers = [] }
+
+abbrev pub returned : Answer → ℕ → Outcome
+returned a m = record { answer = a; mfn = m; shown = []; count = 0; answers = [] }
+
+abbrev pub viewed : Answer → List ℕ → ℕ → Outcome
+viewed a bytes n = record { answer = a; mfn = 0; shown = bytes; count = n; answers = [] }
 
 abbrev pub listed : Answer → List Answer → Outcome
 listed a each = record { answer = a; mfn = 0; shown = []; count = 0; answers = each }

@@ -1,5 +1,5 @@
--- DEMAND 3, as a statement. The store that a list of calls leaves holds what the ledger keeps after the list, and every answer, MFN and field on
--- the way is the ledger's. Document 01, "The ledger of demand 3"; proved in proofs/Theorem.
+-- DEMAND 3, as a statement. The store that a list of calls leaves holds what the ledger keeps after the list, and every answer, MFN, field and
+-- number on the way is the ledger's. Document 01, "The ledger of demand 3"; proved in proofs/Theorem.
 use Prim.Native.Nat.{ℕ}
 use mathlib.Core.Path.{_≡_}
 use mathlib.Core.List.{List}
@@ -24,7 +24,7 @@ pub record Kept (s : Store) (L : Ledger) : Type 0 where
 
 -- a store and a ledger agree on a list of calls, refused ones included
 pub record Agree (s : Store) (L : Ledger) (cs : List Call) : Type 0 where
-  -- every answer, every MFN returned and every field shown, in order
+  -- every answer, every MFN returned, every field shown and every count, in order
   pub answers : answersS s cs ≡ answersL L cs
   -- and what is there after the list
   pub kept : Kept (afterS s cs) (afterL L cs)

@@ -1,21 +1,22 @@
 -- What the ledger answers to a call: the lowest number that the table gives, read on the ledger. Each call's refusals stand in the order of
 -- their numbers, and `lowest` takes the first that applies; proofs/Ascending shows that every table ascends, so that the first is the lowest.
--- Document 01, "The ledger of demand 3".
+-- Document 01, "The ledger of demand 3"; request C-15.
 use Prim.Native.Nat.{ℕ, _+_}
-use mathlib.Core.Bool.{Bool, true, false, not, _&&_, _||_}
+use mathlib.Core.Bool.{Bool, true, not, _&&_, _||_}
 use mathlib.Core.List.{List, [], _∷_}
 use mathlib.Core.Option.{Option, some, none}
 use lib.Dec.{eqb, ltb}
 use lib.ListN.{length}
 use Rattle.layout.specs.Sizes.{capacityOf}
-use Rattle.record.specs.Fields.{fieldNamed}
+use Rattle.record.specs.Fields.{fieldNamed, occurrencesOf}
 use Rattle.drafts.specs.Bytes.{needFor}
 use Rattle.store.specs.Answer.{Refusal, refuse, lowest, after}
 use Rattle.store.specs.declared.answer.Answer.{Answer}
-use Rattle.store.specs.declared.answer.Answer.the-variants.{BadLength, BadControl, BadDraft, NoMfn, NoSlot, Gone, Deleted, NotPending, NeverSettled, NoField, NoRoom}
+use Rattle.store.specs.declared.answer.Answer.the-variants.{BadLength, BadControl, BadDraft, NoMfn, NoSlot, Gone, Deleted, NotPending, NeverSettled, NoRoom}
 use Rattle.drafts.specs.Draft.{isRight, fieldsIn}
+use Rattle.views.specs.Views.{amongFields, occurrencesWith}
 use Rattle.settling.specs.SettleList.{settleListRefusals}
-use Rattle.ledger.specs.Call.{Call, format, view, viewSettled, create, update, delete, settle, revert, check, migrate, settleList, Outcome, outcome, plain, listed}
+use Rattle.ledger.specs.Call.{Call, format, view, viewSettled, create, update, delete, settle, revert, check, migrate, settleList, Outcome, plain, returned, viewed, listed}
 use Rattle.ledger.specs.Ledger.{Marking, settled, Item, held, Ledger, nextMfn, withItem, lengthsFine, mfnIn, itemOf, isGoneItem, keptFields, keptDeleted, keptMark, isSettledMark, isNewMark, keptLength, settledFields}
 
 -- ---- the rows that calls share
@@ -39,11 +40,7 @@ roomFor L appended need = refuse NoRoom (appended && overfull L need) ∷ []
 unfoldable pub appends : Marking → ℕ → Bool
 appends s need = isSettledMark s || ltb (keptLength s) need
 
--- the field named, if there is one
-abbrev pub isNone : Option (List ℕ) → Bool
-isNone none = true
-isNone (some bytes) = false
-
+-- the bytes of the field named, if there is one
 abbrev pub bytesOf : Option (List ℕ) → List ℕ
 bytesOf none = []
 bytesOf (some bytes) = bytes
@@ -70,15 +67,15 @@ unfoldable pub answersEach : Ledger → List ℕ → List Answer
 answersEach L [] = []
 answersEach L (m ∷ ms) = lowest (settleRows L m) ∷ answersEach (settledOne L m) ms
 
--- ---- what a call that is done gives: an MFN, a field, a list of answers, or nothing but its answer
+-- ---- what a call gives: an MFN, a field and how often its tag occurs, a list of answers, or nothing but its answer
 
 pub data Given : Type 0 where
   nothing : Given
   theMfn : ℕ → Given
-  theField : List ℕ → Given
+  theField : List ℕ → ℕ → Given
   theAnswers : List Answer → Given
 
--- ---- the table: the refusals of a call, and what it gives where none applies
+-- ---- the table: the refusals of a call, and what it gives
 
 pub record Reply : Type 0 where
   pub refusals : List Refusal
@@ -89,24 +86,22 @@ reply rows given = record { refusals = rows; gives = given }
 
 unfoldable pub replyL : Ledger → Call → Reply
 replyL L format = reply (measured L []) nothing
--- a view shows the field asked for
+-- a view shows the field asked for: 12 and 15 by the fields that the ledger keeps
 replyL L (view m tag occ) =
     reply
     (measured L
     (named L m
     (refuse Deleted (keptDeleted (itemOf L m))
-    ∷ refuse NoField (isNone (fieldNamed (keptFields (itemOf L m)) tag occ))
-    ∷ [])))
-    (theField (bytesOf (fieldNamed (keptFields (itemOf L m)) tag occ)))
+    ∷ amongFields (keptFields (itemOf L m)) tag occ)))
+    (theField (bytesOf (fieldNamed (keptFields (itemOf L m)) tag occ)) (occurrencesOf (keptFields (itemOf L m)) tag))
 replyL L (viewSettled m tag occ) =
     reply
     (measured L
     (named L m
     (refuse Deleted (keptDeleted (itemOf L m) && isSettledMark (keptMark (itemOf L m)))
     ∷ refuse NeverSettled (isNewMark (keptMark (itemOf L m)))
-    ∷ refuse NoField (isNone (fieldNamed (settledFields (itemOf L m)) tag occ))
-    ∷ [])))
-    (theField (bytesOf (fieldNamed (settledFields (itemOf L m)) tag occ)))
+    ∷ amongFields (settledFields (itemOf L m)) tag occ)))
+    (theField (bytesOf (fieldNamed (settledFields (itemOf L m)) tag occ)) (occurrencesOf (settledFields (itemOf L m)) tag))
 -- create returns the next MFN
 replyL L (create d) =
     reply
@@ -155,11 +150,11 @@ givesL L c = replyL L c .gives
 unfoldable pub numberL : Ledger → Call → Answer
 numberL L c = lowest (refusalsL L c)
 
--- refused: MFN 0, an empty field and no answers
+-- refused: MFN 0, an empty field and no answers; how often the tag occurs comes with 15 alone
 abbrev pub outcomeOf : Answer → Given → Outcome
 outcomeOf a nothing = plain a
-outcomeOf a (theMfn m) = outcome a (after a m 0) []
-outcomeOf a (theField bytes) = outcome a 0 (after a bytes [])
+outcomeOf a (theMfn m) = returned a (after a m 0)
+outcomeOf a (theField bytes n) = viewed a (after a bytes []) (occurrencesWith a n)
 outcomeOf a (theAnswers each) = listed a (after a each [])
 
 unfoldable pub answerL : Ledger → Call → Outcome

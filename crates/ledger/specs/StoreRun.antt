@@ -13,14 +13,14 @@ use Rattle.migrating.specs.Migrate.{migrateAnswer, migrateLeaves}
 use Rattle.settling.specs.SettleList.{settleEachAnswers, settleListAnswer, settleListLeaves}
 use Rattle.store.specs.Answer.{after}
 use Rattle.store.specs.Store.{Store}
-use Rattle.ledger.specs.Call.{Call, format, view, viewSettled, create, update, delete, settle, revert, check, migrate, settleList, Outcome, outcome, plain, listed}
+use Rattle.ledger.specs.Call.{Call, format, view, viewSettled, create, update, delete, settle, revert, check, migrate, settleList, Outcome, plain, returned, viewed, listed}
 
 -- what a view shows, and what a create returns
 abbrev pub shownOutcome : List ℕ → Shown → Outcome
-shownOutcome mst r = outcome (r .answer) 0 (shownBytes mst r)
+shownOutcome mst r = viewed (r .answer) (shownBytes mst r) (r .occurrences)
 
 abbrev pub createdOutcome : Created → Outcome
-createdOutcome r = outcome (r .answer) (r .mfn .0) []
+createdOutcome r = returned (r .answer) (r .mfn .0)
 
 -- what a list of MFNs answers: the answers that are written are the outcome's, by their numbers
 abbrev pub listOutcome : Store → List ℕ → ℕ → Outcome

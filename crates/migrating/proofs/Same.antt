@@ -9,6 +9,7 @@ use mathlib.Core.Bool.{Bool, true, false, not, _&&_, cond}
 use mathlib.Core.List.{List, _∷_}
 use lib.Dec.{leb}
 use lib.ListN.{length}
+use borrow.Author.Tests.{ne-eqb}
 use Rattle.word.specs.Overwrite.{part}
 use Rattle.word.proofs.Tests.{tests, and-left}
 use Rattle.layout.specs.Sizes.{endMoved, recordLength, capacityOf}
@@ -34,7 +35,7 @@ use Rattle.store.specs.Reading.{lengthsPermitted, mfnInRange, placeIn}
 use Rattle.store.specs.declared.answer.Answer.{Answer}
 use Rattle.store.specs.declared.answer.Answer.the-variants.{Done, BadLength, NoMfn, BadEntry, Gone as GoneAnswer, BadRecord, Deleted, NeverSettled}
 use Rattle.store.proofs.Gates.{Refusing, after-done, after-refused, after-cases, holds, namedList, list-done, back-changed}
-use Rattle.views.specs.Views.{foundStart, foundLength, shownAt}
+use Rattle.views.specs.Views.{foundStart, foundLength, occurrencesWith, shownAt}
 use Rattle.views.specs.Fields.{handedOut}
 use Rattle.asking.specs.State.{stateShown}
 use Rattle.asking.specs.Listing.{Lists, listedOver}
@@ -49,23 +50,31 @@ use Rattle.migrating.specs.Theorems.{SameBytes}
 abbrev table : Bool → Bool → Entry → Bool → Answer → Answer
 table lengths known e ok rest = cond (not lengths) BadLength (namedList known e ok rest)
 
--- a call that is refused shows the same, wherever it looked
+-- refused by 1 to 8, before anything is asked of a record
+pub record Unread (a : Answer) : Type 0 where
+  pub refusing : Refusing a
+  pub low : numberOf a ≤ 8
+
+-- a call that is refused so shows the same, wherever it looked
 abbrev pub EmptyRefused : {A : Type 0} → (Answer → ℕ → List ℕ → A) → Type 0
-EmptyRefused show = (a : Answer) → Refusing a → (at at′ : ℕ) (rec rec′ : List ℕ) → show a at rec ≡ show a at′ rec′
+EmptyRefused show = (a : Answer) → Unread a → (at at′ : ℕ) (rec rec′ : List ℕ) → show a at rec ≡ show a at′ rec′
 
 pub found-empty : (tag occ : ℕ) → EmptyRefused (foundShown tag occ)
-unfolding shownAt
-found-empty tag occ a h at at′ rec rec′ =
+unfolding shownAt occurrencesWith
+found-empty tag occ a u at at′ rec rec′ =
+    let h = u .refusing in
     rw (
       after-refused a (at + foundStart (findOf rec tag occ)) 0 h,
       after-refused a (foundLength (findOf rec tag occ)) 0 h,
       after-refused a (at′ + foundStart (findOf rec′ tag occ)) 0 h,
       after-refused a (foundLength (findOf rec′ tag occ)) 0 h,
+      ne-eqb (numberOf a) 15 (λ z. omega (arith, u .low)),
     )
 
 pub index-empty : (i : ℕ) → EmptyRefused (indexShown i)
 unfolding handedOut
-index-empty i a h at at′ rec rec′ =
+index-empty i a u at at′ rec rec′ =
+    let h = u .refusing in
     rw (
       after-refused a (tagAt rec i) 0 h,
       after-refused a (at + (leaderOf rec .base + posAt rec i)) 0 h,
@@ -76,7 +85,8 @@ index-empty i a h at at′ rec rec′ =
     )
 
 pub list-empty : (l : Lists) → EmptyRefused (listShown l)
-list-empty l a h at at′ rec rec′ =
+list-empty l a u at at′ rec rec′ =
+    let h = u .refusing in
     rw (
       after-refused a (leaderOf rec .nvf) 0 h,
       after-refused a (listedOver at rec l) l h,
@@ -86,31 +96,31 @@ list-empty l a h at at′ rec rec′ =
 
 module _ (lengths known : Bool) where
   -- an entry that has no place is refused, and so is a record that is not right
-  no-place : (a : Answer) → Refusing a → Refusing (cond (not lengths) BadLength (cond (not known) NoMfn a))
+  no-place : (a : Answer) → Unread a → Unread (cond (not lengths) BadLength (cond (not known) NoMfn a))
   unfolding numberOf
   no-place a h = go lengths known
     where
-      go : (l k : Bool) → Refusing (cond (not l) BadLength (cond (not k) NoMfn a))
-      go false k = λ z. omega arith
-      go true false = λ z. omega arith
+      go : (l k : Bool) → Unread (cond (not l) BadLength (cond (not k) NoMfn a))
+      go false k = record { refusing = λ z. omega arith; low = omega arith }
+      go true false = record { refusing = λ z. omega arith; low = omega arith }
       go true true = h
 
-  gone-refused : Refusing (table lengths known Gone true Done)
+  gone-refused : Unread (table lengths known Gone true Done)
   unfolding numberOf
-  gone-refused = no-place GoneAnswer (λ z. omega arith)
+  gone-refused = no-place GoneAnswer (record { refusing = λ z. omega arith; low = omega arith })
 
-  malformed-refused : Refusing (table lengths known Malformed true Done)
+  malformed-refused : Unread (table lengths known Malformed true Done)
   unfolding numberOf
-  malformed-refused = no-place BadEntry (λ z. omega arith)
+  malformed-refused = no-place BadEntry (record { refusing = λ z. omega arith; low = omega arith })
 
-  wrong-refused : (p : Place) → Refusing (table lengths known (At p) false Done)
+  wrong-refused : (p : Place) → Unread (table lengths known (At p) false Done)
   unfolding numberOf
-  wrong-refused p = no-place BadRecord (λ z. omega arith)
+  wrong-refused p = no-place BadRecord (record { refusing = λ z. omega arith; low = omega arith })
 
   -- two readings of one entry
   module _ {A : Type 0} (ok ok′ : Place → Bool) (rest rest′ : Place → Answer) (show show′ : Answer → Place → A) where
     shown-same : (e : Entry)
-        → ((a : Answer) → Refusing a → (p : Place) → show a p ≡ show′ a p)
+        → ((a : Answer) → Unread a → (p : Place) → show a p ≡ show′ a p)
         → ((p : Place) → e ≡ At p → ok p ≡ ok′ p)
         → ((p : Place) → e ≡ At p → ok′ p ≡ true → (rest p ≡ rest′ p) × ((a : Answer) → show a p ≡ show′ a p))
         → show (table lengths known e (ok (placeIn e)) (rest (placeIn e))) (placeIn e) ≡ show′ (table lengths known e (ok′ (placeIn e)) (rest′ (placeIn e))) (placeIn e)

@@ -18,14 +18,14 @@ use Rattle.layout.specs.declared.leader.Leader.{Leader}
 use Rattle.files.specs.Control.{nextOf, endFrom, controlRightFrom}
 use Rattle.files.specs.CrossReference.{entryAt}
 use Rattle.record.specs.Record.{wellFormed, backAddress}
-use Rattle.record.specs.Fields.{findOf}
+use Rattle.record.specs.Fields.{fieldsOf}
 use Rattle.store.specs.Store.{Store}
 use Rattle.store.specs.Answer.{Refusal, refuse, lowest}
 use Rattle.store.specs.Reading.{lengthsPermitted, mfnInRange, placeIn, isMalformed, isGone}
 use Rattle.store.specs.declared.answer.Answer.the-variants.{BadLength, BadControl, NoMfn, BadEntry, Gone as GoneAnswer, BadRecord, Deleted, NeverSettled, NoField, NoRoomInList}
 use Rattle.store.specs.declared.answer.Answer.{Answer}
 use Rattle.walking.specs.Walker.{atEnd}
-use Rattle.views.specs.Views.{isMissing, shownAt}
+use Rattle.views.specs.Views.{amongFields, shownAt}
 use Rattle.views.specs.Fields.{handedOut}
 use Rattle.views.specs.declared.views.Shown.{Shown}
 use Rattle.views.specs.declared.walk.ShownField.{ShownField}
@@ -116,12 +116,12 @@ onSettledBy from s m rows show =
     (settledAddressBy from (s .mst) (placeBy from s m))
     (settledRecordBy from (s .mst) (placeBy from s m))
 
--- a field by its tag and occurrence: 12, and where it lies
+-- a field by its tag and occurrence: 12 and 15, and where it lies
 abbrev pub foundRows : ℕ → ℕ → List ℕ → List Refusal
-foundRows tag occ rec = refuse NoField (isMissing (findOf rec tag occ)) ∷ []
+foundRows tag occ rec = amongFields (fieldsOf rec) tag occ
 
 abbrev pub foundShown : ℕ → ℕ → Answer → ℕ → List ℕ → Shown
-foundShown tag occ a at rec = shownAt a at (findOf rec tag occ)
+foundShown tag occ a at rec = shownAt a at rec tag occ
 
 unfoldable pub viewBy : ℕ → Store → ℕ → ℕ → ℕ → Shown
 viewBy from s m tag occ = onCurrentBy from s m (foundRows tag occ) (foundShown tag occ)

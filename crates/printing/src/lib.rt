@@ -1,5 +1,5 @@
 // Prints what a replay reports: why it stopped and how many calls it ran; of each call the answer, the MFN returned, the length of the field shown,
-// how many answers are listed, then the field and those answers; and NXTMFN, NXTMFB and NXTMFP afterwards.
+// the count, how many answers are listed, then the field and those answers; and NXTMFN, NXTMFB and NXTMFP afterwards.
 use libc::STDOUT_FILENO;
 use lists::numbers::at_most;
 use script::report::OUTCOME_SIZE;
@@ -49,7 +49,7 @@ fn print_next(n: u32) {
     print_number(n);
 }
 
-// Prints the four numbers of the outcome that stands at `i`.
+// Prints the five numbers of the outcome that stands at `i`.
 fn print_numbers(answers: &[u32], i: usize)
     requires { ⌜ i + outcomeSize ≤ length (now answers) ⌝ }
 {
@@ -57,6 +57,7 @@ fn print_numbers(answers: &[u32], i: usize)
     print_next(answers[i + 1]);
     print_next(answers[i + 2]);
     print_next(answers[i + 3]);
+    print_next(answers[i + 4]);
 }
 
 // Prints so many numbers from `from` on, ends the line, and gives where the next outcome stands.
@@ -85,7 +86,7 @@ fn print_outcomes(calls: usize, answers: &[u32], shown: &[u8]) {
         }
         print_numbers(answers, i);
         from = print_field(shown, from, answers[i + 2]);
-        i = print_listed(answers, i + OUTCOME_SIZE, answers[i + 3]);
+        i = print_listed(answers, i + OUTCOME_SIZE, answers[i + 4]);
         left -= 1;
     }
 }

@@ -10,13 +10,14 @@ ghost use lib.ListN.{length, getD};
 ghost use Rattle.record.specs.Fields.{fieldsOf, findOf, dataOf};
 ghost use Rattle.record.specs.Record.{Readable};
 
-// Where in its record a field lies.
+// Where in its record a field lies; or that its tag occurs fewer times than asked, and how often; or that it does not occur.
 pub enum Found {
     Span { start: usize, len: usize },
+    Fewer { occurrences: u32 },
     Missing,
 }
 
-// Finds the field of a tag by its occurrence, counted from 1.
+// Finds the field of a tag by its occurrence, counted from 1. What was met of a tag on the way is what `left` fell by.
 pub fn find_field(rec: &[u8], tag: Tag, occurrence: u32) -> Found
     requires { ⌜ Readable (now rec) ⌝ }
     ensures { λ r. ⌜ r ≡ findOf (now (rec .entry)) (tag .0) occurrence ⌝ }
@@ -40,6 +41,10 @@ pub fn find_field(rec: &[u8], tag: Tag, occurrence: u32) -> Found
             left -= 1;
         }
         i += 1;
+    }
+    let occurrences = occurrence - left;
+    if 0 < occurrences {
+        return Found::Fewer { occurrences };
     }
     Found::Missing
 }

@@ -31,7 +31,7 @@ use Rattle.store.proofs.Gates.{Refusing, after-cases, holds, lengths-facts}
 use Rattle.layout.specs.Sizes.{mstMost}
 use Rattle.layout.specs.declared.sizes.Mfn.{Mfn}
 use Rattle.layout.specs.declared.sizes.Tag.{Tag}
-use Rattle.record.specs.declared.fields.Found.{Found}
+use Rattle.record.specs.Fields.{findOf}
 use Rattle.soundness.specs.Sound.{checkAnswer}
 use Rattle.migrating.specs.Migrate.{migrateAnswer, migrateLeaves}
 use Rattle.settling.specs.SettleList.{settleEachAnswers, listsRight, settleListAnswer, settleListLeaves, settleListTells}
@@ -75,7 +75,7 @@ module _ (mst xrf : List ℕ) (r : Reading) (sh : Shown) where
   settled-asked m tag occ e f = rw (e, f)
 
 pub check-asked : (mst xrf : List ℕ) (r : Reading) (a : Answer) → r ≡ Check → a ≡ checkAnswer (store mst xrf)
-    → shownOutcome mst (record { answer = a; start = 0; len = 0 }) ≡ answerS (store mst xrf) (readingCall r)
+    → shownOutcome mst (record { answer = a; start = 0; len = 0; occurrences = 0 }) ≡ answerS (store mst xrf) (readingCall r)
 unfolding answerS resultS
 check-asked mst xrf r a e f = rw (e, f)
 
@@ -87,22 +87,22 @@ unfolding numberOf
 no-length z = omega arith
 
 module _ (mst xrf : List ℕ) (sh : Shown) where
-  short : (a : Answer) (at : ℕ) (f : Found) → sh ≡ shownAt a at f → (a ≡ Done → lengthsPermitted (store mst xrf) ≡ true) → sh .start + sh .len ≤ length mst
+  short : (a : Answer) (at : ℕ) (rec : List ℕ) (tag occ : ℕ) → sh ≡ shownAt a at rec tag occ → (a ≡ Done → lengthsPermitted (store mst xrf) ≡ true) → sh .start + sh .len ≤ length mst
       → sh .len ≤ mstMost
   unfolding shownAt
-  short a at f e permitted within =
+  short a at rec tag occ e permitted within =
       ⊎-elim
       (λ d. let l = lengths-facts mst xrf (permitted (d .0)) .mst-high in omega arith)
       (λ n. let z : sh .len ≡ 0 = rw e (n .1) in omega arith)
-      (after-cases a (foundLength f) 0)
+      (after-cases a (foundLength (findOf rec tag occ)) 0)
 
   pub view-short : (m tag occ : ℕ) → sh ≡ viewOf (store mst xrf) m tag occ → sh .start + sh .len ≤ length mst → sh .len ≤ mstMost
   unfolding viewOf viewAnswer
-  view-short m tag occ e w = short (viewAnswer (store mst xrf) m tag occ) _ _ e (λ d. holds (lengthsPermitted (store mst xrf)) BadLength _ no-length d .0) w
+  view-short m tag occ e w = short (viewAnswer (store mst xrf) m tag occ) _ _ tag occ e (λ d. holds (lengthsPermitted (store mst xrf)) BadLength _ no-length d .0) w
 
   pub settled-short : (m tag occ : ℕ) → sh ≡ settledViewOf (store mst xrf) m tag occ → sh .start + sh .len ≤ length mst → sh .len ≤ mstMost
   unfolding settledViewOf settledViewAnswer
-  settled-short m tag occ e w = short (settledViewAnswer (store mst xrf) m tag occ) _ _ e (λ d. holds (lengthsPermitted (store mst xrf)) BadLength _ no-length d .0) w
+  settled-short m tag occ e w = short (settledViewAnswer (store mst xrf) m tag occ) _ _ tag occ e (λ d. holds (lengthsPermitted (store mst xrf)) BadLength _ no-length d .0) w
 
 pub ruleset short-answers = (view-short, settled-short)
 
@@ -173,7 +173,7 @@ module _ (s : Store) (c : Call) (n : Counts) (answers shown : List ℕ) (at : Cu
   pub no-numbers : length answers - at .numbers < outcomeSize → Ran s c n answers shown at (Stopped NoRoom) s answers shown
   no-numbers h = full (rw (lt-leb (length (numbersOf (answerS s c))) (length answers - at .numbers) (omega arith)))
 
--- a call that reads shows sh, and there is room for the four numbers
+-- a call that reads shows sh, and there is room for the five numbers
 module _ (mst xrf answers shown : List ℕ) (at : Cursor) (r : Reading) (sh : Shown)
     (e : shownOutcome mst sh ≡ answerS (store mst xrf) (readingCall r)) (w : sh .start + sh .len ≤ length mst) (h : outcomeSize ≤ length answers - at .numbers) where
   abbrev s : Store
@@ -196,7 +196,7 @@ module _ (mst xrf answers shown : List ℕ) (at : Cursor) (r : Reading) (sh : Sh
   no-bytes k = full s (readingCall r) noDraft answers shown at (rw (numbers-fit, shown-length, lt-leb (sh .len) (length shown - at .shown) k))
 
   pub asked-next : (answers′ shown′ : List ℕ) (a : ℕ) (n : Counts) (at′ : Cursor) → sh .len ≤ length shown - at .shown
-      → a ≡ numberOf (sh .answer) → answers′ ≡ overwrite answers (at .numbers) (a ∷ 0 ∷ sh .len ∷ 0 ∷ [])
+      → a ≡ numberOf (sh .answer) → answers′ ≡ overwrite answers (at .numbers) (a ∷ 0 ∷ sh .len ∷ sh .occurrences ∷ 0 ∷ [])
       → shown′ ≡ overwrite shown (at .shown) (part mst (sh .start) (sh .start + sh .len - sh .start))
       → n ≡ noDraft → at′ ≡ moved at n outcomeSize (sh .len)
       → Ran s (readingCall r) noDraft answers shown at (Next at′) s answers′ shown′
@@ -209,10 +209,10 @@ module _ (mst xrf answers shown : List ℕ) (at : Cursor) (r : Reading) (sh : Sh
         fields = rw (b, ← e) (rw (add-sub-cancel-left (sh .start) (sh .len)) at ef);
       }
 
--- a call that may write is run where there is room for the four numbers: it shows nothing and lists nothing
+-- a call that may write is run where there is room for the five numbers: it shows nothing and lists nothing
 pub wrote-next : (s s′ : Store) (tags lens bytes : List ℕ) (r : Created) (answers answers′ : List ℕ) (a : ℕ) (at at′ : Cursor) (k : Writing) (n : Counts)
     → Wrote s (writingAt tags lens bytes at n k) r s′ → outcomeSize ≤ length answers - at .numbers
-    → a ≡ numberOf (r .answer) → answers′ ≡ overwrite answers (at .numbers) (a ∷ r .mfn .0 ∷ 0 ∷ 0 ∷ [])
+    → a ≡ numberOf (r .answer) → answers′ ≡ overwrite answers (at .numbers) (a ∷ r .mfn .0 ∷ 0 ∷ 0 ∷ 0 ∷ [])
     → at′ ≡ moved at n outcomeSize 0
     → (shown : List ℕ) → Ran s (writingAt tags lens bytes at n k) n answers shown at (Next at′) s′ answers′ shown
 wrote-next s s′ tags lens bytes r answers answers′ a at at′ k n w h ea en m shown =
@@ -243,7 +243,7 @@ module _ (s : Store) (mfns answers : List ℕ) (at : Cursor) (n lent : ℕ) (i :
   refused-left h = rw (mfns-length, h)
 
   pub list-refused : (answers′ : List ℕ) (a : ℕ) (k : Counts) (at′ : Cursor) (b : Bool) → b ≡ listsRight n lent → not b ≡ true
-      → outcomeSize ≤ length answers - at .numbers → a ≡ numberOf NoRoomInList → answers′ ≡ overwrite answers (at .numbers) (a ∷ 0 ∷ 0 ∷ 0 ∷ [])
+      → outcomeSize ≤ length answers - at .numbers → a ≡ numberOf NoRoomInList → answers′ ≡ overwrite answers (at .numbers) (a ∷ 0 ∷ 0 ∷ 0 ∷ 0 ∷ [])
       → k ≡ mfnsOf n → at′ ≡ moved at k outcomeSize 0
       → (shown : List ℕ) → Ran s c (mfnsOf n) answers shown at (Next at′) s answers′ shown
   list-refused answers′ a k at′ b e f h ea en ek m shown =
@@ -295,13 +295,13 @@ module _ (s : Store) (mfns answers : List ℕ) (at : Cursor) (n lent : ℕ) (i :
           fields = rw (r, o) (sym (overwrite-none shown (at .shown)));
         }
 
--- the list is settled in a part of the room, and the four numbers stand before it
+-- the list is settled in a part of the room, and the five numbers stand before it
 pub list-reported : (s s′ : Store) (mfns : List ℕ) (n : ℕ) (answers answers₁ answers₂ : List ℕ) (at : Cursor) (a : Answer) (k : ℕ) → ListFits mfns n answers at
     → a ≡ settleListAnswer (length (take (at .mfns + n - at .mfns) (drop (at .mfns) mfns))) (length (midOf (at .numbers + outcomeSize) (at .numbers + outcomeSize + n - (at .numbers + outcomeSize)) answers))
     → s′ ≡ settleListLeaves s (take (at .mfns + n - at .mfns) (drop (at .mfns) mfns)) (length (midOf (at .numbers + outcomeSize) (at .numbers + outcomeSize + n - (at .numbers + outcomeSize)) answers))
     → answers₁ ≡ settleListTells s (take (at .mfns + n - at .mfns) (drop (at .mfns) mfns)) (midOf (at .numbers + outcomeSize) (at .numbers + outcomeSize + n - (at .numbers + outcomeSize)) answers)
     → k ≡ numberOf a
-    → answers₂ ≡ overwrite (putMid (at .numbers + outcomeSize) (at .numbers + outcomeSize + n - (at .numbers + outcomeSize)) answers answers₁) (at .numbers) (k ∷ 0 ∷ 0 ∷ n ∷ [])
+    → answers₂ ≡ overwrite (putMid (at .numbers + outcomeSize) (at .numbers + outcomeSize + n - (at .numbers + outcomeSize)) answers answers₁) (at .numbers) (k ∷ 0 ∷ 0 ∷ 0 ∷ n ∷ [])
     → ListReported s (settlingAt mfns at n n) answers at s′ answers₂
 unfolding settlingAt answerS nextS resultS settleListAnswer settleListLeaves settleListTells after numberOf
 list-reported s s′ mfns n answers answers₁ answers₂ at a k fits ea el et ek en =
@@ -320,8 +320,8 @@ list-reported s s′ mfns n answers answers₁ answers₂ at a k fits ea el et e
     let size : length answers₁ ≡ n = ap length told ∙ length-map (settleEachAnswers s ms) numberOf ∙ answers-count s ms ∙ long in
     let count : length (settleEachAnswers s ms) ≡ n = answers-count s ms ∙ long in
     let zero-is : k ≡ 0 = ek ∙ rw a-is in
-    let placed : answers₂ ≡ overwrite answers (at .numbers) ((k ∷ 0 ∷ 0 ∷ n ∷ []) ++ answers₁) =
-    en ∙ rw q (before-part answers (k ∷ 0 ∷ 0 ∷ n ∷ []) answers₁ (at .numbers) n (omega arith) size) in
+    let placed : answers₂ ≡ overwrite answers (at .numbers) ((k ∷ 0 ∷ 0 ∷ 0 ∷ n ∷ []) ++ answers₁) =
+    en ∙ rw q (before-part answers (k ∷ 0 ∷ 0 ∷ 0 ∷ n ∷ []) answers₁ (at .numbers) n (omega arith) size) in
     record { left = el ∙ rw (p, q, long, w, fine); numbers = rw (long, fine, count) (rw (zero-is, told) at placed) }
 
 pub ruleset asked-turns = (no-numbers, no-bytes, asked-next)

@@ -22,9 +22,9 @@ use Rattle.script.specs.declared.report.Replayed.{Replayed}
 
 -- ---- outcomes as numbers and bytes
 
--- the answer's number, the MFN, the length of what is shown, how many answers are listed; then the numbers of these
+-- the answer's number, the MFN, the length of what is shown, the count, how many answers are listed; then the numbers of these
 abbrev pub numbersOf : Outcome → List ℕ
-numbersOf o = numberOf (o .answer) ∷ o .mfn ∷ length (o .shown) ∷ length (o .answers) ∷ map numberOf (o .answers)
+numbersOf o = numberOf (o .answer) ∷ o .mfn ∷ length (o .shown) ∷ o .count ∷ length (o .answers) ∷ map numberOf (o .answers)
 
 -- of all, one after the other
 unfoldable pub outcomeNumbers : List Outcome → List ℕ
@@ -73,7 +73,7 @@ pub record Runs (s : Store) (p : Script) (answers shown : List ℕ) (r : Replaye
   -- it reports the library's own answers, and leaves what the calls leave
   pub reports : Reports (answersS s (callsOf p)) p answers shown r answers′ shown′
   pub left : s′ ≡ afterS s (callsRun p r)
-  -- WHERE THE BUFFERS ARE SOUND, the answers, MFNs and fields are the ledger's, and the buffers say what the ledger keeps
+  -- WHERE THE BUFFERS ARE SOUND, the answers, MFNs, fields and counts are the ledger's, and the buffers say what the ledger keeps
   pub ledger : SoundStore s → Reports (answersL (ledgerOf s) (callsOf p)) p answers shown r answers′ shown′
   pub kept : SoundStore s → Kept s′ (afterL (ledgerOf s) (callsRun p r))
 
@@ -91,7 +91,7 @@ formattedLedger s = empty (length (s .mst)) (length (s .xrf))
 -- a replay: a format, and a run of the buffers that it leaves
 pub record Replays (s : Store) (p : Script) (answers shown : List ℕ) (r : Replayed) (s′ : Store) (answers′ shown′ : List ℕ) : Type 0 where
   pub refused : lengthsPermitted s ≡ false → Unrun answers shown r answers′ shown′
-  -- the answers, MFNs and fields are THE LEDGER's
+  -- the answers, MFNs, fields and counts are THE LEDGER's
   pub ledger : lengthsPermitted s ≡ true → Reports (answersL (formattedLedger s) (callsOf p)) p answers shown r answers′ shown′
   -- the buffers are what format and the calls reported leave, and say what the ledger keeps
   pub left : s′ ≡ afterS (nextS s format) (callsRun p r)

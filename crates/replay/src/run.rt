@@ -9,7 +9,7 @@ ghost use Rattle.store.specs.Store.{store};
 ghost use Rattle.replay.specs.Calls.{script};
 ghost use Rattle.replay.specs.Replay.{Runs, Replays};
 
-// Runs a list of calls on two buffers, up to its end, to what is no call, or to the first whose outcome has no room: four numbers in `answers` and
+// Runs a list of calls on two buffers, up to its end, to what is no call, or to the first whose outcome has no room: five numbers in `answers` and
 // the answers that it lists, and the bytes shown in `shown`. Where the buffers hold a sound store, the outcomes are THE LEDGER's.
 pub fn run(
     mst: &mut [u8],

@@ -54,6 +54,7 @@ fn ask(mst: &[u8], xrf: &[u8], r: Reading) -> Shown
             answer: soundness::check::check(mst, xrf),
             start: 0,
             len: 0,
+            occurrences: 0,
         },
     }
 }
@@ -139,7 +140,15 @@ fn ask_turn(
     }
     let next = cursor::move_cursor(at, calls::no_draft(), OUTCOME_SIZE, len);
     let a = s.answer;
-    report::put_numbers(answers, i, store::answer::number(a), 0, len as u32, 0);
+    report::put_numbers(
+        answers,
+        i,
+        store::answer::number(a),
+        0,
+        len as u32,
+        s.occurrences,
+        0,
+    );
     let start = s.start;
     let end = start + len;
     word::bytes::copy_to(shown, b, &mst[start..end]);
@@ -170,11 +179,11 @@ fn write_turn(
     let next = cursor::move_cursor(at, n, OUTCOME_SIZE, 0);
     let c = write_at(mst, xrf, w, tags, lens, data, at, n);
     let a = c.answer;
-    report::put_numbers(answers, i, store::answer::number(a), c.mfn.0, 0, 0);
+    report::put_numbers(answers, i, store::answer::number(a), c.mfn.0, 0, 0, 0);
     Turn::Next(next)
 }
 
-// Settles so many of the MFNs at a cursor as a list, and reports it: the four numbers, and the answers behind them.
+// Settles so many of the MFNs at a cursor as a list, and reports it: the five numbers, and the answers behind them.
 fn settle_at(
     mst: &mut [u8],
     xrf: &mut [u8],
@@ -192,7 +201,7 @@ fn settle_at(
     let from = i + OUTCOME_SIZE;
     let to = from + n;
     let a = settling::settle_list::settle_list(mst, xrf, &mfns[m..me], &mut answers[from..to]);
-    report::put_numbers(answers, i, store::answer::number(a), 0, 0, n as u32);
+    report::put_numbers(answers, i, store::answer::number(a), 0, 0, 0, n as u32);
 }
 
 // Settles so many of the MFNs at a cursor and reports it, where there is room. A list for the answers that is not as long as the list of MFNs, or
@@ -221,6 +230,7 @@ fn settle_turn(
             answers,
             i,
             store::answer::number(Answer::NoRoomInList),
+            0,
             0,
             0,
             0,

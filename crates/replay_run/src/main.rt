@@ -1,5 +1,5 @@
 // Replays the lists of calls in a text and prints what each replay reports: why it stopped and how many calls it ran; of each call the answer,
-// the MFN returned, the field shown and the answers listed; and NXTMFN, NXTMFB and NXTMFP afterwards.
+// the MFN returned, the field shown, the count and the answers listed; and NXTMFN, NXTMFB and NXTMFP afterwards.
 use libc::STDIN_FILENO;
 use lists::list::Lengths;
 use lists::numbers::digit_from;

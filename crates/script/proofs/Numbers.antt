@@ -1,7 +1,7 @@
--- The four numbers of an outcome are stored one by one; where it lists answers, these were written right behind them before.
+-- The five numbers of an outcome are stored one by one; where it lists answers, these were written right behind them before.
 use Prim.Native.Nat.{ℕ, _+_, _≤_}
 use native.Mathlib.Nat.{add-assoc}
-use native.Mathlib.Numerals.{add-one, add-two, add-three}
+use native.Mathlib.Numerals.{add-one, add-two, add-three, add-four}
 use native.Mathlib.Omega.{arith}
 use mathlib.Core.Path.{_≡_, sym, ap, _∙_}
 use mathlib.Core.List.{List, [], _∷_, _++_, append-assoc}
@@ -11,8 +11,9 @@ use borrow.Rule.Slice.PartMut.{putMid}
 use Rattle.word.specs.Overwrite.{overwrite}
 use Rattle.word.proofs.Overwrite.{overwrite-stores, overwrite-runs, overwrite-take, overwrite-drop-at}
 
-pub place-four : (d : List ℕ) (i x y z w : ℕ) → i + 4 ≤ length d → set (set (set (set d i x) (i + 1) y) (i + 2) z) (i + 3) w ≡ overwrite d i (x ∷ y ∷ z ∷ w ∷ [])
-place-four d i x y z w h = rw (add-one i, add-two i, add-three i) (overwrite-stores d i (x ∷ y ∷ z ∷ w ∷ []) h)
+pub place-five : (d : List ℕ) (i x y z w v : ℕ) → i + 5 ≤ length d
+    → set (set (set (set (set d i x) (i + 1) y) (i + 2) z) (i + 3) w) (i + 4) v ≡ overwrite d i (x ∷ y ∷ z ∷ w ∷ v ∷ [])
+place-five d i x y z w v h = rw (add-one i, add-two i, add-three i, add-four i) (overwrite-stores d i (x ∷ y ∷ z ∷ w ∷ v ∷ []) h)
 
 -- xs are written before a part that was lent and came back as ys
 pub before-part : (d xs ys : List ℕ) (i k : ℕ) → i + length xs ≤ length d → length ys ≡ k

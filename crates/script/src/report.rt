@@ -7,7 +7,7 @@ ghost use Rattle.word.specs.Overwrite.{overwrite};
 ghost use Rattle.script.specs.Report.{outcomeSize};
 
 // The numbers of an outcome, before the answers that it lists.
-pub const OUTCOME_SIZE: usize = 4;
+pub const OUTCOME_SIZE: usize = 5;
 
 // Why a run stopped.
 pub enum Stop {
@@ -27,13 +27,22 @@ pub struct Replayed {
     pub calls: usize,
 }
 
-// Writes the four numbers of an outcome at `i`: the answer, the MFN returned, the length of the field shown and how many answers it lists.
-pub fn put_numbers(answers: &mut [u32], i: usize, answer: u32, mfn: u32, len: u32, listed: u32)
+// Writes the five numbers of an outcome at `i`: the answer, the MFN returned, the length of the field shown, the count and how many answers it lists.
+pub fn put_numbers(
+    answers: &mut [u32],
+    i: usize,
+    answer: u32,
+    mfn: u32,
+    len: u32,
+    count: u32,
+    listed: u32,
+)
     requires { ⌜ i + outcomeSize ≤ length (now answers) ⌝ }
-    ensures { λ _. ⌜ now (answers .exit) ≡ overwrite (now (answers .entry)) i (answer ∷ mfn ∷ len ∷ listed ∷ []) ⌝ }
+    ensures { λ _. ⌜ now (answers .exit) ≡ overwrite (now (answers .entry)) i (answer ∷ mfn ∷ len ∷ count ∷ listed ∷ []) ⌝ }
 {
     answers[i] = answer;
     answers[i + 1] = mfn;
     answers[i + 2] = len;
-    answers[i + 3] = listed;
+    answers[i + 3] = count;
+    answers[i + 4] = listed;
 }

@@ -35,7 +35,7 @@ use Rattle.store.specs.Reading.{lengthsPermitted, controlFine, mfnInRang
 use Rattle.store.specs.Refusals.{gated, named, fine, bothFine}
 use Rattle.store.specs.Gate.{gateOf, knownIf, knownOf, knownBoth}
 use Rattle.store.specs.declared.answer.Answer.{Answer}
-use Rattle.store.specs.declared.answer.Answer.the-variants.{Done, BadLength, BadControl, BadDraft, NoMfn, NoSlot, BadEntry, Gone as GoneAnswer, BadRecord, Deleted, NotPending, NeverSettled, NoField, NoRoom, NotSound, NoRoomInList}
+use Rattle.store.specs.declared.answer.Answer.the-variants.{Done, BadLength, BadControl, BadDraft, NoMfn, NoSlot, BadEntry, Gone as GoneAnswer, BadRecord, Deleted, NotPending, NeverSettled, NoField, NoRoom, NotSound, FewerFields, NoRoomInList}
 use Rattle.store.specs.declared.gate.Gate.{Gate}
 use Rattle.store.specs.declared.gate.Gate.the-variants.{Open, Shut}
 use Rattle.store.specs.declared.gate.Known.{Known}
@@ -61,6 +61,7 @@ number-done NeverSettled e = absurd (omega arith)
 number-done NoField e = absurd (omega arith)
 number-done NoRoom e = absurd (omega arith)
 number-done NotSound e = absurd (omega arith)
+number-done FewerFields e = absurd (omega arith)
 number-done NoRoomInList e = absurd (omega arith)
 
 pub done-number : numberOf Done ≡ 0

@@ -89,3 +89,21 @@ append-above n (r ∷ rs) ss e = by (r .applies) (append-above (numberOf (r .ans
 -- of two tables, one after the other: the second one's where the first one's is done
 pub lowest-append : (rs ss : List Refusal) → ascends rs ≡ true → lowest (rs ++ ss) ≡ after (lowest rs) (lowest ss) (lowest rs)
 lowest-append rs ss e = append-above 0 rs ss e
+
+-- all numbers are below n
+unfoldable pub below : ℕ → List Refusal → Bool
+below n [] = true
+below n (r ∷ rs) = ltb (numberOf (r .answer)) n && below n rs
+
+-- and so is the answer's
+pub lowest-below : (n : ℕ) (rs : List Refusal) → 0 < n → below n rs ≡ true → numberOf (lowest rs) < n
+unfolding below
+lowest-below n [] z e = rw done-number z
+lowest-below n (r ∷ rs) z e = by (r .applies) (lowest-below n rs z (q .1))
+  where
+    q : (numberOf (r .answer) < n) × (below n rs ≡ true)
+    q = simp tests at e
+
+    by : (t : Bool) → numberOf (lowest rs) < n → numberOf (cond t (r .answer) (lowest rs)) < n
+    by true h = q .0
+    by false h = h

@@ -1,10 +1,10 @@
--- The answer numbers of document 01, and the lowest that applies.
+-- The answer numbers of document 01 and of the requests, and the lowest that applies.
 use Prim.Native.Nat.{ℕ}
 use mathlib.Core.Bool.{Bool, cond}
 use mathlib.Core.List.{List, [], _∷_}
 use lib.Dec.{eqb}
 use Rattle.store.specs.declared.answer.Answer.{Answer}
-use Rattle.store.specs.declared.answer.Answer.the-variants.{Done, BadLength, BadControl, BadDraft, NoMfn, NoSlot, BadEntry, Gone, BadRecord, Deleted, NotPending, NeverSettled, NoField, NoRoom, NotSound, NoRoomInList}
+use Rattle.store.specs.declared.answer.Answer.the-variants.{Done, BadLength, BadControl, BadDraft, NoMfn, NoSlot, BadEntry, Gone, BadRecord, Deleted, NotPending, NeverSettled, NoField, NoRoom, NotSound, FewerFields, NoRoomInList}
 
 -- the number of each answer
 unfoldable pub numberOf : Answer → ℕ
@@ -23,6 +23,7 @@ numberOf NeverSettled = 11
 numberOf NoField = 12
 numberOf NoRoom = 13
 numberOf NotSound = 14
+numberOf FewerFields = 15
 numberOf NoRoomInList = 17
 
 -- an answer, and whether what it is given for is so

@@ -19,6 +19,7 @@ pub enum Answer {
     NoField,
     NoRoom,
     NotSound,
+    FewerFields,
     NoRoomInList,
 }
 
@@ -42,6 +43,7 @@ pub fn number(a: Answer) -> u32
         Answer::NoField => 12,
         Answer::NoRoom => 13,
         Answer::NotSound => 14,
+        Answer::FewerFields => 15,
         Answer::NoRoomInList => 17,
     }
 }

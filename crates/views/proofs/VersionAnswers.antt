@@ -1,7 +1,7 @@
 -- Which version a call shows, by what its steps found, and that a version which was found can be read. Each law's premises are what is known
 -- at one place of the code, so that `search version-answers` finds them there; a callee's result is a variable with what the callee ensures
 -- of it.
-use Prim.Native.Nat.{ℕ, _+_, _-_, _≤_}
+use Prim.Native.Nat.{ℕ, _+_, _-_, _≤_, _<_}
 use native.Mathlib.Omega.{arith}
 use mathlib.Core.Path.{_≡_, refl, sym, ap, _∙_}
 use mathlib.Core.Logic.{⊎-elim}
@@ -24,7 +24,7 @@ use Rattle.store.specs.Reading.{placeFor, isSettled, isChanged, isNew, recordFr
 use Rattle.store.specs.Refusals.{gated, named, fine, bothFine}
 use Rattle.views.specs.Views.{onCurrent, onSettled, settledAddress}
 use Rattle.store.specs.Gate.{knownIf, knownOf, knownBoth, reachedOf, reachedBoth, reachedAnswer}
-use Rattle.views.specs.Versions.{lastly, versionIf, currentVersion, settledVersion, settledOf, Located, ReadableAt, Legible}
+use Rattle.views.specs.Versions.{versionIf, currentVersion, settledVersion, settledOf, Located, ReadableAt, Legible}
 use Rattle.store.specs.declared.answer.Answer.{Answer}
 use Rattle.store.specs.declared.answer.Answer.the-variants.{Done, Deleted, NeverSettled}
 use Rattle.store.specs.declared.gate.Reached.{Reached}
@@ -33,7 +33,7 @@ use Rattle.views.specs.declared.views.Version.{Version}
 use Rattle.views.specs.declared.views.Version.the-variants.{Begins, Refused as NoVersion}
 use Rattle.store.proofs.Gates.{Refusing, after-done, after-refused, after-cases, refused-is, done-is, gate-done, named-done, OpenFacts, open-from, known-facts, BothFacts, both-facts, Planned}
 use Rattle.store.proofs.Reaching.{UnreachedFacts, reach-refused, both-unreached, BothPlanned, reached-facts, reached-both-facts}
-use Rattle.store.proofs.Lowest.{above, lowest-append}
+use Rattle.store.proofs.Lowest.{above, lowest-append, below, lowest-below}
 use Rattle.store.specs.Store.{store}
 
 -- ---- refusals
@@ -214,18 +214,28 @@ module _ (mst : List ℕ) (v : Version) (h : Legible mst v) (at end : ℕ) (e : 
   pub version-within : (start len : ℕ) → start + len ≤ leaderOf (part mst at (end - at)) .mfrl → at + start + len ≤ length mst
   version-within start len i = omega (arith, version-end-in, version-before, readable-facts version-readable .record-in, part-short mst at (end - at))
 
--- ---- one more answer, behind the refusals of a version
+-- ---- the rows of a call, behind the refusals of a version
 
-module _ (mst xrf : List ℕ) (m : ℕ) (a : Answer) (applies : Bool) where
-  pub current-then : lowest (onCurrent (store mst xrf) m (refuse a applies ∷ []))
-      ≡ after (lowest (onCurrent (store mst xrf) m [])) (lastly a applies) (lowest (onCurrent (store mst xrf) m []))
+module _ (mst xrf : List ℕ) (m : ℕ) (rows : List Refusal) where
+  pub current-then : lowest (onCurrent (store mst xrf) m rows)
+      ≡ after (lowest (onCurrent (store mst xrf) m [])) (lowest rows) (lowest (onCurrent (store mst xrf) m []))
   unfolding above numberOf
-  current-then = lowest-append (onCurrent (store mst xrf) m []) (refuse a applies ∷ []) refl
+  current-then = lowest-append (onCurrent (store mst xrf) m []) rows refl
 
-  pub settled-then : lowest (onSettled (store mst xrf) m (refuse a applies ∷ []))
-      ≡ after (lowest (onSettled (store mst xrf) m [])) (lastly a applies) (lowest (onSettled (store mst xrf) m []))
+  pub settled-then : lowest (onSettled (store mst xrf) m rows)
+      ≡ after (lowest (onSettled (store mst xrf) m [])) (lowest rows) (lowest (onSettled (store mst xrf) m []))
   unfolding above numberOf
-  settled-then = lowest-append (onSettled (store mst xrf) m []) (refuse a applies ∷ []) refl
+  settled-then = lowest-append (onSettled (store mst xrf) m []) rows refl
+
+-- a version is refused by a number below 12
+module _ (mst xrf : List ℕ) (m : ℕ) where
+  pub current-low : numberOf (lowest (onCurrent (store mst xrf) m [])) < 12
+  unfolding below numberOf
+  current-low = lowest-below 12 (onCurrent (store mst xrf) m []) (omega arith) refl
+
+  pub settled-low : numberOf (lowest (onSettled (store mst xrf) m [])) < 12
+  unfolding below numberOf
+  settled-low = lowest-below 12 (onSettled (store mst xrf) m []) (omega arith) refl
 
 -- what is shown of a version that was found is what is made of the later answer, and a refusal is what is made of itself
 pub version-shows : {S : Type 0} (shown : Version → S) (made : Answer → S) (a later : Answer) (at end : ℕ)

@@ -24,7 +24,7 @@ use Rattle.walking.specs.declared.walker.Walked.the-variants.{Field as FieldHer
 use Rattle.record.proofs.FieldData.{fields-count}
 use Rattle.record.proofs.Facts.{readable-facts}
 use Rattle.walking.proofs.Walking.{field-in, walked-here, walked-is, walked-in}
-use Rattle.store.specs.Answer.{numberOf, lowest, after}
+use Rattle.store.specs.Answer.{numberOf, refuse, lowest, after}
 use Rattle.store.specs.Reading.{placeFor, recordAt, recordFrom, shownSettled, currentFields}
 use Rattle.views.specs.Views.{onCurrent, onSettled, settledAddress}
 use Rattle.views.specs.Fields.{fieldAnswer, settledFieldAnswer, handedOut, fieldOf, settledFieldOf}
@@ -100,14 +100,14 @@ module _ (mst xrf : List ℕ) (m i : ℕ) (v : Version) (r : ShownField) (s : r 
   unfolding currentVersion fieldOf fieldAnswer
   field-handed e =
       let p : Place = placeFor (store mst xrf) m in
-      version-handed (lowest (onCurrent (store mst xrf) m [])) _ (placeAddress p) e (current-then mst xrf m NoField (atEnd (recordAt mst p) i))
+      version-handed (lowest (onCurrent (store mst xrf) m [])) _ (placeAddress p) e (current-then mst xrf m (refuse NoField (atEnd (recordAt mst p) i) ∷ []))
 
   pub settled-field-handed : v ≡ settledVersion (store mst xrf) m → r ≡ settledFieldOf (store mst xrf) m i
   unfolding settledVersion settledFieldOf settledFieldAnswer
   settled-field-handed e =
       let at : ℕ = settledAddress mst (placeFor (store mst xrf) m) in
       rw (← settled-from mst (placeFor (store mst xrf) m))
-      (version-handed (lowest (onSettled (store mst xrf) m [])) _ at e (settled-then mst xrf m NoField (atEnd (recordFrom mst at) i)))
+      (version-handed (lowest (onSettled (store mst xrf) m [])) _ at e (settled-then mst xrf m (refuse NoField (atEnd (recordFrom mst at) i) ∷ [])))
 
 pub ruleset walk-answers =
     (refused-within, walk-refused, walk-ended, walk-found, walk-within, walk-sum, version-end-in, version-before, version-readable, current-legible, settled-legible, field-handed, settled-field-handed, arith)
@@ -150,7 +150,7 @@ module _ (mst xrf : List ℕ) (m i : ℕ) where
   pub handed-out : lowest (onCurrent (store mst xrf) m []) ≡ Done → HandsOut mst (currentFields mst (placeFor (store mst xrf) m)) i (fieldOf (store mst xrf) m i)
   unfolding fieldOf fieldAnswer
   handed-out e =
-      rw (current-then mst xrf m NoField (atEnd (recordAt mst (placeFor (store mst xrf) m)) i))
+      rw (current-then mst xrf m (refuse NoField (atEnd (recordAt mst (placeFor (store mst xrf) m)) i) ∷ []))
       (hands-out mst (placeAddress (placeFor (store mst xrf) m)) (endOf mst) i (current-readable mst xrf m e) (lowest (onCurrent (store mst xrf) m [])) e)
 
   -- and those of the settled version the fields of the record that the settled view reads
@@ -158,5 +158,5 @@ module _ (mst xrf : List ℕ) (m i : ℕ) where
       → HandsOut mst (fieldsOf (shownSettled mst (placeFor (store mst xrf) m))) i (settledFieldOf (store mst xrf) m i)
   unfolding settledFieldOf settledFieldAnswer
   settled-handed-out e =
-      rw (settled-then mst xrf m NoField (atEnd (shownSettled mst (placeFor (store mst xrf) m)) i), ← settled-from mst (placeFor (store mst xrf) m))
+      rw (settled-then mst xrf m (refuse NoField (atEnd (shownSettled mst (placeFor (store mst xrf) m)) i) ∷ []), ← settled-from mst (placeFor (store mst xrf) m))
       (hands-out mst (settledAddress mst (placeFor (store mst xrf) m)) (endOf mst) i (settled-readable mst xrf m e) (lowest (onSettled (store mst xrf) m [])) e)

@@ -15,14 +15,14 @@ use Rattle.record.specs.Fields.{findOf}
 use Rattle.record.specs.Record.{Readable}
 use Rattle.walking.specs.Walker.{walkedAt}
 use Rattle.record.specs.declared.fields.Found.{Found}
-use Rattle.record.specs.declared.fields.Found.the-variants.{Span, Missing}
+use Rattle.record.specs.declared.fields.Found.the-variants.{Span, Fewer, Missing}
 use Rattle.walking.specs.declared.walker.Walked.{Walked}
 use Rattle.walking.specs.declared.walker.Walked.the-variants.{Field as FieldHere, End}
 use Rattle.store.specs.Store.{Store}
 use Rattle.store.specs.Answer.{refuse, lowest, after}
 use Rattle.store.specs.Reading.{placeFor, isSettled, isChanged, isNew, backAddress}
 use Rattle.store.specs.declared.answer.Answer.{Answer}
-use Rattle.store.specs.declared.answer.Answer.the-variants.{Done, Deleted, NeverSettled, NoField}
+use Rattle.store.specs.declared.answer.Answer.the-variants.{Done, Deleted, NeverSettled, NoField, FewerFields}
 use Rattle.views.specs.Views.{onCurrent, onSettled, settledAddress}
 use Rattle.views.specs.declared.views.Shown.{Shown}
 use Rattle.views.specs.declared.views.Version.{Version}
@@ -75,20 +75,21 @@ abbrev pub lastly : Answer → Bool → Answer
 lastly a applies = cond applies a Done
 
 -- a refused view is empty
-abbrev pub refusedView : Answer → Shown
-refusedView a = record { answer = a; start = 0; len = 0 }
+abbrev pub refusedView : Answer → ℕ → Shown
+refusedView a n = record { answer = a; start = 0; len = 0; occurrences = n }
 
 abbrev pub refusedField : Answer → ShownField
 refusedField a = record { answer = a; tag = record { 0 = 0 }; start = 0; len = 0 }
 
 -- what a search in the record at an address shows
 abbrev pub shownFound : ℕ → Found → Shown
-shownFound at (Span start len) = record { answer = Done; start = at + start; len = len }
-shownFound at Missing = refusedView NoField
+shownFound at (Span start len) = record { answer = Done; start = at + start; len = len; occurrences = 0 }
+shownFound at (Fewer n) = refusedView FewerFields n
+shownFound at Missing = refusedView NoField 0
 
 unfoldable pub shownIn : List ℕ → ℕ → ℕ → Version → Shown
 shownIn mst tag occ (Begins at end) = shownFound at (findOf (part mst at (end - at)) tag occ)
-shownIn mst tag occ (Refused a) = refusedView a
+shownIn mst tag occ (Refused a) = refusedView a 0
 
 -- what stands at a directory index of the record at an address
 abbrev pub shownWalked : ℕ → Walked → ShownField

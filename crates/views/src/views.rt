@@ -16,11 +16,12 @@ ghost use Rattle.views.specs.Views.{viewAnswer, settledViewAnswer, viewO
 ghost use Rattle.views.specs.Versions.{currentVersion, settledVersion, versionAnswer, refusedView, Located, settledOf, Legible, shownIn};
 ghost use Rattle.store.specs.Store.{store};
 
-// The answer of a view, and where in the MST the field lies.
+// The answer of a view, where in the MST the field lies, and with answer 15 how often the tag occurs.
 pub struct Shown {
     pub answer: Answer,
     pub start: usize,
     pub len: usize,
+    pub occurrences: u32,
 }
 
 // The address of a version that is right, and the store's end, or the refusal.
@@ -99,13 +100,14 @@ pub fn settled_version(mst: &[u8], xrf: &[u8], m: Mfn) -> Version
     settled_of(end, place, leader)
 }
 
-fn refused_view(answer: Answer) -> Shown
-    ensures { λ r. ⌜ r ≡ refusedView answer ⌝ }
+fn refused_view(answer: Answer, occurrences: u32) -> Shown
+    ensures { λ r. ⌜ r ≡ refusedView answer occurrences ⌝ }
 {
     Shown {
         answer,
         start: 0,
         len: 0,
+        occurrences,
     }
 }
 
@@ -116,16 +118,18 @@ fn show_field(mst: &[u8], v: Version, tag: Tag, occurrence: u32) -> Shown
     ensures within { λ r. ⌜ r .start + r .len ≤ length (now (mst .entry)) ⌝ }
 {
     let Version::Begins { at, end } = v else {
-        return refused_view(version_answer(v));
+        return refused_view(version_answer(v), 0);
     };
     let f = record::fields::find_field(&mst[at..end], tag, occurrence);
-    let Found::Span { start, len } = f else {
-        return refused_view(Answer::NoField);
-    };
-    Shown {
-        answer: Answer::Done,
-        start: at + start,
-        len,
+    match f {
+        Found::Span { start, len } => Shown {
+            answer: Answer::Done,
+            start: at + start,
+            len,
+            occurrences: 0,
+        },
+        Found::Fewer { occurrences } => refused_view(Answer::FewerFields, occurrences),
+        Found::Missing => refused_view(Answer::NoField, 0),
     }
 }
 
@@ -147,7 +151,8 @@ pub fn view_settled(mst: &[u8], xrf: &[u8], m: Mfn, tag: Tag, occurrence: u32) -
     show_field(mst, v, tag, occurrence)
 }
 
-// The field that a view shows, as a part of the MST, empty where it is refused; the answer's number goes to `answer`.
+// The field that a view shows, as a part of the MST, empty where it is refused; the answer's number goes to `answer`, and the number of occurrences
+// to `occurrences`.
 pub fn view_field<'a>(
     mst: &'a [u8],
     xrf: &[u8],
@@ -155,13 +160,16 @@ pub fn view_field<'a>(
     tag: Tag,
     occurrence: u32,
     answer: &mut u32,
+    occurrences: &mut u32,
 ) -> &'a [u8]
     ensures number { λ r. ⌜ now (answer .exit) ≡ numberOf (viewAnswer (store (now (mst .entry)) (now (xrf .entry))) (m .0) (tag .0) occurrence) ⌝ }
+    ensures counted { λ r. ⌜ now (occurrences .exit) ≡ viewOf (store (now (mst .entry)) (now (xrf .entry))) (m .0) (tag .0) occurrence .occurrences ⌝ }
     ensures shown { λ r. ⌜ now r ≡ shownBytes (now (mst .entry)) (viewOf (store (now (mst .entry)) (now (xrf .entry))) (m .0) (tag .0) occurrence) ⌝ }
 {
     let shown = view(mst, xrf, m, tag, occurrence);
     let a = shown.answer;
     *answer = store::answer::number(a);
+    *occurrences = shown.occurrences;
     let start = shown.start;
     let end = start + shown.len;
     &mst[start..end]
@@ -175,13 +183,16 @@ pub fn view_settled_field<'a>(
     tag: Tag,
     occurrence: u32,
     answer: &mut u32,
+    occurrences: &mut u32,
 ) -> &'a [u8]
     ensures number { λ r. ⌜ now (answer .exit) ≡ numberOf (settledViewAnswer (store (now (mst .entry)) (now (xrf .entry))) (m .0) (tag .0) occurrence) ⌝ }
+    ensures counted { λ r. ⌜ now (occurrences .exit) ≡ settledViewOf (store (now (mst .entry)) (now (xrf .entry))) (m .0) (tag .0) occurrence .occurrences ⌝ }
     ensures shown { λ r. ⌜ now r ≡ shownBytes (now (mst .entry)) (settledViewOf (store (now (mst .entry)) (now (xrf .entry))) (m .0) (tag .0) occurrence) ⌝ }
 {
     let shown = view_settled(mst, xrf, m, tag, occurrence);
     let a = shown.answer;
     *answer = store::answer::number(a);
+    *occurrences = shown.occurrences;
     let start = shown.start;
     let end = start + shown.len;
     &mst[start..end]

@@ -13,7 +13,6 @@ use Rattle.layout.specs.Sizes.{capacityOf}
 use Rattle.files.specs.Control.{nextOf, endOf}
 use Rattle.files.specs.CrossReference.{xrfBlock, headRight, slotFree}
 use Rattle.layout.specs.declared.sizes.Mfn.{Mfn}
-use Rattle.layout.specs.declared.entry.Mark.{Mark}
 use Rattle.layout.specs.declared.entry.Mark.the-variants.{Settled, Changed, New}
 use Rattle.layout.specs.declared.entry.Place.{Place}
 use Rattle.layout.specs.declared.leader.Leader.{Leader}
@@ -27,7 +26,7 @@ use Rattle.writing.specs.Refusals.{exceeds, createAnswer, settleAnswer, 
 use Rattle.store.specs.Gate.{gateOf, gateAnswer, reachedIf, reachedOf, reachedBoth}
 use Rattle.writing.specs.Plans.{settlePlan, revertPlan, slotAnswer, SlotAsked, createPlan}
 use Rattle.store.specs.declared.answer.Answer.{Answer}
-use Rattle.store.specs.declared.answer.Answer.the-variants.{Done, BadLength, BadControl, BadDraft, NoMfn, NoSlot, BadEntry, Gone as GoneAnswer, BadRecord, Deleted, NotPending, NeverSettled, NoField, NoRoom, NotSound, NoRoomInList}
+use Rattle.store.specs.declared.answer.Answer.the-variants.{Done, BadLength, BadControl, BadDraft, NoMfn, NoSlot, BadEntry, Gone as GoneAnswer, BadRecord, Deleted, NotPending, NeverSettled, NoField, NoRoom, NotSound, FewerFields, NoRoomInList}
 use Rattle.writing.specs.declared.create.Creating.the-variants.{Write, Unwritten}
 use Rattle.store.specs.declared.gate.Gate.{Gate}
 use Rattle.store.specs.declared.gate.Gate.the-variants.{Open, Shut}
@@ -41,9 +40,9 @@ use Rattle.store.specs.Store.{store}
 
 -- ---- variants that are left in an `else`
 
-pub not-done : (a : Answer) → OneOf (1 ∷ 2 ∷ 3 ∷ 4 ∷ 5 ∷ 6 ∷ 7 ∷ 8 ∷ 9 ∷ 10 ∷ 11 ∷ 12 ∷ 13 ∷ 14 ∷ 15 ∷ []) (tagOf answer.the-type a) → Refusing a
+pub not-done : (a : Answer) → OneOf (1 ∷ 2 ∷ 3 ∷ 4 ∷ 5 ∷ 6 ∷ 7 ∷ 8 ∷ 9 ∷ 10 ∷ 11 ∷ 12 ∷ 13 ∷ 14 ∷ 15 ∷ 16 ∷ []) (tagOf answer.the-type a) → Refusing a
 unfolding numberOf
-not-done Done v = absurd (miss (1 ∷ 2 ∷ 3 ∷ 4 ∷ 5 ∷ 6 ∷ 7 ∷ 8 ∷ 9 ∷ 10 ∷ 11 ∷ 12 ∷ 13 ∷ 14 ∷ 15 ∷ []) 0 tt v)
+not-done Done v = absurd (miss (1 ∷ 2 ∷ 3 ∷ 4 ∷ 5 ∷ 6 ∷ 7 ∷ 8 ∷ 9 ∷ 10 ∷ 11 ∷ 12 ∷ 13 ∷ 14 ∷ 15 ∷ 16 ∷ []) 0 tt v)
 not-done BadLength v = λ z. omega arith
 not-done BadControl v = λ z. omega arith
 not-done BadDraft v = λ z. omega arith
@@ -58,6 +57,7 @@ not-done NeverSettled v = λ z. omega arith
 not-done NoField v = λ z. omega arith
 not-done NoRoom v = λ z. omega arith
 not-done NotSound v = λ z. omega arith
+not-done FewerFields v = λ z. omega arith
 not-done NoRoomInList v = λ z. omega arith
 
 -- the gate's refusal is the answer of a call, whatever follows
@@ -131,7 +131,7 @@ module _ (mst xrf tags lens bytes : List ℕ) (g : Gate) (p : g ≡ gateOf (stor
         unfolding createAnswer slotAnswer
         through = let o = opened mst xrf g p next end q in rw (o .lengths, o .control, ← e, h, own) (sym s)
 
-        pub create-no-slot : OneOf (1 ∷ 2 ∷ 3 ∷ 4 ∷ 5 ∷ 6 ∷ 7 ∷ 8 ∷ 9 ∷ 10 ∷ 11 ∷ 12 ∷ 13 ∷ 14 ∷ 15 ∷ []) (tagOf answer.the-type a)
+        pub create-no-slot : OneOf (1 ∷ 2 ∷ 3 ∷ 4 ∷ 5 ∷ 6 ∷ 7 ∷ 8 ∷ 9 ∷ 10 ∷ 11 ∷ 12 ∷ 13 ∷ 14 ∷ 15 ∷ 16 ∷ []) (tagOf answer.the-type a)
             → Unwritten a ≡ createPlan (store mst xrf) (draft tags lens bytes)
         unfolding createPlan
         create-no-slot v = refused-is (createAnswer (store mst xrf) (draft tags lens bytes)) _ Unwritten a through (not-done a v)

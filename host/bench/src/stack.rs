@@ -81,14 +81,14 @@ fn arguments(kind: Kind) -> Arguments {
 
 fn reading() {
     let a = arguments(Kind::Changed);
-    let (mut start, mut len) = (0, 0);
+    let (mut start, mut len, mut count) = (0, 0, 0);
     // SAFETY: the card's buffers are leaked and used by no one else.
     unsafe {
         report(
             "view",
             &mut [&mut || {
                 black_box(raw::isis_view(
-                    a.0, a.1, a.2, a.3, 7, 40, 1, &mut start, &mut len,
+                    a.0, a.1, a.2, a.3, 7, 40, 1, &mut start, &mut len, &mut count,
                 ));
             }],
         );
@@ -96,7 +96,7 @@ fn reading() {
             "view settled",
             &mut [&mut || {
                 black_box(raw::isis_view_settled(
-                    a.0, a.1, a.2, a.3, 7, 40, 1, &mut start, &mut len,
+                    a.0, a.1, a.2, a.3, 7, 40, 1, &mut start, &mut len, &mut count,
                 ));
             }],
         );

@@ -23,7 +23,7 @@ static uint8_t mst[64 * ISIS_BLOCK], xrf[ISIS_BLOCK];
 static uint16_t tags[FIELDS], lens[FIELDS];
 static uint8_t data[FIELDS * FIELD];
 static isis_size start, len, end, count, starts[FIELDS], field_lens[FIELDS];
-static uint32_t mfn, answer, mark, deleted;
+static uint32_t mfn, answer, occurrences, mark, deleted;
 static uint16_t tag, field_tags[FIELDS];
 static uint32_t mfns[RECORDS], answers[RECORDS];
 static uint64_t postings[POSTINGS];
@@ -37,6 +37,7 @@ static struct {
 static volatile uint32_t *const systick = (volatile uint32_t *)0xE000E010; /* control, reload, current */
 
 #define CARD mst, sizeof mst, xrf, sizeof xrf
+#define SHOWN &start, &len, &occurrences
 #define LISTS field_tags, FIELDS, starts, FIELDS, field_lens, FIELDS, &count
 #define DRAFT tags, FIELDS, lens, FIELDS, data, sizeof data
 #define SLICE(i) slices[i].at, slices[i].len
@@ -54,9 +55,9 @@ __attribute__((naked)) static void a_thousand_more(void)
     __asm__(".rept 1000\n\tnop\n\t.endr\n\tbx lr");
 }
 static void format(void) { answer = isis_format(CARD); }
-static void view_first(void) { answer = isis_view(CARD, 7, 1, 1, &start, &len); }
-static void view_last(void) { answer = isis_view(CARD, 7, FIELDS, 1, &start, &len); }
-static void view_settled_last(void) { answer = isis_view_settled(CARD, 7, FIELDS, 1, &start, &len); }
+static void view_first(void) { answer = isis_view(CARD, 7, 1, 1, SHOWN); }
+static void view_last(void) { answer = isis_view(CARD, 7, FIELDS, 1, SHOWN); }
+static void view_settled_last(void) { answer = isis_view_settled(CARD, 7, FIELDS, 1, SHOWN); }
 static void field_last(void) { answer = isis_field(CARD, 7, FIELDS - 1, &tag, &start, &len); }
 static void field_settled_last(void) { answer = isis_field_settled(CARD, 7, FIELDS - 1, &tag, &start, &len); }
 static void fields(void) { answer = isis_fields(CARD, 7, LISTS); }

@@ -48,7 +48,7 @@ static struct {
 } call;
 static struct {
     isis_size start, len, end, count, starts[LENT + 1], lens[LENT + 1];
-    uint32_t mfn, next, mark, deleted;
+    uint32_t mfn, occurrences, next, mark, deleted;
     uint16_t tag, tags[LENT + 1];
 } out;
 static uint32_t answers[ANSWERS + 1];
@@ -196,9 +196,9 @@ __attribute__((noinline)) static uint32_t answer(void)
     case 0:
         return isis_format(CARD);
     case 1:
-        return isis_view(CARD, call.mfn, call.tag, call.occurrence, &out.start, &out.len);
+        return isis_view(CARD, call.mfn, call.tag, call.occurrence, &out.start, &out.len, &out.occurrences);
     case 2:
-        return isis_view_settled(CARD, call.mfn, call.tag, call.occurrence, &out.start, &out.len);
+        return isis_view_settled(CARD, call.mfn, call.tag, call.occurrence, &out.start, &out.len, &out.occurrences);
     case 3:
         return isis_create(CARD, DRAFT, &out.mfn);
     case 4:
@@ -291,6 +291,7 @@ static void outputs_are_wanted(void)
     is_wanted("the tag", out.tag);
     is_wanted("the start", out.start);
     is_wanted("the length", out.len);
+    is_wanted("the number of occurrences", out.occurrences);
     is_wanted("the next MFN", out.next);
     is_wanted("the end", out.end);
     is_wanted("the mark", out.mark);

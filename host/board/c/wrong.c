@@ -1,14 +1,18 @@
 /*
  * wrong.c: a library that is wrong in one way, so that a test sees the runner say so.
  *
- * The linker puts these in the place of isis_check, isis_create, isis_lookup and
- * isis_postings (--wrap). Each makes the call and then does what WRONG names.
+ * The linker puts these in the place of isis_check, isis_create, isis_view, isis_field,
+ * isis_lookup and isis_postings (--wrap). Each makes the call and then does what WRONG names.
  */
 #include "isis.h"
 
 uint32_t __real_isis_check(const uint8_t *, isis_size, const uint8_t *, isis_size);
 uint32_t __real_isis_create(uint8_t *, isis_size, uint8_t *, isis_size, const uint16_t *, isis_size,
                             const uint16_t *, isis_size, const uint8_t *, isis_size, uint32_t *);
+uint32_t __real_isis_view(const uint8_t *, isis_size, const uint8_t *, isis_size, uint32_t, uint16_t, uint32_t,
+                          isis_size *, isis_size *, uint32_t *);
+uint32_t __real_isis_field(const uint8_t *, isis_size, const uint8_t *, isis_size, uint32_t, isis_size, uint16_t *,
+                           isis_size *, isis_size *);
 uint32_t __real_isis_lookup(const uint8_t *, isis_size, const uint8_t *, isis_size, const uint8_t *, isis_size,
                             const uint8_t *, isis_size, const uint8_t *, isis_size, const uint8_t *, isis_size,
                             int32_t *, int32_t *);
@@ -27,6 +31,12 @@ enum way {
     ANSWER_ONE_MORE,
     LEAVE_THE_MFN,
     READ_AN_ODD_WORD,
+    NONE_FOR_FEWER,
+    ONE_TOO_FEW,
+    ONE_TOO_MANY,
+    FEWER_FOR_OCCURRENCE_0,
+    LEAVE_THE_OCCURRENCES,
+    FEWER_BY_INDEX,
     READ_BEHIND_L01,
     READ_BEFORE_CNT,
     WRITE_BEHIND_N02,
@@ -90,6 +100,32 @@ uint32_t __wrap_isis_create(uint8_t *mst, isis_size mst_len, uint8_t *xrf, isis_
     if (WRONG == READ_BEHIND_DATA)
         read_at(data + data_len);
     return answer;
+}
+
+uint32_t __wrap_isis_view(const uint8_t *mst, isis_size mst_len, const uint8_t *xrf, isis_size xrf_len, uint32_t mfn,
+                          uint16_t tag, uint32_t occurrence, isis_size *start, isis_size *len, uint32_t *occurrences)
+{
+    uint32_t left = *occurrences;
+    uint32_t asked = WRONG == FEWER_FOR_OCCURRENCE_0 && occurrence == 0 ? UINT32_MAX : occurrence;
+    uint32_t answer = __real_isis_view(mst, mst_len, xrf, xrf_len, mfn, tag, asked, start, len, occurrences);
+    int fewer = answer == ISIS_FEWER_FIELDS;
+
+    switch ((enum way)WRONG) {
+    case NONE_FOR_FEWER: answer = fewer ? ISIS_NO_FIELD : answer; break;
+    case ONE_TOO_FEW: *occurrences -= fewer; break;
+    case ONE_TOO_MANY: *occurrences += fewer; break;
+    case LEAVE_THE_OCCURRENCES: *occurrences = fewer ? *occurrences : left; break;
+    default: break;
+    }
+    return answer;
+}
+
+uint32_t __wrap_isis_field(const uint8_t *mst, isis_size mst_len, const uint8_t *xrf, isis_size xrf_len, uint32_t mfn,
+                           isis_size index, uint16_t *tag, isis_size *start, isis_size *len)
+{
+    uint32_t answer = __real_isis_field(mst, mst_len, xrf, xrf_len, mfn, index, tag, start, len);
+
+    return WRONG == FEWER_BY_INDEX && answer == ISIS_NO_FIELD ? ISIS_FEWER_FIELDS : answer;
 }
 
 uint32_t __wrap_isis_lookup(const uint8_t *cnt, isis_size cnt_len, const uint8_t *n01, isis_size n01_len,

@@ -96,6 +96,7 @@ struct Outputs {
     tag: u64,
     start: u64,
     len: u64,
+    occurrences: u64,
     next: u64,
     end: u64,
     mark: u64,
@@ -117,6 +118,7 @@ impl Outputs {
             tag,
             start: rubbish,
             len: rubbish,
+            occurrences: word,
             next: word,
             end: rubbish,
             mark: word,
@@ -131,7 +133,10 @@ impl Outputs {
         let mut of = Outputs::none(given.number);
         match call {
             Call::Create(_) => of.mfn = u64::from(given.mfn),
-            Call::View { .. } | Call::ViewSettled { .. } => of.part(given),
+            Call::View { .. } | Call::ViewSettled { .. } => {
+                of.occurrences = u64::from(given.occurrences);
+                of.part(given);
+            }
             Call::Field { .. } | Call::FieldSettled { .. } => {
                 of.tag = u64::from(given.tag);
                 of.part(given);
@@ -298,6 +303,7 @@ impl List {
             of.tag,
             of.start,
             of.len,
+            of.occurrences,
             of.next,
             of.end,
             of.mark,

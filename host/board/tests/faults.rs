@@ -26,6 +26,25 @@ fn list() -> Recorder {
     recorder
 }
 
+/// A record with tag 70 twice, from step 2 on: its first occurrence, the third, occurrence 0 of
+/// it, and an index that it does not have.
+fn views() -> Recorder {
+    let mut recorder = Recorder::default();
+    let (mut mst, mut xrf) = (vec![255; 2 * 512], vec![255; 512]);
+    let draft = OwnedDraft::of(&[(70, b"Blake"), (70, b"Byron")]);
+    for call in [
+        Call::Format,
+        Call::Create(draft),
+        Call::view(1, 70, 1),
+        Call::view(1, 70, 3),
+        Call::view(1, 70, 0),
+        Call::Field { mfn: 1, index: 2 },
+    ] {
+        recorder.run(&mut mst, &mut xrf, &call, Side::Back);
+    }
+    recorder
+}
+
 /// A term that an index holds and one that it does not, in turn; each slice stands once at
 /// the last byte, and CNT stands at the first from step 1 on.
 fn searches() -> Recorder {
@@ -60,7 +79,8 @@ fn reads() -> Recorder {
 fn caught(core: &Core, way: &str, list: &Recorder) -> String {
     let flags = [
         &format!("-DWRONG={way}"),
-        "-Wl,--wrap=isis_check,--wrap=isis_create,--wrap=isis_lookup,--wrap=isis_postings",
+        "-Wl,--wrap=isis_check,--wrap=isis_create,--wrap=isis_view,--wrap=isis_field",
+        "-Wl,--wrap=isis_lookup,--wrap=isis_postings",
     ];
     let name = format!("wrong-{way}");
     run_with(core, &name, list, &["host/board/c/wrong.c"], &flags).expect_err("nothing was noticed")
@@ -127,6 +147,32 @@ fn a_wrong_byte_answer_or_output_is_said() {
         "LEAVE_THE_MFN",
         "the MFN is 4008636142, wanted 1, in step 1\n",
     );
+}
+
+#[test]
+fn a_wrong_kind_of_missing_is_said() {
+    for (way, words) in [
+        ("NONE_FOR_FEWER", "the answer is 12, wanted 15, in step 3\n"),
+        (
+            "ONE_TOO_FEW",
+            "the number of occurrences is 1, wanted 2, in step 3\n",
+        ),
+        (
+            "ONE_TOO_MANY",
+            "the number of occurrences is 3, wanted 2, in step 3\n",
+        ),
+        (
+            "FEWER_FOR_OCCURRENCE_0",
+            "the answer is 15, wanted 12, in step 4\n",
+        ),
+        (
+            "LEAVE_THE_OCCURRENCES",
+            "the number of occurrences is 4008636142, wanted 0, in step 2\n",
+        ),
+        ("FEWER_BY_INDEX", "the answer is 15, wanted 12, in step 5\n"),
+    ] {
+        assert_eq!(caught(&M0, way, &views()), words);
+    }
 }
 
 #[test]

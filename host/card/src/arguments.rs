@@ -1,6 +1,8 @@
 //! The words of the command line, each read strictly: what is not understood is
 //! said in one sentence.
 
+use crate::field::Asked;
+use crate::fields;
 use crate::search::Wanted;
 use crate::trouble::Trouble;
 use std::ffi::{OsStr, OsString};
@@ -179,12 +181,36 @@ impl Arguments {
         })
     }
 
+    /// Whether no word is left.
+    fn is_empty(&self) -> bool {
+        self.words.len() + self.plain.len() == 0
+    }
+
     /// An MFN, if there is another word.
     pub fn mfn_if_any(&mut self) -> Result<Option<u32>, Trouble> {
-        match self.words.len() + self.plain.len() {
-            0 => Ok(None),
-            _ => self.mfn().map(Some),
+        if self.is_empty() {
+            return Ok(None);
         }
+        self.mfn().map(Some)
+    }
+
+    /// A field, if there is another word: its tag, and its occurrence, 1 where none is named.
+    pub fn field_if_any(&mut self) -> Result<Option<Asked>, Trouble> {
+        if self.is_empty() {
+            return Ok(None);
+        }
+        let tag = fields::tag(&self.wanted("the tag")?)?;
+        if self.is_empty() {
+            return Ok(Some(Asked { tag, occurrence: 1 }));
+        }
+        let word = self.wanted("the occurrence")?;
+        let occurrence = number(&word).ok_or_else(|| {
+            let word = quoted(&word);
+            self.usage(&format!(
+                "{word} is no occurrence: a whole number is wanted"
+            ))
+        })?;
+        Ok(Some(Asked { tag, occurrence }))
     }
 
     /// A number of blocks.

@@ -94,7 +94,7 @@ impl Given {
 }
 
 /// A tag from its digits.
-fn tag(word: &OsStr) -> Result<u16, Trouble> {
+pub fn tag(word: &OsStr) -> Result<u16, Trouble> {
     let tag = number(word).filter(|tag| (1..=32_767).contains(tag));
     tag.map(|tag| tag as u16).ok_or_else(|| {
         let tag = quoted(word);

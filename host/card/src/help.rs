@@ -90,11 +90,20 @@ pub const VERBS: [Verb; 15] = [
         name: "show",
         run: show::show,
         on: CARD,
-        forms: &[("[MFN]", "show a record, or all")],
+        forms: &[
+            ("[MFN]", "show a record, or all"),
+            (
+                "MFN TAG [OCC]",
+                "show one of its fields, the first of a tag or OCC",
+            ),
+        ],
         more: "A record is shown with its state and its fields; under a pending change, its settled version\n\
                too. What is no printable text is shown as \\xNN for each byte, and a backslash as two. Where\n\
-               all are shown, the status is that of the first record that is not well formed.\n",
-        refusals: &[1, 2, 4, 6, 7, 8, 9],
+               all are shown, the status is that of the first record that is not well formed.\n\
+               One field is shown with which of how many it is, as in '70  1 of 2: Blake'. Of a field that is\n\
+               not there it is told whether the record has no field of this tag (12), or has some, and how\n\
+               many, but no OCC of them (15); occurrences count from 1.\n",
+        refusals: &[1, 2, 4, 6, 7, 8, 9, 12, 15],
     },
     Verb {
         name: "create",
@@ -302,7 +311,7 @@ impl Verb {
         text += "Exit status\n   0  done\n";
         let all = Refusal::ALL.iter();
         for refusal in all.filter(|refusal| self.refusals.contains(&refusal.number())) {
-            text += &format!("  {:2}  refused: {refusal}\n", refusal.number());
+            text += &format!("  {:2}  refused: {}\n", refusal.number(), refusal.words());
         }
         text + &statuses()
     }

@@ -10,6 +10,7 @@ mod check;
 mod disk;
 mod draw;
 mod faults;
+mod field;
 mod fields;
 mod files;
 mod help;

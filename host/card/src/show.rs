@@ -1,9 +1,10 @@
 //! `card show`: records with all their fields, deleted and pending ones marked, and
 //! the settled version beside a pending change. Every field is handed out by the
-//! library.
+//! library. A single field is shown by [`field`](crate::field).
 
 use crate::arguments::Arguments;
 use crate::check::{About, opened, refused};
+use crate::field::show_field;
 use crate::files::Files;
 use crate::printable::printable;
 use crate::say::Lines;
@@ -14,12 +15,14 @@ use isis::{Answer, Fields, Mark, Refusal, State};
 pub fn show(mut arguments: Arguments) -> Result<(), Trouble> {
     let paths = arguments.files()?;
     let only = arguments.mfn_if_any()?;
+    let asked = arguments.field_if_any()?;
     arguments.none_left()?;
     let files = Files::read(paths)?;
     let mut out = Lines::new();
-    let shown = match only {
-        Some(mfn) => show_one(&files, mfn, &mut out),
-        None => show_all(&files, &mut out),
+    let shown = match (only, asked) {
+        (Some(mfn), Some(asked)) => show_field(&files, mfn, asked, &mut out),
+        (Some(mfn), None) => show_one(&files, mfn, &mut out),
+        (None, _) => show_all(&files, &mut out),
     };
     out.end_after(shown)
 }
@@ -87,7 +90,7 @@ fn record(files: &Files, mfn: u32, state: State, out: &mut Lines) -> Answer<()> 
 }
 
 /// A record's state in words.
-fn words(state: State) -> String {
+pub fn words(state: State) -> String {
     let deleted = if state.deleted { "deleted" } else { "live" };
     format!("{deleted}, {}", state.mark.words())
 }

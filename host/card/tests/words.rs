@@ -55,6 +55,12 @@ fn every_command_has_help() {
         ("create", "TAG=@FILE"),
         ("draw", "--replace"),
         ("format", "--erase"),
+        ("show", "MFN TAG [OCC]"),
+        ("show", "12  refused: there is no such field\n"),
+        (
+            "show",
+            "15  refused: the tag occurs fewer times than asked for\n",
+        ),
         ("lookup", "KITE: block 3, word 12"),
         ("lookup", "NAME.CNT"),
         ("check-index", "small letters"),

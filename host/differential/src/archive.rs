@@ -9,8 +9,8 @@ use model::call::{Call, Outcome, OwnedDraft, Shown};
 use std::ops::Range;
 
 /// What a call gave: its number; the MFN of a create or of the next one, and the end; the
-/// tag of a field by its index, and the part that is shown; the mark and the deletion of a
-/// record; the number of its fields, and the lists that were lent for them, whole; the list
+/// tag of a field by its index, the part that is shown, and how often a tag occurs; the mark and
+/// the deletion of a record; the number of its fields, and the lists that were lent for them, whole; the list
 /// that was lent for answers, whole.
 #[derive(Clone, Debug, PartialEq, Eq, Default)]
 #[allow(missing_docs)]
@@ -20,6 +20,7 @@ pub struct Given {
     pub end: usize,
     pub tag: u16,
     pub part: Range<usize>,
+    pub occurrences: u32,
     pub mark: u32,
     pub deleted: u32,
     pub count: usize,
@@ -36,6 +37,7 @@ impl Given {
             end: outcome.end,
             tag: outcome.tag,
             part: shown.part,
+            occurrences: outcome.occurrences,
             mark: outcome.mark,
             deleted: outcome.deleted,
             count: outcome.fields.len(),
@@ -167,24 +169,25 @@ impl Archive {
 
     unsafe fn view(&mut self, b: Buffers, call: &Call, side: Side) -> Given {
         let (start, len) = self.lend_part(side);
-        // SAFETY: as in `run`.
-        let number = unsafe {
-            match *call {
-                Call::View {
-                    mfn,
-                    tag,
-                    occurrence,
-                } => raw::isis_view(b.0, b.1, b.2, b.3, mfn, tag, occurrence, start, len),
-                Call::ViewSettled {
-                    mfn,
-                    tag,
-                    occurrence,
-                } => raw::isis_view_settled(b.0, b.1, b.2, b.3, mfn, tag, occurrence, start, len),
-                _ => unreachable!("only views come here"),
-            }
+        let count = self.words[0].lend(1, side);
+        let (view, mfn, tag, occurrence) = match *call {
+            Call::View {
+                mfn,
+                tag,
+                occurrence,
+            } => (raw::isis_view as raw::View, mfn, tag, occurrence),
+            Call::ViewSettled {
+                mfn,
+                tag,
+                occurrence,
+            } => (raw::isis_view_settled as raw::View, mfn, tag, occurrence),
+            _ => unreachable!("only views come here"),
         };
+        // SAFETY: as in `run`.
+        let number = unsafe { view(b.0, b.1, b.2, b.3, mfn, tag, occurrence, start, len, count) };
         Given {
             part: self.part(side),
+            occurrences: self.words[0].one(side),
             ..plain(number)
         }
     }

@@ -1,11 +1,11 @@
 //! Damaged cards: made by a list from format, then changed in one number at a time, with
 //! the numbers that are most likely to be believed: entries, leaders, directories.
 
-use crate::families::{Family, rubbish};
+use crate::families::{Family, any_call, rubbish};
 use crate::trial::{Run, Step};
 use model::call::Call;
 use model::layout::{BLOCK, Control, Entry, PER_BLOCK, Place, lengths_permitted, slot_at};
-use model::lists::{self, Taste};
+use model::lists::Taste;
 use model::random::Random;
 
 /// Cards made by a list from format and then damaged again and again; most damage is
@@ -47,7 +47,7 @@ impl Family for Damaged {
             format_in: if done > self.building { 60 } else { 10_000 },
             ..Taste::SHORT
         };
-        Some(Step::Call(lists::any_call(random, taste, run.next_mfn())))
+        Some(Step::Call(any_call(random, taste, run)))
     }
 }
 

@@ -11,7 +11,9 @@ use model::call::Call;
 use model::layout::BLOCK;
 use model::lists::{self, Taste};
 use model::random::Random;
+use model::{Refusal, store};
 use std::io::Write;
+use std::ops::Range;
 
 /// A way to make trials.
 pub trait Family {
@@ -117,6 +119,40 @@ pub fn rubbish(random: &mut Random, mst_blocks: usize, xrf_blocks: usize) -> (Ve
     (mst, xrf)
 }
 
+/// A random call of any kind; one in eight is a view that asks for about as many occurrences of
+/// a tag as there are.
+pub fn any_call(random: &mut Random, taste: Taste, run: &Run) -> Call {
+    if random.one_in(8) {
+        return view_around(random, run);
+    }
+    lists::any_call(random, taste, run.next_mfn())
+}
+
+/// A view of the current or the settled version: mostly of an occurrence up to two off the last
+/// that the model's card has, sometimes of 0, of the highest, or of any.
+fn view_around(random: &mut Random, run: &Run) -> Call {
+    let (mfn, tag) = (lists::mfn(random, run.next_mfn()), lists::tag(random));
+    let (mst, xrf) = run.card();
+    let (view, call) = if random.one_in(2) {
+        (store::view as View, Call::view as fn(u32, u16, u32) -> Call)
+    } else {
+        (store::view_settled as View, Call::view_settled as _)
+    };
+    let there = match view(mst, xrf, mfn, tag, u32::MAX) {
+        Err(Refusal::Fewer(occurrences)) => occurrences,
+        _ => 0,
+    };
+    let occurrence = match random.below(8) {
+        0 => random.pick(&[0, u32::MAX]),
+        1 => random.next() as u32,
+        off => (there + off as u32).saturating_sub(5),
+    };
+    call(mfn, tag, occurrence)
+}
+
+/// A view of the model.
+type View = fn(&[u8], &[u8], u32, u16, u32) -> store::Answer<Range<usize>>;
+
 /// Records so short that the slots are used up before the space.
 const TINY: Taste = Taste {
     field: 2,
@@ -151,8 +187,8 @@ impl Family for FromFormat {
             (3, 2, Taste::SHORT, 150),
             (6, 1, Taste::SHORT, 250),
             (12, 1, Taste::SHORT, 400),
-            (9, 1, TINY, 900),
-            (24, 2, TINY, 1_600),
+            (9, 1, TINY, 1_050),
+            (24, 2, TINY, 1_850),
             (20, 1, Taste::LONG, 150),
             (100, 3, Taste::LONG, 200),
         ]);
@@ -164,11 +200,7 @@ impl Family for FromFormat {
         match done {
             0 => Some(Step::Call(Call::Format)),
             _ if done == self.steps => None,
-            _ => Some(Step::Call(lists::any_call(
-                random,
-                self.taste,
-                run.next_mfn(),
-            ))),
+            _ => Some(Step::Call(any_call(random, self.taste, run))),
         }
     }
 }
@@ -196,7 +228,7 @@ impl Family for Hostile {
             0 => random.next() as u32,
             _ => lists::mfn(random, run.next_mfn()),
         };
-        Some(Step::Call(match random.below(11) {
+        Some(Step::Call(match random.below(12) {
             0..=1 => Call::Create(lists::hostile_draft(random, Taste::SHORT)),
             2..=3 => Call::Update(mfn, lists::hostile_draft(random, Taste::SHORT)),
             4 => Call::view(mfn, tag, random.next() as u32),
@@ -210,6 +242,7 @@ impl Family for Hostile {
                 index: lists::index(random),
             },
             8 => lists::telling(random, Taste::SHORT, mfn as usize),
+            9 => view_around(random, run),
             _ => lists::call(random, Taste::SHORT, run.next_mfn()),
         }))
     }

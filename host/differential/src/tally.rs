@@ -10,12 +10,13 @@ const COUNT: usize = Call::NAMES.len();
 /// One more than the highest answer.
 const NUMBERS: usize = 18;
 
-/// The answers that the table of document 01 has for each call; a field by its index
-/// is answered as a view, and the calls that tell something as the header says.
+/// The answers that the table of document 01 has for each call, and 15 for the views; a field by
+/// its index is answered as a view, but for 15, and the calls that tell something as the header
+/// says.
 pub const ANSWERS: [&[usize]; COUNT] = [
     &[0, 1],
-    &[0, 1, 2, 4, 6, 7, 8, 9, 12],
-    &[0, 1, 2, 4, 6, 7, 8, 9, 11, 12],
+    &[0, 1, 2, 4, 6, 7, 8, 9, 12, 15],
+    &[0, 1, 2, 4, 6, 7, 8, 9, 11, 12, 15],
     &[0, 1, 2, 3, 5, 6, 13],
     &[0, 1, 2, 3, 4, 6, 7, 8, 9, 13],
     &[0, 1, 2, 4, 6, 7, 8, 9, 13],

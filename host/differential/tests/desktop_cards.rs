@@ -91,6 +91,7 @@ impl Desktop {
             calls.extend((0..4).map(|index| Call::Field { mfn, index }));
             calls.extend((0..4).map(|index| Call::FieldSettled { mfn, index }));
             calls.extend([Call::view(mfn, 200, 1), Call::view_settled(mfn, 245, 1)]);
+            calls.extend([Call::view(mfn, 200, 9), Call::view_settled(mfn, 245, 9)]);
             calls.push(Call::State(mfn));
             for room in [[4; 3], [40; 3]] {
                 calls.extend([

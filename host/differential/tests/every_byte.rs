@@ -49,6 +49,8 @@ fn calls() -> Vec<Call> {
         calls.extend([
             Call::view(mfn, 70, 1),
             Call::view_settled(mfn, 70, 1),
+            Call::view(mfn, 70, 2),
+            Call::view_settled(mfn, 24, 3),
             Call::Field { mfn, index: 0 },
             Call::Field { mfn, index: 1 },
             Call::Field { mfn, index: 2 },

@@ -4,7 +4,7 @@
 
 use differential::archive::{Given, Subject};
 use differential::damage::Damaged;
-use differential::families::{Family, FromFormat, drive_subject};
+use differential::families::{Family, FromFormat, Hostile, drive_subject};
 use differential::guarded::{Area, Side, at_work, report_hits};
 use model::call::{Call, on_bytes};
 use std::process::Command;
@@ -164,7 +164,7 @@ fn the_gap_before_a_block_written_over() {
 
 #[test]
 fn the_first_field_for_every_index() {
-    found(&mut FromFormat::new(), 3, |_, seen| {
+    found(&mut FromFormat::new(), 4, |_, seen| {
         if let Call::Field { mfn, .. } = *seen.call
             && seen.given.number == 0
         {
@@ -363,6 +363,179 @@ fn only_the_answers_of_a_list() {
         if matches!(seen.call, Call::SettleList { .. }) {
             seen.put_back();
         }
+    });
+}
+
+/// Whether a call shows a field by its tag.
+fn views(call: &Call) -> bool {
+    matches!(call, Call::View { .. } | Call::ViewSettled { .. })
+}
+
+#[test]
+fn fewer_than_asked_told_as_none() {
+    found(&mut FromFormat::new(), 4, |_, seen| {
+        if seen.given.number == 15 {
+            (seen.given.number, seen.given.occurrences) = (12, 0);
+        }
+    });
+}
+
+#[test]
+fn fewer_than_asked_told_as_none_in_the_settled_version_only() {
+    found(&mut FromFormat::new(), 5, |_, seen| {
+        if seen.given.number == 15 && matches!(seen.call, Call::ViewSettled { .. }) {
+            (seen.given.number, seen.given.occurrences) = (12, 0);
+        }
+    });
+}
+
+#[test]
+fn one_occurrence_too_few() {
+    found(&mut FromFormat::new(), 4, |_, seen| {
+        if seen.given.number == 15 {
+            seen.given.occurrences -= 1;
+        }
+    });
+}
+
+#[test]
+fn one_occurrence_too_many() {
+    found(&mut FromFormat::new(), 4, |_, seen| {
+        if seen.given.number == 15 {
+            seen.given.occurrences += 1;
+        }
+    });
+}
+
+/// What a search that counts down has left.
+#[test]
+fn how_many_are_missing_for_how_many_there_are() {
+    found(&mut FromFormat::new(), 4, |_, seen| {
+        if let Call::View { occurrence, .. } = *seen.call
+            && seen.given.number == 15
+        {
+            seen.given.occurrences = occurrence - seen.given.occurrences;
+        }
+    });
+}
+
+#[test]
+fn all_fields_counted_and_not_those_of_the_tag() {
+    found(&mut FromFormat::new(), 4, |_, seen| {
+        if let Call::View { mfn, .. } = *seen.call
+            && seen.given.number == 15
+        {
+            let room = [9; 3];
+            let (all, _) = on_bytes(seen.mst, seen.xrf, &Call::Fields { mfn, room });
+            seen.given.occurrences = all.fields.len() as u32;
+        }
+    });
+}
+
+#[test]
+fn occurrences_of_the_current_version_told_for_the_settled_one() {
+    found(&mut FromFormat::new(), 6, |_, seen| {
+        if let Call::ViewSettled {
+            mfn,
+            tag,
+            occurrence,
+        } = *seen.call
+            && seen.given.number == 15
+        {
+            let current = Call::view(mfn, tag, occurrence);
+            let (current, _) = on_bytes(seen.mst, seen.xrf, &current);
+            if current.number == 15 {
+                seen.given.occurrences = current.occurrences;
+            }
+        }
+    });
+}
+
+#[test]
+fn occurrence_0_told_as_fewer() {
+    found(&mut FromFormat::new(), 4, |_, seen| {
+        if let Call::View {
+            mfn,
+            tag,
+            occurrence: 0,
+        } = *seen.call
+            && seen.given.number == 12
+        {
+            let most = Call::view(mfn, tag, u32::MAX);
+            let (most, _) = on_bytes(seen.mst, seen.xrf, &most);
+            (seen.given.number, seen.given.occurrences) = (most.number, most.occurrences);
+        }
+    });
+}
+
+#[test]
+fn a_tag_that_does_not_occur_told_as_fewer() {
+    found(&mut FromFormat::new(), 4, |_, seen| {
+        if views(seen.call) && seen.given.number == 12 {
+            seen.given.number = 15;
+        }
+    });
+}
+
+#[test]
+fn occurrences_left_as_they_were_by_every_other_answer() {
+    found(&mut FromFormat::new(), 2, |_, seen| {
+        if views(seen.call) && seen.given.number != 15 {
+            seen.given.occurrences = 0xEEEE_EEEE;
+        }
+    });
+}
+
+#[test]
+fn occurrences_told_where_the_field_is_shown() {
+    found(&mut FromFormat::new(), 4, |_, seen| {
+        if let Call::View { occurrence, .. } = *seen.call
+            && seen.given.number == 0
+        {
+            seen.given.occurrences = occurrence;
+        }
+    });
+}
+
+#[test]
+fn fewer_told_by_index_too() {
+    found(&mut FromFormat::new(), 4, |_, seen| {
+        let by_index = matches!(seen.call, Call::Field { .. } | Call::FieldSettled { .. });
+        if by_index && seen.given.number == 12 {
+            seen.given.number = 15;
+        }
+    });
+}
+
+#[test]
+fn fewer_told_of_a_deleted_record() {
+    found(&mut FromFormat::new(), 6, |_, seen| {
+        if let Call::View { mfn, tag, .. } = *seen.call
+            && seen.given.number == 9
+        {
+            let most = Call::view_settled(mfn, tag, u32::MAX);
+            let (most, _) = on_bytes(seen.mst, seen.xrf, &most);
+            if most.number == 15 {
+                (seen.given.number, seen.given.occurrences) = (15, most.occurrences);
+            }
+        }
+    });
+}
+
+#[test]
+fn fewer_told_of_a_damaged_record() {
+    found(&mut Damaged::default(), 8, |_, seen| {
+        if views(seen.call) && seen.given.number == 8 {
+            (seen.given.number, seen.given.occurrences) = (15, 1);
+        }
+    });
+}
+
+/// Records of several thousand fields of one tag come among hostile arguments.
+#[test]
+fn occurrences_in_one_byte() {
+    found(&mut Hostile, 4, |_, seen| {
+        seen.given.occurrences %= 256;
     });
 }
 

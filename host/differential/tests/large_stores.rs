@@ -106,3 +106,25 @@ fn every_field_of_the_longest_directory() {
     assert_eq!(card.field(1, MOST), Err(Refusal::NoField));
     assert_eq!(card.field(1, MOST + 65_536), Err(Refusal::NoField));
 }
+
+/// All of them of one tag: the last occurrence, and how many there are.
+#[test]
+fn every_occurrence_of_the_longest_directory() {
+    const MOST: u32 = 5_458;
+    let (mut mst, mut xrf) = (vec![0; 80 * 512], vec![0; 512]);
+    let mut card = Card::over(&mut mst, &mut xrf);
+    card.format().unwrap();
+    assert_eq!(card.create((0..MOST).map(|_| (70, ""))), Ok(1));
+    card.settle(1).unwrap();
+    let fewer = Err(Refusal::FewerFields(MOST));
+    for occurrence in [1, 255, 256, 257, MOST - 1, MOST] {
+        assert_eq!(card.view(1, 70, occurrence), Ok(&b""[..]));
+        assert_eq!(card.view_settled(1, 70, occurrence), Ok(&b""[..]));
+    }
+    for occurrence in [MOST + 1, MOST + 2, 65_536, 65_537, 1 << 31, u32::MAX] {
+        assert_eq!(card.view(1, 70, occurrence), fewer);
+        assert_eq!(card.view_settled(1, 70, occurrence), fewer);
+    }
+    assert_eq!(card.view(1, 70, 0), Err(Refusal::NoField));
+    assert_eq!(card.view(1, 71, MOST), Err(Refusal::NoField));
+}

@@ -50,7 +50,12 @@ mod subject {
         Err(refusal.expect("an answer that some call has"))
     }
 
+    /// How often a tag occurs comes with 15, and is 0 with every other answer.
     fn answered(given: Given) -> Answer<Given> {
+        if given.number == 15 {
+            return Err(Refusal::Fewer(given.occurrences));
+        }
+        assert_eq!(given.occurrences, 0, "answer {}", given.number);
         numbered(given.number, given)
     }
 

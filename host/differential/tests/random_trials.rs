@@ -79,7 +79,8 @@ fn random_cards() {
 #[test]
 fn hostile_arguments() {
     let tally = run("hostile arguments", &mut Hostile, HOSTILE);
-    for (call, number) in [(3, 3), (4, 3), (11, 12), (12, 12), (15, 17)] {
+    for (call, number) in [(1, 15), (3, 3), (4, 3), (11, 12), (12, 12), (15, 17)] {
         came(&tally, call, number, calls(100));
     }
+    came(&tally, 2, 15, calls(20));
 }

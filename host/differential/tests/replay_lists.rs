@@ -17,6 +17,7 @@ fn by_archive(archive: &mut Archive, list: &List) -> Replay {
             mfn: given.mfn,
             tag: given.tag,
             field: mst[given.part].to_vec(),
+            occurrences: given.occurrences,
             answers: if given.number == 0 {
                 given.answers
             } else {

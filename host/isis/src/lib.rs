@@ -18,6 +18,7 @@
 //! assert_eq!(card.state(mfn)?.mark, isis::Mark::Changed);
 //! card.revert(mfn)?;
 //! assert_eq!(card.view(mfn, 24, 1)?, b"Kite");
+//! assert_eq!(card.view(mfn, 70, 2), Err(isis::Refusal::FewerFields(1)));
 //! card.check()?;
 //! # Ok::<(), isis::Refusal>(())
 //! ```

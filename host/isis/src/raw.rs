@@ -2,6 +2,20 @@
 //! [`Card`](crate::Card), [`Index`](crate::Index) and [`Ifp`](crate::Ifp) are all that most
 //! programs need.
 
+/// What [`isis_view`] and [`isis_view_settled`] are: a call that shows a field.
+pub type View = unsafe extern "C" fn(
+    *const u8,
+    usize,
+    *const u8,
+    usize,
+    u32,
+    u16,
+    u32,
+    *mut usize,
+    *mut usize,
+    *mut u32,
+) -> u32;
+
 /// What [`isis_common`] and [`isis_joined`] are: a call that gives MFNs of two lists.
 pub type Merge =
     unsafe extern "C" fn(*const u8, usize, i32, i32, i32, i32, *mut u32, usize, *mut usize) -> u32;
@@ -21,6 +35,7 @@ unsafe extern "C" {
         occurrence: u32,
         start: *mut usize,
         len: *mut usize,
+        occurrences: *mut u32,
     ) -> u32;
 
     /// Shows a field of the settled version.
@@ -34,6 +49,7 @@ unsafe extern "C" {
         occurrence: u32,
         start: *mut usize,
         len: *mut usize,
+        occurrences: *mut u32,
     ) -> u32;
 
     /// Shows a field of the current version by its index in the directory.

@@ -2,23 +2,11 @@
 //! enough, and what is handed out lives as long as those.
 
 use crate::fields::{Field, Fields, by_index};
-use crate::refusal::Answer;
+use crate::raw::View;
+use crate::refusal::{Answer, Refusal};
 use crate::state::{Mark, Next, State};
 use crate::{answer, raw};
 use std::ops::Range;
-
-/// A view function of the C interface.
-type View = unsafe extern "C" fn(
-    *const u8,
-    usize,
-    *const u8,
-    usize,
-    u32,
-    u16,
-    u32,
-    *mut usize,
-    *mut usize,
-) -> u32;
 
 /// A card in two buffers that are only read.
 ///
@@ -55,12 +43,15 @@ impl<'a> CardRef<'a> {
         self.xrf
     }
 
-    /// A field of the current version; occurrences count from 1.
+    /// A field of the current version; occurrences count from 1. Where the tag occurs, but not
+    /// as often, [`FewerFields`](Refusal::FewerFields) says how often;
+    /// [`NoField`](Refusal::NoField) is for a tag that does not occur, and for occurrence 0.
     pub fn view(self, mfn: u32, tag: u16, occurrence: u32) -> Answer<&'a [u8]> {
         Ok(&self.mst[self.view_part(mfn, tag, occurrence)?])
     }
 
-    /// A field of the settled version; occurrences count from 1.
+    /// A field of the settled version; occurrences count from 1, and what is missing is told as
+    /// by [`view`](CardRef::view).
     pub fn view_settled(self, mfn: u32, tag: u16, occurrence: u32) -> Answer<&'a [u8]> {
         Ok(&self.mst[self.view_settled_part(mfn, tag, occurrence)?])
     }
@@ -76,8 +67,8 @@ impl<'a> CardRef<'a> {
     }
 
     fn part(self, view: View, mfn: u32, tag: u16, occurrence: u32) -> Answer<Range<usize>> {
-        let (mut start, mut len) = (0, 0);
-        // SAFETY: the buffers are borrowed for their whole length, the outputs are two
+        let (mut start, mut len, mut occurrences) = (0, 0, 0);
+        // SAFETY: the buffers are borrowed for their whole length, the outputs are three
         // variables of this function.
         let number = unsafe {
             view(
@@ -90,9 +81,13 @@ impl<'a> CardRef<'a> {
                 occurrence,
                 &mut start,
                 &mut len,
+                &mut occurrences,
             )
         };
-        answer(number).map(|()| start..start + len)
+        match answer(number) {
+            Err(Refusal::FewerFields(_)) => Err(Refusal::FewerFields(occurrences)),
+            given => given.map(|()| start..start + len),
+        }
     }
 
     /// A field of the current version by its index in the directory, from 0.

@@ -35,12 +35,14 @@ pub enum Refusal {
     NotPending = 10,
     /// 11: the record was never settled.
     NeverSettled = 11,
-    /// 12: no field of that tag and occurrence, or of that index.
+    /// 12: the tag does not occur, or occurrence 0 was asked for; no field of that index.
     NoField = 12,
     /// 13: the record does not fit before the end of the MST.
     NoRoom = 13,
     /// 14: the store is not sound.
     NotSound = 14,
+    /// 15: the tag occurs, but fewer times than asked for: so many.
+    FewerFields(u32) = 15,
     /// 17: a list that is lent for outputs is too short for them; given last of all.
     NoRoomInList = 17,
     /// 20: the term is not 1 to 30 bytes long, or ends with a space.
@@ -54,7 +56,8 @@ pub enum Refusal {
 }
 
 impl Refusal {
-    /// Every refusal, in the order of the numbers.
+    /// Every refusal, in the order of the numbers; [`FewerFields`](Refusal::FewerFields) stands
+    /// here with 0, which no call gives.
     pub const ALL: &[Refusal] = &[
         Refusal::BadLength,
         Refusal::BadControl,
@@ -70,6 +73,7 @@ impl Refusal {
         Refusal::NoField,
         Refusal::NoRoom,
         Refusal::NotSound,
+        Refusal::FewerFields(0),
         Refusal::NoRoomInList,
         Refusal::BadTerm,
         Refusal::BadIndex,
@@ -79,11 +83,13 @@ impl Refusal {
 
     /// The number of the refusal.
     pub fn number(self) -> u32 {
-        self as u32
+        // SAFETY: an enum of this representation begins with its number.
+        unsafe { *std::ptr::from_ref(&self).cast::<u32>() }
     }
 
     /// The answer that a number stands for: `Ok` for 0, `None` for a number that is
-    /// no answer.
+    /// no answer. The number alone does not say how often a tag occurs: 15 stands for
+    /// [`FewerFields`](Refusal::FewerFields) with 0.
     pub fn answer(number: u32) -> Option<Answer<()>> {
         if number == 0 {
             return Some(Ok(()));
@@ -92,7 +98,7 @@ impl Refusal {
         known.map(|&why| Err(why))
     }
 
-    /// The refusal in words.
+    /// The refusal in words; the text of a refusal has the number of occurrences besides.
     pub fn words(self) -> &'static str {
         match self {
             Refusal::BadLength => {
@@ -108,9 +114,10 @@ impl Refusal {
             Refusal::Deleted => "the record is deleted",
             Refusal::NotPending => "nothing is pending",
             Refusal::NeverSettled => "the record was never settled",
-            Refusal::NoField => "there is no field of this tag and occurrence",
+            Refusal::NoField => "there is no such field",
             Refusal::NoRoom => "there is no room at the end of the MST",
             Refusal::NotSound => "the store is not sound",
+            Refusal::FewerFields(_) => "the tag occurs fewer times than asked for",
             Refusal::NoRoomInList => "a list is too short for what it is to hold",
             Refusal::BadTerm => "a term has 1 to 30 bytes and no space at its end",
             Refusal::BadIndex => "the index is not right",
@@ -122,7 +129,11 @@ impl Refusal {
 
 impl fmt::Display for Refusal {
     fn fmt(&self, f: &mut fmt::Formatter<'_>) -> fmt::Result {
-        f.write_str(self.words())
+        f.write_str(self.words())?;
+        match self {
+            Refusal::FewerFields(occurrences) => write!(f, ": {occurrences}"),
+            _ => Ok(()),
+        }
     }
 }
 

@@ -31,6 +31,9 @@ fn the_example_compiles_without_a_warning_and_does_what_it_says() {
     assert!(printed.contains("its MFN is 1\n"), "{printed}");
     let fields = "its fields:\n       24  The Kite Runner\n       70  Hosseini, Khaled\n";
     assert!(printed.contains(fields), "{printed}");
+    let authors = "    author 1: Hosseini, Khaled\n    author 2: not there, the record has 1\n";
+    assert!(printed.contains(authors), "{printed}");
+    assert!(printed.contains("    no author\n"), "{printed}");
     assert!(printed.contains("title now:     The Kite\n"), "{printed}");
     assert!(
         printed.contains("title settled: The Kite Runner\n"),

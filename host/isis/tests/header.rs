@@ -100,7 +100,8 @@ fn in_c(name: &str) -> String {
     c
 }
 
-/// Names and numbers of an enum's lines `NAME = NUMBER,`.
+/// Names and numbers of an enum's lines `NAME = NUMBER,`; what a name carries, in brackets
+/// behind it, is left away.
 fn numbered(text: &str, begins: &str) -> Vec<(String, u32)> {
     let (_, rest) = text.split_once(begins).expect("the enum is there");
     let (lines, _) = rest.split_once('}').expect("the enum ends");
@@ -108,6 +109,7 @@ fn numbered(text: &str, begins: &str) -> Vec<(String, u32)> {
     named
         .map(|(name, number)| {
             let number = number.trim().trim_end_matches(',').parse();
+            let (name, _) = name.split_once('(').unwrap_or((name, ""));
             (name.trim().to_owned(), number.expect("a number"))
         })
         .collect()

@@ -19,7 +19,7 @@ static uint8_t mst[2 * ISIS_BLOCK], xrf[ISIS_BLOCK];
 int main(void)
 {
     isis_size start, len, end, count;
-    uint32_t mfn, next, mark, deleted, answer;
+    uint32_t mfn, next, mark, deleted, answer, occurrences;
     const uint32_t one = 1;
     uint16_t tag;
     int32_t block, word;
@@ -31,8 +31,8 @@ int main(void)
     IS(ISIS_BAD_LENGTH, isis_format(NO_CARD));
     IS(ISIS_BAD_LENGTH, isis_format(mst, sizeof mst, NULL, 0));
     IS(ISIS_BAD_LENGTH, isis_format(NULL, 0, xrf, sizeof xrf));
-    IS(ISIS_BAD_LENGTH, isis_view(NO_CARD, 1, 24, 1, &start, &len));
-    IS(ISIS_BAD_LENGTH, isis_view_settled(NO_CARD, 1, 24, 1, &start, &len));
+    IS(ISIS_BAD_LENGTH, isis_view(NO_CARD, 1, 24, 1, &start, &len, &occurrences));
+    IS(ISIS_BAD_LENGTH, isis_view_settled(NO_CARD, 1, 24, 1, &start, &len, &occurrences));
     IS(ISIS_BAD_LENGTH, isis_field(NO_CARD, 1, 0, &tag, &start, &len));
     IS(ISIS_BAD_LENGTH, isis_field_settled(NO_CARD, 1, 0, &tag, &start, &len));
     IS(ISIS_BAD_LENGTH, isis_fields(NO_CARD, 1, NO_LISTS, &count));

@@ -1,6 +1,7 @@
 //! The wrapper hands everything through: the worked run of document 01 by way of the
 //! archive, each answer as its number, and drafts from iterators.
 
+use isis::raw::View;
 use isis::{Answer, Card, CardRef, Draft, Field, Fields, Lists, Mark, Next, Refusal, State, raw};
 
 #[test]
@@ -82,14 +83,27 @@ fn a_whole_list_is_settled() {
 fn refusals_have_the_papers_numbers() {
     let all: &[Refusal] = Refusal::ALL;
     let numbers = all.iter().map(|refusal| refusal.number());
-    assert!(numbers.eq((1..=14).chain([17]).chain(20..=23)));
+    assert!(numbers.eq((1..=15).chain([17]).chain(20..=23)));
     for &refusal in all {
         assert_eq!(Refusal::answer(refusal.number()), Some(Err(refusal)));
     }
     assert_eq!(Refusal::answer(0), Some(Ok(())));
-    for number in [15, 16, 18, 19, 24, 99, u32::MAX] {
+    for number in [16, 18, 19, 24, 99, u32::MAX] {
         assert_eq!(Refusal::answer(number), None);
     }
+    for occurrences in [1, 12, 16, u32::MAX] {
+        assert_eq!(Refusal::FewerFields(occurrences).number(), 15);
+    }
+}
+
+#[test]
+fn refusals_have_words() {
+    for refusal in Refusal::ALL {
+        assert!(refusal.to_string().starts_with(refusal.words()));
+    }
+    let words = Refusal::FewerFields(3).to_string();
+    assert_eq!(words, "the tag occurs fewer times than asked for: 3");
+    assert_eq!(Refusal::NoField.to_string(), Refusal::NoField.words());
 }
 
 #[test]
@@ -103,7 +117,7 @@ fn refusals_come_through() {
     assert_eq!(card.create([(1, vec![0; 600])]), Err(Refusal::NoRoom));
     assert_eq!(card.create([(1, "a"), (1, "b")]), Ok(1));
     assert_eq!(card.view(1, 1, 2), Ok(&b"b"[..]));
-    assert_eq!(card.view(1, 1, 3), Err(Refusal::NoField));
+    assert_eq!(card.view(1, 1, 3), Err(Refusal::FewerFields(2)));
     assert_eq!(card.revert(1), Err(Refusal::NeverSettled));
     card.delete(1).unwrap();
     assert_eq!(card.view(1, 1, 1), Err(Refusal::Deleted));
@@ -115,6 +129,66 @@ fn refusals_come_through() {
         Card::over(&mut short, &mut xrf).format(),
         Err(Refusal::BadLength)
     );
+}
+
+/// Which kind of missing: no field of the tag, or fewer than asked for, in both versions.
+#[test]
+fn the_number_of_occurrences_comes_through() {
+    let (mut mst, mut xrf) = (vec![0; 512], vec![0; 512]);
+    let mut card = Card::over(&mut mst, &mut xrf);
+    card.format().unwrap();
+    assert_eq!(card.create([(70, "a"), (24, "b"), (70, "c")]), Ok(1));
+    card.settle(1).unwrap();
+    card.update(1, [(70, "d")]).unwrap();
+    let fewer = |occurrences| Err(Refusal::FewerFields(occurrences));
+    let none = Err(Refusal::NoField);
+    for (tag, occurrence, current, settled) in [
+        (70, 1, Ok(&b"d"[..]), Ok(&b"a"[..])),
+        (70, 2, fewer(1), Ok(b"c")),
+        (70, 3, fewer(1), fewer(2)),
+        (70, u32::MAX, fewer(1), fewer(2)),
+        (70, 0, none, none),
+        (24, 2, none, fewer(1)),
+        (25, 1, none, none),
+    ] {
+        assert_eq!(card.view(1, tag, occurrence), current);
+        assert_eq!(card.view_settled(1, tag, occurrence), settled);
+        let part = card.view_part(1, tag, occurrence);
+        assert_eq!(part.map(|part| &card.mst()[part]), current);
+    }
+    assert_eq!(card.field(1, 1), Err(Refusal::NoField));
+}
+
+/// The last output is set by every call, to 0 but for answer 15.
+#[test]
+fn the_number_of_occurrences_is_0_with_every_other_answer() {
+    let (mut mst, mut xrf) = (vec![0; 512], vec![0; 512]);
+    let mut card = Card::over(&mut mst, &mut xrf);
+    card.format().unwrap();
+    assert_eq!(card.create([(70, "a"), (70, "c")]), Ok(1));
+    card.settle(1).unwrap();
+    assert_eq!(card.create([(70, "new")]), Ok(2));
+    let call = |view: View, mfn, tag, occurrence| {
+        let (mut start, mut len, mut occurrences) = (9, 9, 9);
+        let (mst_len, xrf_len) = (mst.len(), xrf.len());
+        let (mst, xrf) = (mst.as_ptr(), xrf.as_ptr());
+        let out = (&raw mut start, &raw mut len, &raw mut occurrences);
+        // SAFETY: the buffers have these lengths, and the outputs are three variables.
+        let number = unsafe {
+            view(
+                mst, mst_len, xrf, xrf_len, mfn, tag, occurrence, out.0, out.1, out.2,
+            )
+        };
+        (number, start, len, occurrences)
+    };
+    for view in [raw::isis_view as View, raw::isis_view_settled] {
+        assert_eq!(call(view, 1, 70, 2), (0, 95, 1, 0));
+        assert_eq!(call(view, 1, 70, 3), (15, 0, 0, 2));
+        assert_eq!(call(view, 1, 70, 0), (12, 0, 0, 0));
+        assert_eq!(call(view, 1, 24, 1), (12, 0, 0, 0));
+        assert_eq!(call(view, 3, 70, 3), (4, 0, 0, 0));
+    }
+    assert_eq!(call(raw::isis_view_settled, 2, 70, 2), (11, 0, 0, 0));
 }
 
 #[test]

@@ -288,7 +288,8 @@ fn need_of(fields: &Fields) -> usize {
     )
 }
 
-/// The field of a tag and an occurrence, counted from 1.
+/// The field of a tag and an occurrence, counted from 1. Of a tag that was seen, but not as
+/// often as asked, it is told how often.
 fn pick(fields: &Fields, tag: u16, occurrence: u32) -> Result<&[u8], Refusal> {
     let mut seen = 0;
     for (its, bytes) in fields {
@@ -299,7 +300,10 @@ fn pick(fields: &Fields, tag: u16, occurrence: u32) -> Result<&[u8], Refusal> {
             }
         }
     }
-    Err(Refusal::NoField)
+    Err(match (occurrence, seen) {
+        (0, _) | (_, 0) => Refusal::NoField,
+        _ => Refusal::Fewer(seen),
+    })
 }
 
 /// The field at an index, from 0.

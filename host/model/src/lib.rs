@@ -7,8 +7,9 @@
 //!   hold any bytes, with the whole-store check ([`sound`]) written as the
 //!   paper states it: collect the steps, then look at every entry; and the calls
 //!   that tell something of a card ([`ask`]), from the words of the header;
-//!   NXTMFP counts from one, and old cards are migrated, as request C-12 has it; and a whole
-//!   list is settled, as request C-13 has it;
+//!   NXTMFP counts from one, and old cards are migrated, as request C-12 has it; a whole
+//!   list is settled, as request C-13 has it; and a view tells which kind of missing it met, as
+//!   request C-15 has it;
 //! * the **ledger** ([`ledger`]): the plain ledger of demand 3, which never sees a
 //!   buffer and is only fed the calls.
 //!

@@ -7,8 +7,9 @@ use crate::store::Indexed;
 use std::ops::Range;
 
 /// What a call gave: its answer number; the MFN of a create or of the next one, and the
-/// end; the field that is shown, and its tag where the call names none; the state of a
-/// record as two numbers; all fields of one; the answers of a list of MFNs.
+/// end; the field that is shown, and its tag where the call names none; how often a tag occurs
+/// where that is less often than asked; the state of a record as two numbers; all fields of one;
+/// the answers of a list of MFNs.
 #[derive(Clone, Debug, PartialEq, Eq, Default)]
 #[allow(missing_docs)]
 pub struct Outcome {
@@ -17,6 +18,7 @@ pub struct Outcome {
     pub end: usize,
     pub tag: u16,
     pub field: Vec<u8>,
+    pub occurrences: u32,
     pub mark: u32,
     pub deleted: u32,
     pub fields: Fields,
@@ -52,6 +54,7 @@ impl Outcome {
     pub(crate) fn shown(result: Result<&[u8], Refusal>) -> Outcome {
         Outcome {
             number: number(&result),
+            occurrences: result.map_or_else(Refusal::occurrences, |_| 0),
             field: result.unwrap_or(&[]).to_vec(),
             ..Outcome::default()
         }

@@ -1,5 +1,6 @@
 //! Records: the leader, the directory, the data, and the test of "Records".
 
+use crate::answer::Refusal;
 use crate::bytes::{i32_at, put_i32, put_u16, u16_at};
 use crate::draft::Draft;
 use crate::fault::{BackFault, DirectoryFault, RecordFault};
@@ -181,13 +182,20 @@ impl Record {
             })
     }
 
-    /// The field of a tag and an occurrence, counted from 1.
-    pub fn find(self, mst: &[u8], tag: u16, occurrence: u32) -> Option<Range<usize>> {
-        let before = occurrence.checked_sub(1)?;
-        self.fields(mst)
-            .filter(|(its, _)| *its == tag)
-            .nth(before as usize)
-            .map(|(_, range)| range)
+    /// The field of a tag and an occurrence, counted from 1. Answer 12 if the tag does not
+    /// occur or occurrence 0 is asked; 15, with how often it occurs, if that is less often.
+    pub fn find(self, mst: &[u8], tag: u16, occurrence: u32) -> Result<Range<usize>, Refusal> {
+        let mut parts = Vec::new();
+        for (its, part) in self.fields(mst) {
+            if its == tag {
+                parts.push(part);
+            }
+        }
+        if occurrence == 0 || parts.is_empty() {
+            return Err(Refusal::NoField);
+        }
+        let part = parts.get(occurrence as usize - 1).cloned();
+        part.ok_or(Refusal::Fewer(parts.len() as u32))
     }
 }
 

@@ -111,8 +111,7 @@ pub(crate) fn settled(mst: &[u8], xrf: &[u8], mfn: u32) -> Answer<Record> {
 
 /// A field of the current version, as a part of the MST.
 pub fn view(mst: &[u8], xrf: &[u8], mfn: u32, tag: u16, occurrence: u32) -> Answer<Range<usize>> {
-    let shown = current(mst, xrf, mfn)?;
-    shown.find(mst, tag, occurrence).ok_or(Refusal::NoField)
+    current(mst, xrf, mfn)?.find(mst, tag, occurrence)
 }
 
 /// A field of the settled version, as a part of the MST.
@@ -123,8 +122,7 @@ pub fn view_settled(
     tag: u16,
     occurrence: u32,
 ) -> Answer<Range<usize>> {
-    let shown = settled(mst, xrf, mfn)?;
-    shown.find(mst, tag, occurrence).ok_or(Refusal::NoField)
+    settled(mst, xrf, mfn)?.find(mst, tag, occurrence)
 }
 
 /// A field by its place in the directory: its tag, and its part of the MST.

@@ -234,7 +234,7 @@ fn answer_8_comes_before_9_to_13() {
 type Shown = (u16, u32, Result<&'static [u8], Refusal>);
 
 #[test]
-fn answer_12_for_tags_and_occurrences() {
+fn answers_12_and_15_for_tags_and_occurrences() {
     let mut card = Card::formatted(2, 1);
     card.create(&[(24, b"a"), (70, b""), (24, b"bc"), (24, b"")])
         .unwrap();
@@ -243,11 +243,11 @@ fn answer_12_for_tags_and_occurrences() {
         (24, 1, Ok(b"a")),
         (24, 2, Ok(b"bc")),
         (24, 3, Ok(b"")),
-        (24, 4, Err(NoField)),
+        (24, 4, Err(Fewer(3))),
         (24, 0, Err(NoField)),
-        (24, u32::MAX, Err(NoField)),
+        (24, u32::MAX, Err(Fewer(3))),
         (70, 1, Ok(b"")),
-        (70, 2, Err(NoField)),
+        (70, 2, Err(Fewer(1))),
         (71, 1, Err(NoField)),
         (0, 1, Err(NoField)),
         (65_535, 1, Err(NoField)),

@@ -36,12 +36,13 @@ fn run(seed: u64, blocks: (usize, usize), taste: Taste, calls: usize) -> BTreeSe
     came
 }
 
-/// Both versions of every MFN: by every tag and occurrence that its drafts could have,
+/// Both versions of every MFN: by every tag and occurrence that its drafts could have, by
+/// occurrence 0 and by the highest,
 /// and by index up to the first that the directory does not have.
 fn every_field_is_shown(seed: u64, mst: &mut [u8], xrf: &mut [u8], ledger: &mut Ledger) {
     for mfn in 1..ledger.next_mfn() as u32 {
         for tag in [1, 24, 70, 32_767] {
-            for occurrence in 1..4 {
+            for occurrence in (0..10).chain([u32::MAX]) {
                 for call in [
                     Call::view(mfn, tag, occurrence),
                     Call::view_settled(mfn, tag, occurrence),

@@ -27,8 +27,8 @@ const EXPECTED: &str = include_str!("../examples/outcomes/expected.txt");
 /// index is answered as a view, and the calls that tell something as the header says.
 const ANSWERS: [(&str, &[u32]); 25] = [
     ("format", &[0, 1]),
-    ("view", &[0, 1, 2, 4, 6, 7, 8, 9, 12]),
-    ("settled view", &[0, 1, 2, 4, 6, 7, 8, 9, 11, 12]),
+    ("view", &[0, 1, 2, 4, 6, 7, 8, 9, 12, 15]),
+    ("settled view", &[0, 1, 2, 4, 6, 7, 8, 9, 11, 12, 15]),
     ("create", &[0, 1, 2, 3, 5, 6, 13]),
     ("update", &[0, 1, 2, 3, 4, 6, 7, 8, 9, 13]),
     ("delete", &[0, 1, 2, 4, 6, 7, 8, 9, 13]),

@@ -101,10 +101,46 @@ fn the_lists_fit_into_the_programs_buffers() {
 #[test]
 fn the_worked_run_is_the_papers() {
     let lines = text::replay(&by_ledger(&lists::worked_run()));
-    let wanted = "ended 9\n0 1 0 0\n0 0 0 0\n0 0 0 0\n0 0 0 0\n0 0 5 0 Kites\n0 0 3 0 Kit\n0 0 0 0\n\
-                  0 0 3 0 Kit\n0 0 0 0\nNXTMFN 2 NXTMFB 1 NXTMFP 123\n";
+    let wanted = "ended 9\n0 1 0 0 0\n0 0 0 0 0\n0 0 0 0 0\n0 0 0 0 0\n0 0 5 0 0 Kites\n\
+                  0 0 3 0 0 Kit\n0 0 0 0 0\n0 0 3 0 0 Kit\n0 0 0 0 0\nNXTMFN 2 NXTMFB 1 NXTMFP 123\n";
     assert_eq!(lines, wanted);
     assert!(file("stdout").starts_with(wanted));
+}
+
+/// Of a record with tag 70 twice, new; changed to one with tag 70 once, the first settled; and
+/// then deleted.
+#[test]
+fn a_list_reports_how_often_a_tag_occurs() {
+    let lists = lists::all();
+    let list = lists.iter().find(|list| list.title == "fewer than asked");
+    let lines = text::replay(&by_ledger(list.unwrap()));
+    let lines: Vec<&str> = lines.lines().collect();
+    let of_two = [
+        "12 0 0 0 0",
+        "0 0 3 0 0 one",
+        "0 0 3 0 0 two",
+        "15 0 0 2 0",
+        "15 0 0 2 0",
+        "15 0 0 2 0",
+    ];
+    let of_one = [
+        "12 0 0 0 0",
+        "0 0 4 0 0 only",
+        "15 0 0 1 0",
+        "15 0 0 1 0",
+        "15 0 0 1 0",
+        "15 0 0 1 0",
+    ];
+    let absent = "12 0 0 0 0";
+    assert_eq!(lines[2..8], of_two);
+    assert_eq!(lines[8..14], ["11 0 0 0 0"; 6]);
+    assert_eq!(lines[14..16], [absent, "11 0 0 0 0"]);
+    assert_eq!(lines[18..24], of_one);
+    assert_eq!(lines[24..30], of_two);
+    assert_eq!(lines[30..32], [absent; 2]);
+    assert_eq!(lines[33..39], ["9 0 0 0 0"; 6]);
+    assert_eq!(lines[39..45], of_two);
+    assert_eq!(lines[45..47], ["9 0 0 0 0", absent]);
 }
 
 /// The calls of a list that were run, as numbers, each with its answer.
@@ -125,7 +161,7 @@ fn the_long_list_reaches_every_answer_of_every_call() {
     let numbers: BTreeSet<u32> = all.iter().map(|(_, answer)| *answer).collect();
     assert_eq!(
         numbers,
-        BTreeSet::from([0, 2, 3, 4, 5, 9, 10, 11, 12, 13, 17])
+        BTreeSet::from([0, 2, 3, 4, 5, 9, 10, 11, 12, 13, 15, 17])
     );
 }
 
@@ -254,7 +290,7 @@ fn every_stop_comes_for_every_reason() {
     }
     assert_eq!(stop("one number alone"), (Stop::Malformed, 0));
     assert_eq!(stop("an empty list"), (Stop::Ended, 0));
-    assert_eq!(stop("room for three numbers"), (Stop::NoRoom, 0));
+    assert_eq!(stop("room for four numbers"), (Stop::NoRoom, 0));
     assert_eq!(stop("room for one call"), (Stop::NoRoom, 1));
     assert_eq!(stop("room for all calls but the last"), (Stop::NoRoom, 6));
     assert_eq!(stop("a byte short at the first view"), (Stop::NoRoom, 1));

@@ -33,8 +33,8 @@ pub mod called {
         write::format(mst: &mut [u8], xrf: &mut [u8]) -> u32;
         write::create(mst: &mut [u8], xrf: &mut [u8], draft: &Draft) -> (u32, u32);
         write::update(mst: &mut [u8], xrf: &mut [u8], mfn: u32, draft: &Draft) -> u32;
-        store::view(mst: &[u8], xrf: &[u8], mfn: u32, tag: u16, occurrence: u32) -> (u32, usize, usize);
-        store::view_settled(mst: &[u8], xrf: &[u8], mfn: u32, tag: u16, occurrence: u32) -> (u32, usize, usize);
+        store::view(mst: &[u8], xrf: &[u8], mfn: u32, tag: u16, occurrence: u32) -> (u32, usize, usize, u32);
+        store::view_settled(mst: &[u8], xrf: &[u8], mfn: u32, tag: u16, occurrence: u32) -> (u32, usize, usize, u32);
         store::field(mst: &[u8], xrf: &[u8], mfn: u32, index: usize) -> (u32, u16, usize, usize);
         store::field_settled(mst: &[u8], xrf: &[u8], mfn: u32, index: usize) -> (u32, u16, usize, usize);
         store::delete(mst: &mut [u8], xrf: &mut [u8], mfn: u32) -> u32;

@@ -69,8 +69,8 @@ pub fn settled(mst: &[u8], end: usize, mfn: usize, record: &Tested) -> Option<Te
     test(mst, end, mfn, place)
 }
 
-/// The field of a tag and an occurrence.
-pub fn find(mst: &[u8], record: &Tested, tag: u16, occurrence: u32) -> Option<(usize, usize)> {
+/// The field of a tag and an occurrence, or how often the tag occurs.
+pub fn find(mst: &[u8], record: &Tested, tag: u16, occurrence: u32) -> Result<(usize, usize), u32> {
     let base = record.at + record.base;
     let mut seen = 0;
     for item in mst[record.at + 18..base].as_chunks::<6>().0 {
@@ -78,11 +78,11 @@ pub fn find(mst: &[u8], record: &Tested, tag: u16, occurrence: u32) -> Option<(u
             seen += 1;
             if seen == occurrence {
                 let start = base + usize::from(u16_at(item, 2));
-                return Some((start, usize::from(u16_at(item, 4))));
+                return Ok((start, usize::from(u16_at(item, 4))));
             }
         }
     }
-    None
+    Err(seen)
 }
 
 /// Tag, start and length of the field at an index of the directory.

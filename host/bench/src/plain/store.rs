@@ -56,25 +56,33 @@ pub fn kept(mst: &[u8], xrf: &[u8], mfn: u32) -> Result<Tested, u32> {
     }
 }
 
-/// The answer, the start and the length of a field that is shown.
-type Shown = (u32, usize, usize);
+/// The answer, the start and the length of a field that is shown, and how often its tag occurs
+/// where that is less often than asked.
+type Shown = (u32, usize, usize, u32);
 
-fn shown(field: Result<(usize, usize), u32>) -> Shown {
-    field.map_or_else(|refusal| (refusal, 0, 0), |(start, len)| (0, start, len))
+#[inline(always)]
+fn shown(mst: &[u8], record: Result<Tested, u32>, tag: u16, occurrence: u32) -> Shown {
+    let record = match record {
+        Ok(record) => record,
+        Err(refusal) => return (refusal, 0, 0, 0),
+    };
+    match find(mst, &record, tag, occurrence) {
+        Ok((start, len)) => (0, start, len, 0),
+        Err(seen) if seen == 0 || occurrence == 0 => (12, 0, 0, 0),
+        Err(seen) => (15, 0, 0, seen),
+    }
 }
 
 /// A field of the current version.
 #[inline(always)]
 pub fn view(mst: &[u8], xrf: &[u8], mfn: u32, tag: u16, occurrence: u32) -> Shown {
-    let find = |record| find(mst, &record, tag, occurrence).ok_or(12);
-    shown(current(mst, xrf, mfn).and_then(find))
+    shown(mst, current(mst, xrf, mfn), tag, occurrence)
 }
 
 /// A field of the settled version.
 #[inline(always)]
 pub fn view_settled(mst: &[u8], xrf: &[u8], mfn: u32, tag: u16, occurrence: u32) -> Shown {
-    let find = |record| find(mst, &record, tag, occurrence).ok_or(12);
-    shown(kept(mst, xrf, mfn).and_then(find))
+    shown(mst, kept(mst, xrf, mfn), tag, occurrence)
 }
 
 /// The answer, the tag, the start and the length of a field by its index.

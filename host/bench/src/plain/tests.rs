@@ -53,8 +53,9 @@ fn run(mst: &mut [u8], xrf: &mut [u8], call: &Call) -> (Outcome, Shown) {
 
 /// The outcome of the calls that show a field.
 fn shown(mst: &[u8], xrf: &[u8], call: &Call) -> (Outcome, Shown) {
-    let untagged = |(number, start, len)| (number, 0, start, len);
-    let (number, tag, start, len) = match *call {
+    let untagged = |(number, start, len, occurrences)| (number, 0, start, len, occurrences);
+    let uncounted = |(number, tag, start, len)| (number, tag, start, len, 0);
+    let (number, tag, start, len, occurrences) = match *call {
         Call::View {
             mfn,
             tag,
@@ -65,14 +66,15 @@ fn shown(mst: &[u8], xrf: &[u8], call: &Call) -> (Outcome, Shown) {
             tag,
             occurrence,
         } => untagged(called::view_settled(mst, xrf, mfn, tag, occurrence)),
-        Call::Field { mfn, index } => called::field(mst, xrf, mfn, index),
-        Call::FieldSettled { mfn, index } => called::field_settled(mst, xrf, mfn, index),
+        Call::Field { mfn, index } => uncounted(called::field(mst, xrf, mfn, index)),
+        Call::FieldSettled { mfn, index } => uncounted(called::field_settled(mst, xrf, mfn, index)),
         _ => unreachable!("only calls that show a field come here"),
     };
     let part = start..start + len;
     let outcome = Outcome {
         number,
         tag,
+        occurrences,
         field: mst[part.clone()].to_vec(),
         ..Outcome::default()
     };

@@ -11,7 +11,7 @@ use crate::store::MOST_SETTLED;
 
 /// All lists, in the order of the text.
 pub fn all() -> Vec<List> {
-    let mut all = vec![worked_run(), catalogue(), random(1988)];
+    let mut all = vec![worked_run(), catalogue(), random(1988), missing()];
     all.extend(settled_lists());
     all.extend(ends());
     all.extend(stops());
@@ -28,7 +28,7 @@ fn title(text: &str) -> OwnedDraft {
 
 /// A list on a store of one block and one block.
 fn small(title: &'static str, calls: &[Call]) -> List {
-    List::of(title, (BLOCK, BLOCK), calls).room(40, 30)
+    List::of(title, (BLOCK, BLOCK), calls).room(50, 30)
 }
 
 /// "One run, one-block XRF", with both views in between.
@@ -82,6 +82,27 @@ fn random(seed: u64) -> List {
     List::of("a random list", lengths, &calls).exact_room()
 }
 
+/// Occurrences about the number that there is, 0 and the highest, and a tag that does not occur,
+/// in both versions: the settled one has two fields of tag 70, the current one has one.
+fn missing() -> List {
+    let two = OwnedDraft::of(&[(70, b"one"), (24, b"title"), (70, b"two")]);
+    let one = OwnedDraft::of(&[(24, b"title"), (70, b"only")]);
+    let asked = [0, 1, 2, 3, 4, u32::MAX];
+    let current = asked.map(|occurrence| Call::view(1, 70, occurrence));
+    let settled = asked.map(|occurrence| Call::view_settled(1, 70, occurrence));
+    let absent = [Call::view(1, 71, 1), Call::view_settled(1, 71, 2)];
+    let looks = [&current[..], &settled, &absent].concat();
+    let calls = [
+        vec![Call::Create(two)],
+        looks.clone(),
+        vec![Call::Settle(1), Call::Update(1, one)],
+        looks.clone(),
+        vec![Call::Delete(1)],
+        looks,
+    ];
+    List::of("fewer than asked", (BLOCK, BLOCK), &calls.concat()).exact_room()
+}
+
 /// Ends at offset 498, moved on from 500, and at the length of the MST; MFNs 127 and 128.
 fn ends() -> Vec<List> {
     let long = |need: usize| Call::Create(title(&"k".repeat(need - 24)));
@@ -109,13 +130,13 @@ fn ends() -> Vec<List> {
             (2 * BLOCK, BLOCK),
             &[long(436), long(514)],
         )
-        .room(8, 0),
+        .room(10, 0),
         List::of(
             "two blocks, one record each",
             (2 * BLOCK, BLOCK),
             &[long(436), long(512)],
         )
-        .room(8, 0),
+        .room(10, 0),
         List::of("two blocks of entries", (8 * BLOCK, 2 * BLOCK), &two_blocks).exact_room(),
     ]
 }
@@ -257,16 +278,16 @@ fn rooms() -> Vec<List> {
     let list = |title_of_list, answers, shown| small(title_of_list, &calls).room(answers, shown);
     vec![
         list("no number of room", 0, 9),
-        list("room for three numbers", 3, 9),
-        list("room for one call", 4, 9),
-        list("room for one call and three numbers", 7, 9),
-        list("room for three calls, the next a create", 12, 9),
-        list("room for all calls but the last", 27, 9),
-        list("room for all calls", 28, 9),
-        list("no byte of room", 28, 0),
-        list("a byte short at the first view", 28, 3),
-        list("enough for the first view only", 28, 4),
-        list("a byte short at the second view", 28, 8),
+        list("room for four numbers", 4, 9),
+        list("room for one call", 5, 9),
+        list("room for one call and four numbers", 9, 9),
+        list("room for three calls, the next a create", 15, 9),
+        list("room for all calls but the last", 34, 9),
+        list("room for all calls", 35, 9),
+        list("no byte of room", 35, 0),
+        list("a byte short at the first view", 35, 3),
+        list("enough for the first view only", 35, 4),
+        list("a byte short at the second view", 35, 8),
     ]
 }
 

@@ -17,9 +17,9 @@ use crate::store::lists_right;
 
 /// Numbers that a call takes.
 pub const CALL: usize = 5;
-/// Numbers that a call reports: answer, MFN, length shown, how many answers are listed.
-/// Those answers follow them.
-pub const REPORT: usize = 4;
+/// Numbers that a call reports: answer, MFN, length shown, number of occurrences, how many
+/// answers are listed. Those answers follow them.
+pub const REPORT: usize = 5;
 
 /// A list of calls as numbers, with the buffers and the room that it is given.
 #[derive(Clone, Debug, PartialEq, Eq, Default)]

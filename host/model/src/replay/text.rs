@@ -71,7 +71,8 @@ pub fn replay(replay: &Replay) -> String {
     let mut lines = format!("{stop} {}\n", replay.turns.len());
     for (_, outcome) in &replay.turns {
         let (number, mfn, len) = (outcome.number, outcome.mfn, outcome.field.len());
-        write!(lines, "{number} {mfn} {len} {}", outcome.answers.len()).unwrap();
+        let (occurrences, listed) = (outcome.occurrences, outcome.answers.len());
+        write!(lines, "{number} {mfn} {len} {occurrences} {listed}").unwrap();
         if len > 0 {
             write!(lines, " {}", String::from_utf8_lossy(&outcome.field)).unwrap();
         }

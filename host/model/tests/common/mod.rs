@@ -9,8 +9,8 @@ use std::collections::BTreeSet;
 /// the two fields by index, and the calls that tell something.
 pub const FROM_FORMAT: [(u32, &[u32]); 17] = [
     (0, &[0]),
-    (1, &[0, 4, 9, 12]),
-    (2, &[0, 4, 9, 11, 12]),
+    (1, &[0, 4, 9, 12, 15]),
+    (2, &[0, 4, 9, 11, 12, 15]),
     (3, &[0, 3, 5, 13]),
     (4, &[0, 3, 4, 9, 13]),
     (5, &[0, 4, 9, 13]),

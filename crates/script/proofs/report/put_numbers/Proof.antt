@@ -1,4 +1,4 @@
-use Rattle.script.proofs.Numbers.{place-four}
+use Rattle.script.proofs.Numbers.{place-five}
 use lib.ListN.{length-set}
 use native.Mathlib.Omega.{arith}
 use borrow.Author.Needs.{needs}
@@ -38,11 +38,20 @@ mul-answers-4 c = search needs
 slice-write-answers-4 : tie.Need-slice-write-answers-4
 slice-write-answers-4 c = simp length-set (omega arith)
 
+add-answers-4 : tie.Need-add-answers-4
+add-answers-4 c = search needs
+
+mul-answers-5 : tie.Need-mul-answers-5
+mul-answers-5 c = search needs
+
+slice-write-answers-5 : tie.Need-slice-write-answers-5
+slice-write-answers-5 c = simp length-set (omega arith)
+
 same-length : tie.Need-same-length
 same-length c = search needs
 
 returns : tie.Need-returns
-returns c = place-four _ _ _ _ _ _ (c .pre)
+returns c = place-five _ _ _ _ _ _ _ (c .pre)
 
 pub put-numbers-spec : {M : Type 1} → statement M
 put-numbers-spec =
@@ -59,5 +68,8 @@ put-numbers-spec =
     add-answers-3
     mul-answers-4
     slice-write-answers-4
+    add-answers-4
+    mul-answers-5
+    slice-write-answers-5
     same-length
     returns)

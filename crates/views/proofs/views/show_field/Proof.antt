@@ -1,5 +1,5 @@
 use borrow.Author.Needs.{needs}
-use Rattle.views.proofs.ViewAnswers.{view-answers}
+use Rattle.views.proofs.ViewAnswers.{refused-within, show-missing, show-fewer, view-answers}
 use Rattle.views.proofs.views.show_field.Statement.{statement}
 use Rattle.views.proofs.views.show_field.Tie as tie
 
@@ -33,20 +33,35 @@ find-field-requires c κs = search view-answers
 enum-known-f : tie.Need-enum-known-f
 enum-known-f c = search needs
 
-enum-told-2 : tie.Need-enum-told-2
-enum-told-2 c = search needs
+add-t18 : tie.Need-add-t18
+add-t18 c = search view-answers
+
+enum-known-f-2 : tie.Need-enum-known-f-2
+enum-known-f-2 c = search needs
 
 refused-view-requires-2 : tie.Need-refused-view-requires-2
 refused-view-requires-2 c κs = search needs
 
+enum-told-2 : tie.Need-enum-told-2
+enum-told-2 c = search needs
+
+refused-view-requires-3 : tie.Need-refused-view-requires-3
+refused-view-requires-3 c κs = search needs
+
 returns-2 : tie.Need-returns-2
 returns-2 c = search view-answers
 
-add-t12 : tie.Need-add-t12
-add-t12 c = search view-answers
-
 returns-3 : tie.Need-returns-3
-returns-3 c = search view-answers
+returns-3 c =
+    let v = c .before .before .before .before .before .before .before .v .given .1 in
+    let r = c .refused-view2 .ensures in
+    (show-fewer _ _ _ _ _ _ v _ (c .before .before .before .before .find-field .ensures) _ _ (c .before .before .f2 .given .1) r, refused-within _ _ _ _ r)
+
+returns-4 : tie.Need-returns-4
+returns-4 c =
+    let v = c .before .before .before .before .before .before .v .given .1 in
+    let r = c .refused-view3 .ensures in
+    (show-missing _ _ _ _ _ _ v _ (c .before .before .before .find-field .ensures) _ (c .before .enum-told2 .given .1) r, refused-within _ _ _ _ r)
 
 pub show-field-spec : {M : Type 1} → statement M
 show-field-spec =
@@ -62,8 +77,11 @@ show-field-spec =
     part-find-field-end
     find-field-requires
     enum-known-f
-    enum-told-2
+    add-t18
+    enum-known-f-2
     refused-view-requires-2
+    enum-told-2
+    refused-view-requires-3
     returns-2
-    add-t12
-    returns-3)
+    returns-3
+    returns-4)

@@ -1,5 +1,7 @@
+use mathlib.Core.Path.{ap}
 use borrow.Author.Needs.{needs}
-use Rattle.views.proofs.ViewAnswers.{field-answers}
+use Rattle.views.specs.declared.views.Shown.{Shown}
+use Rattle.views.proofs.ViewAnswers.{view-number, field-shown}
 use Rattle.views.proofs.views.view_field.Statement.{statement}
 use Rattle.views.proofs.views.view_field.Tie as tie
 
@@ -22,7 +24,9 @@ part-result-end : tie.Need-part-result-end
 part-result-end c = search needs
 
 returns : tie.Need-returns
-returns c = search field-answers
+returns c =
+    let e = c .before .before .before .view .ensures .0 in
+    (view-number _ _ _ _ _ _ _ e (c .before .before .number .ensures), (ap (λ (r : Shown). r .occurrences) e, field-shown _ _ _ e))
 
 pub view-field-spec : {M : Type 1} → statement M
 view-field-spec =

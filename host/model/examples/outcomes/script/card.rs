@@ -232,8 +232,12 @@ impl Card {
 
     fn shown(&mut self, what: &str, call: &str, result: store::Answer<std::ops::Range<usize>>) {
         let answer = number(&result);
+        write!(self.lines, "{what}: {call} {answer}").unwrap();
+        if let Err(Refusal::Fewer(occurrences)) = result {
+            write!(self.lines, " occurrences {occurrences}").unwrap();
+        }
         let field = String::from_utf8_lossy(&self.mst[result.unwrap_or(0..0)]);
-        writeln!(self.lines, "{what}: {call} {answer} \"{field}\"").unwrap();
+        writeln!(self.lines, " \"{field}\"").unwrap();
     }
 
     pub fn view(&mut self, what: &str, mfn: u32) {

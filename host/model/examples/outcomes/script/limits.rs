@@ -1,5 +1,5 @@
-//! What a store can hold: fields (12), bytes of the MST (13) and MFNs (5); and what lists
-//! can hold (17).
+//! What a store can hold: fields (12), occurrences of a tag (15), bytes of the MST (13) and
+//! MFNs (5); and what lists can hold (17).
 
 use super::card::Card;
 use model::OwnedDraft;
@@ -8,11 +8,12 @@ use model::ask::Room;
 pub fn run(card: &mut Card) {
     fields(card);
     settled_fields(card);
+    occurrences(card);
     room(card);
     ends(card);
 }
 
-/// 12: MFN 1 is of five fields.
+/// 12 and 15: MFN 1 is of five fields.
 fn fields(card: &mut Card) {
     let five: [(u16, &[u8]); 5] = [
         (24, b"Kite"),
@@ -54,7 +55,7 @@ const ROOMS: [Room; 7] = [
     [0, 0, 0],
 ];
 
-/// 12: the settled version of MFN 1, and MFN 2 of no fields.
+/// 12 and 15: the settled version of MFN 1, and MFN 2 of no fields.
 fn settled_fields(card: &mut Card) {
     card.settle("five fields", 1);
     card.update("one field", 1, b"Rain");
@@ -79,6 +80,43 @@ fn settled_fields(card: &mut Card) {
     card.fields("no fields in empty lists", 2, [0; 3]);
     card.next("no fields");
     card.check("no fields");
+}
+
+/// 15: MFN 1 has two fields of tag 70 and one of tag 24; then, changed, one of tag 70 and two
+/// of tag 24; then its deletion is pending.
+fn occurrences(card: &mut Card) {
+    let two: [(u16, &[u8]); 3] = [(70, b"Blake"), (24, b"Kite"), (70, b"Byron")];
+    let one: [(u16, &[u8]); 3] = [(24, b"Kit"), (24, b"Key"), (70, b"Burns")];
+    card.formatted();
+    card.create_of("two of tag 70", &OwnedDraft::of(&two).lent());
+    ask(card, "new");
+    card.settle("two of tag 70", 1);
+    ask(card, "settled");
+    card.update_of("one of tag 70", 1, &OwnedDraft::of(&one).lent());
+    ask(card, "changed");
+    for index in [2, 3] {
+        card.field(&format!("changed, index {index}"), 1, index);
+        card.settled_field(&format!("changed, index {index}"), 1, index);
+    }
+    card.delete("two of tag 24", 1);
+    ask(card, "changed, deleted");
+}
+
+/// Both views of MFN 1: occurrences that are there, fewer than asked, 0 and the highest, and
+/// a tag that does not occur.
+fn ask(card: &mut Card, what: &str) {
+    let highest = u32::MAX;
+    for (tag, asked) in [
+        (70, &[1, 2, 3, 5, 0, highest][..]),
+        (24, &[2, 3, 0, highest]),
+        (71, &[1, 2, 0, highest]),
+    ] {
+        for &occurrence in asked {
+            let what = format!("{what}, tag {tag}, occurrence {occurrence}");
+            card.view_of(&what, 1, tag, occurrence);
+            card.settled_view_of(&what, 1, tag, occurrence);
+        }
+    }
 }
 
 /// 13: 64 + 420 = 484, so that 28 bytes are left.

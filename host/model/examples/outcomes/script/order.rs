@@ -48,8 +48,10 @@ fn records(card: &mut Card) {
     card.settle("8 before 10", 1);
     card.revert("8 before 10", 1);
     card.new_record().settled_view_of("11 before 12", 1, 25, 1);
+    card.settled_view_of("11 before 15", 1, 24, 2);
     card.settled_fields("11 before 17", 1, [0; 3]);
     card.set_mst(64, 2).settled_view("8 before 11", 1);
+    card.view_of("8 before 15", 1, 24, 2);
     card.settled_fields("8 before 11", 1, [0; 3]);
     card.fields("8 before 17", 1, [0; 3]);
     card.revert("8 before 11", 1);
@@ -59,6 +61,7 @@ fn deletions(card: &mut Card) {
     card.changed_record().delete("changed", 1);
     no_room(card);
     card.view_of("9 before 12", 1, 25, 1);
+    card.view_of("9 before 15", 1, 24, 2);
     card.fields("9 before 17", 1, [0; 3]);
     card.update("9 before 13", 1, b"Kites and winds");
     card.set_mst(92 + 16, 0).view("8 before 9", 1);
