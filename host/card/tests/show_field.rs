@@ -100,7 +100,8 @@ fn under_a_pending_change_both_versions_are_told() {
         refused(15, &lines("", third), fewer)
     );
     folder.done("delete a.mst a.xrf 1");
-    let deleted = "MFN 1: deleted, changed, pending\n  settled version:\n       70  2 of 2: Byron\n";
+    let deleted =
+        "MFN 1: deleted, changed, pending\n  settled version:\n       70  2 of 2: Byron\n";
     let said = "the record is deleted";
     assert_eq!(shown(&folder, "70 2"), refused(9, deleted, said));
 }
