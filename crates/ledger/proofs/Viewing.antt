@@ -1,5 +1,5 @@
 -- What the two views answer, show and count on a sound store is what the ledger answers, shows and counts.
-use Prim.Native.Nat.{ℕ, _+_, _-_}
+use Prim.Native.Nat.{ℕ, _+_, _-_, _<_}
 use mathlib.Core.Path.{_≡_, refl, sym, ap, _∙_}
 use mathlib.Core.Bool.{Bool, true, false, cond}
 use mathlib.Core.List.{List, []}
@@ -21,6 +21,7 @@ use Rattle.views.specs.Views.{viewAnswer, settledViewAnswer, foundStart, foundL
 use Rattle.store.specs.declared.answer.Answer.{Answer}
 use Rattle.store.specs.declared.answer.Answer.the-variants.{NoMfn, Gone as GoneAnswer}
 use Rattle.store.proofs.Gates.{Refusing, after-refused, fine-reads, settled-fine-reads}
+use Rattle.views.proofs.ViewAnswers.{uncounted}
 use Rattle.ledger.specs.Call.{viewed, view, viewSettled}
 use Rattle.ledger.specs.Ledger.{itemOf, keptFields, settledFields}
 use Rattle.ledger.specs.LedgerAnswers.{bytesOf, givesL, answerL, replyL}
@@ -49,13 +50,8 @@ shown-none : (d : List ℕ) (a : Answer) (at : ℕ) (rec : List ℕ) (tag occ : 
 shown-none d a at rec tag occ b h = shown-after d a at rec tag occ ∙ after-refused a _ [] h ∙ sym (after-refused a b [] h)
 
 -- and counts nothing
-counted-absent : (a : Answer) (x y : ℕ) → a ≡ NoMfn → occurrencesWith a x ≡ occurrencesWith a y
-unfolding occurrencesWith numberOf
-counted-absent a x y e = rw e
-
-counted-gone : (a : Answer) (x y : ℕ) → a ≡ GoneAnswer → occurrencesWith a x ≡ occurrencesWith a y
-unfolding occurrencesWith numberOf
-counted-gone a x y e = rw e
+counted-none : (a b : Answer) (x y : ℕ) → a ≡ b → numberOf b < 12 → occurrencesWith a x ≡ occurrencesWith a y
+counted-none a b x y e l = rw e (uncounted b x l ∙ sym (uncounted b y l))
 
 refusing-absent : (a : Answer) → a ≡ NoMfn → Refusing a
 unfolding numberOf
@@ -94,8 +90,9 @@ module _ (s : Store) (o : Opened s) where
   view-counted : (m tag occ : ℕ) → Seen s m
       → occurrencesWith (viewAnswer s m tag occ) (occurrencesOf (fieldsOf (recordAt (s .mst) (placeFor s m))) tag)
       ≡ occurrencesWith (viewAnswer s m tag occ) (occurrencesOf (keptFields (itemOf (ledgerOf s) m)) tag)
-  view-counted m tag occ (absent k) = counted-absent _ _ _ (view-absent m tag occ k)
-  view-counted m tag occ (physically k e) = counted-gone _ _ _ (view-gone m tag occ k e)
+  unfolding numberOf
+  view-counted m tag occ (absent k) = counted-none _ NoMfn _ _ (view-absent m tag occ k) (omega arith)
+  view-counted m tag occ (physically k e) = counted-none _ GoneAnswer _ _ (view-gone m tag occ k e) (omega arith)
   view-counted m tag occ (present p k e f v) = rw (e, item-at s o m p k e)
 
   pub view-outcome : (m tag occ : ℕ) → Seen s m → answerS s (view m tag occ) ≡ answerL (ledgerOf s) (view m tag occ)
@@ -143,8 +140,9 @@ module _ (s : Store) (o : Opened s) where
   settled-counted : (m tag occ : ℕ) → Seen s m
       → occurrencesWith (settledViewAnswer s m tag occ) (occurrencesOf (fieldsOf (shownSettled (s .mst) (placeFor s m))) tag)
       ≡ occurrencesWith (settledViewAnswer s m tag occ) (occurrencesOf (settledFields (itemOf (ledgerOf s) m)) tag)
-  settled-counted m tag occ (absent k) = counted-absent _ _ _ (settled-absent m tag occ k)
-  settled-counted m tag occ (physically k e) = counted-gone _ _ _ (settled-gone m tag occ k e)
+  unfolding numberOf
+  settled-counted m tag occ (absent k) = counted-none _ NoMfn _ _ (settled-absent m tag occ k) (omega arith)
+  settled-counted m tag occ (physically k e) = counted-none _ GoneAnswer _ _ (settled-gone m tag occ k e) (omega arith)
   settled-counted m tag occ (present p k e f v) = rw (e, item-at s o m p k e, settled-fields (s .mst) p (p .mark))
 
   pub settled-view-outcome : (m tag occ : ℕ) → Seen s m → answerS s (viewSettled m tag occ) ≡ answerL (ledgerOf s) (viewSettled m tag occ)

@@ -9,7 +9,6 @@ use mathlib.Core.Bool.{Bool, true, false, not, _&&_, cond}
 use mathlib.Core.List.{List, _∷_}
 use lib.Dec.{leb}
 use lib.ListN.{length}
-use borrow.Author.Tests.{ne-eqb}
 use Rattle.word.specs.Overwrite.{part}
 use Rattle.word.proofs.Tests.{tests, and-left}
 use Rattle.layout.specs.Sizes.{endMoved, recordLength, capacityOf}
@@ -27,7 +26,7 @@ use Rattle.files.proofs.ControlRecord.{control-facts, migrated-part, migrated-l
 use Rattle.files.proofs.CrossReference.{entry-well-placed}
 use Rattle.record.specs.Record.{backAddress}
 use Rattle.record.specs.Directory.{tagAt, posAt, lenAt}
-use Rattle.record.specs.Fields.{findOf}
+use Rattle.record.specs.Fields.{fieldsOf, occurrencesOf, findOf}
 use Rattle.record.proofs.Facts.{well-formed-both}
 use Rattle.store.specs.Store.{store}
 use Rattle.store.specs.Answer.{Refusal, refuse, lowest, numberOf, after}
@@ -35,7 +34,8 @@ use Rattle.store.specs.Reading.{lengthsPermitted, mfnInRange, placeIn}
 use Rattle.store.specs.declared.answer.Answer.{Answer}
 use Rattle.store.specs.declared.answer.Answer.the-variants.{Done, BadLength, NoMfn, BadEntry, Gone as GoneAnswer, BadRecord, Deleted, NeverSettled}
 use Rattle.store.proofs.Gates.{Refusing, after-done, after-refused, after-cases, holds, namedList, list-done, back-changed}
-use Rattle.views.specs.Views.{foundStart, foundLength, occurrencesWith, shownAt}
+use Rattle.views.specs.Views.{foundStart, foundLength, shownAt}
+use Rattle.views.proofs.ViewAnswers.{uncounted}
 use Rattle.views.specs.Fields.{handedOut}
 use Rattle.asking.specs.State.{stateShown}
 use Rattle.asking.specs.Listing.{Lists, listedOver}
@@ -60,7 +60,7 @@ abbrev pub EmptyRefused : {A : Type 0} → (Answer → ℕ → List ℕ → A) �
 EmptyRefused show = (a : Answer) → Unread a → (at at′ : ℕ) (rec rec′ : List ℕ) → show a at rec ≡ show a at′ rec′
 
 pub found-empty : (tag occ : ℕ) → EmptyRefused (foundShown tag occ)
-unfolding shownAt occurrencesWith
+unfolding shownAt
 found-empty tag occ a u at at′ rec rec′ =
     let h = u .refusing in
     rw (
@@ -68,7 +68,8 @@ found-empty tag occ a u at at′ rec rec′ =
       after-refused a (foundLength (findOf rec tag occ)) 0 h,
       after-refused a (at′ + foundStart (findOf rec′ tag occ)) 0 h,
       after-refused a (foundLength (findOf rec′ tag occ)) 0 h,
-      ne-eqb (numberOf a) 15 (λ z. omega (arith, u .low)),
+      uncounted a (occurrencesOf (fieldsOf rec) tag) (omega (arith, u .low)),
+      uncounted a (occurrencesOf (fieldsOf rec′) tag) (omega (arith, u .low)),
     )
 
 pub index-empty : (i : ℕ) → EmptyRefused (indexShown i)

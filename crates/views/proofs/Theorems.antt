@@ -7,13 +7,12 @@ use mathlib.Core.Logic.{⊎-elim}
 use mathlib.Core.Bool.{Bool, true, false}
 use mathlib.Core.List.{List, []}
 use mathlib.Core.Option.{some}
-use borrow.Author.Tests.{ne-eqb}
 use Rattle.word.specs.Overwrite.{part}
 use Rattle.word.proofs.Tests.{false-true}
 use Rattle.layout.specs.Entry.{placeAddress}
 use Rattle.layout.specs.declared.entry.Place.{Place}
 use Rattle.files.specs.Control.{endOf}
-use Rattle.record.specs.Fields.{fieldsOf, fieldNamed, isMissing, isFewer, findOf}
+use Rattle.record.specs.Fields.{fieldsOf, fieldNamed, occurrencesOf, isMissing, isFewer, findOf}
 use Rattle.record.specs.declared.fields.Found.{Found}
 use Rattle.record.proofs.Search.{missing-facts, present-facts, fewer-facts, enough-facts, FoundBy, by-missing, by-fewer, by-span, found-by}
 use Rattle.record.proofs.Find.{found-there}
@@ -27,6 +26,7 @@ use Rattle.views.specs.Views.{onCurrent, onSettled, amongFields, viewAns
 use Rattle.views.specs.Versions.{ReadableAt}
 use Rattle.views.specs.Theorems.{SaysWhich, WhichMissing}
 use Rattle.views.proofs.VersionAnswers.{current-then, settled-then, current-low, settled-low, current-readable, settled-readable, settled-from}
+use Rattle.views.proofs.ViewAnswers.{uncounted}
 
 -- two answers with different numbers
 apart : {a b : Answer} → (numberOf a ≡ numberOf b → ⊥) → a ≡ b → ⊥
@@ -56,7 +56,7 @@ module _ (mst : List ℕ) (before : Answer) (at end tag occ : ℕ) (readable : b
   Says a = SaysWhich before mst (fieldsOf rec) tag occ (shownAt a at rec tag occ)
 
   before-which : Refusing before → numberOf before < 12 → Says before
-  unfolding shownAt occurrencesWith numberOf
+  unfolding shownAt numberOf
   before-which h low =
       let no = refusing-not-done before h in
       record {
@@ -64,7 +64,7 @@ module _ (mst : List ℕ) (before : Answer) (at end tag occ : ℕ) (readable : b
         fewer = λ n. ((λ e. absurd (apart (λ z. omega arith) (e .0))), (λ q. absurd (no (q .0))));
         done = ((λ e. absurd (no e)), (λ q. absurd (no (q .0))));
         shows = λ e. absurd (no e);
-        other = λ e. rw (ne-eqb (numberOf before) 15 (λ z. omega arith));
+        other = λ e. uncounted before (occurrencesOf (fieldsOf rec) tag) low;
       }
 
   module _ (d : before ≡ Done) where

@@ -31,14 +31,19 @@ use Rattle.store.specs.Store.{store}
 
 -- ---- what is shown
 
+-- no number of occurrences comes with an answer below 12
+pub uncounted : (a : Answer) (n : ℕ) → numberOf a < 12 → occurrencesWith a n ≡ 0
+unfolding occurrencesWith
+uncounted a n l = rw (ne-eqb (numberOf a) 15 (λ z. omega arith))
+
 -- a view that is refused before its fields are asked is empty
 shown-refused : (a : Answer) (at : ℕ) (rec : List ℕ) (tag occ : ℕ) → Refusing a → numberOf a < 12 → refusedView a 0 ≡ shownAt a at rec tag occ
-unfolding shownAt occurrencesWith
+unfolding shownAt
 shown-refused a at rec tag occ h l =
     rw (
       after-refused {A = ℕ} a (at + foundStart (findOf rec tag occ)) 0 h,
       after-refused {A = ℕ} a (foundLength (findOf rec tag occ)) 0 h,
-      ne-eqb (numberOf a) 15 (λ z. omega arith),
+      uncounted a (occurrencesOf (fieldsOf rec) tag) l,
     )
 
 pub refused-within : (most : ℕ) (a : Answer) (n : ℕ) (r : Shown) → r ≡ refusedView a n → r .start + r .len ≤ most
