@@ -2,7 +2,7 @@
 -- `search view-answers` finds them there; a callee's result is a variable with what the callee ensures of it.
 use Prim.Native.Nat.{ℕ, _+_, _-_, _^_, _≤_, _<_}
 use native.Mathlib.Omega.{arith}
-use mathlib.Core.Path.{_≡_, sym, ap, _∙_}
+use mathlib.Core.Path.{_≡_, sym, _∙_}
 use mathlib.Core.List.{List, []}
 use mir.Syntax.{w64}
 use mir.Val.{Fits}
@@ -131,12 +131,8 @@ module _ (mst xrf : List ℕ) (m tag occ : ℕ) (s : Shown) where
   unfolding settledViewOf shownAt
   settled-number n e h = rw (h, e)
 
-field-part : (mst : List ℕ) (s : Shown) → part mst (s .start) (s .start + s .len - s .start) ≡ shownBytes mst s
+pub field-part : (mst : List ℕ) (s : Shown) → part mst (s .start) (s .start + s .len - s .start) ≡ shownBytes mst s
 field-part mst s = let n : s .start + s .len - s .start ≡ s .len = omega arith in rw n
-
-module _ (mst : List ℕ) (s r : Shown) where
-  pub field-shown : s ≡ r → part mst (s .start) (s .start + s .len - s .start) ≡ shownBytes mst r
-  field-shown e = field-part mst s ∙ ap (shownBytes mst) e
 
 pub ruleset view-answers =
     (refused-within, show-refused, show-found, show-within, show-sum, version-end-in, version-before, version-readable, current-legible, settled-legible, view-shown, settled-view-shown, arith)

@@ -151,6 +151,26 @@ pub fn view_settled(mst: &[u8], xrf: &[u8], m: Mfn, tag: Tag, occurrence: u32) -
     show_field(mst, v, tag, occurrence)
 }
 
+// What a view found, handed out: its field as a part of the MST, the answer's number and the number of occurrences.
+fn hand_out_shown<'a>(
+    mst: &'a [u8],
+    shown: Shown,
+    answer: &mut u32,
+    occurrences: &mut u32,
+) -> &'a [u8]
+    requires { ⌜ shown .start + shown .len ≤ length (now mst) ⌝ }
+    ensures number { λ r. ⌜ now (answer .exit) ≡ numberOf (shown .answer) ⌝ }
+    ensures counted { λ r. ⌜ now (occurrences .exit) ≡ shown .occurrences ⌝ }
+    ensures part { λ r. ⌜ now r ≡ shownBytes (now (mst .entry)) shown ⌝ }
+{
+    let a = shown.answer;
+    *answer = store::answer::number(a);
+    *occurrences = shown.occurrences;
+    let start = shown.start;
+    let end = start + shown.len;
+    &mst[start..end]
+}
+
 // The field that a view shows, as a part of the MST, empty where it is refused; the answer's number goes to `answer`, and the number of occurrences
 // to `occurrences`.
 pub fn view_field<'a>(
@@ -167,12 +187,7 @@ pub fn view_field<'a>(
     ensures shown { λ r. ⌜ now r ≡ shownBytes (now (mst .entry)) (viewOf (store (now (mst .entry)) (now (xrf .entry))) (m .0) (tag .0) occurrence) ⌝ }
 {
     let shown = view(mst, xrf, m, tag, occurrence);
-    let a = shown.answer;
-    *answer = store::answer::number(a);
-    *occurrences = shown.occurrences;
-    let start = shown.start;
-    let end = start + shown.len;
-    &mst[start..end]
+    hand_out_shown(mst, shown, answer, occurrences)
 }
 
 // The same for the settled version.
@@ -190,10 +205,5 @@ pub fn view_settled_field<'a>(
     ensures shown { λ r. ⌜ now r ≡ shownBytes (now (mst .entry)) (settledViewOf (store (now (mst .entry)) (now (xrf .entry))) (m .0) (tag .0) occurrence) ⌝ }
 {
     let shown = view_settled(mst, xrf, m, tag, occurrence);
-    let a = shown.answer;
-    *answer = store::answer::number(a);
-    *occurrences = shown.occurrences;
-    let start = shown.start;
-    let end = start + shown.len;
-    &mst[start..end]
+    hand_out_shown(mst, shown, answer, occurrences)
 }
