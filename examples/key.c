@@ -111,6 +111,23 @@ static uint32_t show_state(uint32_t mfn)
     return answer;
 }
 
+/* Tests the first record, which is read from its first byte to the end, and prints where it is broken. */
+static uint32_t show_broken(uint32_t mfn)
+{
+    uint32_t next, entry = 0, answer;
+    isis_size end;
+
+    if (isis_next(mst, sizeof mst, xrf, sizeof xrf, &next, &end) != ISIS_DONE)
+        return ISIS_BAD_CONTROL;
+    answer = isis_record_test(mst + ISIS_FIRST_RECORD, end - ISIS_FIRST_RECORD, mfn, 0, &entry);
+    report("test the first record", answer);
+    if (answer != ISIS_DONE && entry == 0)
+        printf("    its leader is broken\n");
+    else if (answer != ISIS_DONE)
+        printf("    entry %u of its directory is broken\n", (unsigned)entry);
+    return answer;
+}
+
 /* A draft: the tags, the length of each field, and the bytes one after the other. */
 static const uint16_t tags[] = { TITLE, AUTHOR };
 
@@ -309,6 +326,14 @@ int main(void)
         failed = 1;
 
     failed |= report("check the whole card", isis_check(mst, sizeof mst, xrf, sizeof xrf));
+
+    /* A damaged record says where: here POS, two bytes into the second entry of the directory. */
+    uint8_t *pos = mst + ISIS_FIRST_RECORD + ISIS_LEADER + ISIS_DIRECTORY_ENTRY + 2;
+    failed |= show_broken(mfn);
+    ++*pos;
+    if (show_broken(mfn) != ISIS_BAD_RECORD)
+        failed = 1;
+    --*pos;
 
     /* A card as it was written before isis.h 2.0: NXTMFP, in bytes 12 and 13, is one less. It is
      * migrated once; firmware that meets a 2 from isis_check may try this before it gives up. */

@@ -22,10 +22,11 @@
  *   - a pointer may be NULL where its length is 0; an output's may not;
  *   - no area that is written overlaps another area.
  * A refused call (any answer but 0) changes no byte of the MST, the XRF or a list
- * that it is lent for its outputs, and sets its other outputs to 0, but for the one
- * that comes with answer 15: the number of occurrences. A call that is done writes
- * its outputs and the bytes that its paragraph names under "Touches", and no other;
- * what is lent as const is only read. So firmware needs to flush no more than these.
+ * that it is lent for its outputs, and sets its other outputs to 0, but for the two
+ * that come with an answer: the number of occurrences with 15, and the number of an
+ * entry with isis_record_test's 8. A call that is done writes its outputs and the bytes
+ * that its paragraph names under "Touches", and no other; what is lent as const is only
+ * read. So firmware needs to flush no more than these.
  *
  * Nothing is kept between calls and nothing is allocated: every function may be
  * entered again while it runs, from an interrupt or another thread, as long as no
@@ -56,7 +57,7 @@ extern "C" {
 
 /* The interface. The first number rises when a function that was here changes, the second when something is added. */
 #define ISIS_VERSION_MAJOR 3
-#define ISIS_VERSION_MINOR 0
+#define ISIS_VERSION_MINOR 1
 
 /* The format. */
 #define ISIS_BLOCK           512     /* bytes of a block, of either file */
@@ -114,7 +115,8 @@ enum isis_answer {
     ISIS_BAD_ENTRY       = 6,  /* the MFN's entry names no place that a record can have, holds both marks, or is 0;
                                   the first integer of its XRF block is wrong; create: the next MFN's entry is not 0 */
     ISIS_GONE            = 7,  /* the record is physically deleted */
-    ISIS_BAD_RECORD      = 8,  /* the record, or the settled version that is needed, is not well formed */
+    ISIS_BAD_RECORD      = 8,  /* the record, or the settled version that is needed, is not well formed, see
+                                  isis_record_test */
     ISIS_DELETED         = 9,  /* the record is deleted, pending or settled; where the settled version is asked for:
                                   deleted, and the deletion is settled */
     ISIS_NOT_PENDING     = 10, /* settle, revert: nothing is pending */
@@ -296,6 +298,26 @@ uint32_t isis_migrate(uint8_t *mst, isis_size mst_len, uint8_t *xrf, isis_size x
  * Checks the whole store: 0 exactly if it is sound, otherwise 1, 2 or 14.
  */
 uint32_t isis_check(const uint8_t *mst, isis_size mst_len, const uint8_t *xrf, isis_size xrf_len);
+
+/*
+ * Tests a single record, as every function that names an MFN does before it uses the
+ * record, and says where it is broken. record begins at the record's first byte and
+ * stops at the store's end, so that len is the end (see isis_next) less the record's
+ * address; what stands behind the record changes nothing. deleted is 0 for a record whose
+ * entry in the XRF says that it is not deleted, and anything else for one that is.
+ *
+ * The leader is right if there are 18 bytes; the MFN field is mfn, compared as 32 bits;
+ * MFRL is even, in 18 to 32766 and at most len; BASE is 18 + 6 times NVF and at most
+ * MFRL; and STATUS is 0, or 1 for a deleted record. An entry of the directory is right if
+ * its TAG is in 1 to 32767; its POS is 0 in the first entry, and the one before plus its
+ * LEN in every other; and the lengths up to its own sum to at most MFRL - BASE.
+ *
+ * Answers 0 or 8. *entry is the number, from 1, of the first entry that breaks a rule; 0
+ * where the record passes or its leader already fails. The back pointer is no part of
+ * this test, since it needs the mark and the addresses: where another function answers 8
+ * to a record that passes, it is the back pointer that is wrong, or the settled version.
+ */
+uint32_t isis_record_test(const uint8_t *record, isis_size len, uint32_t mfn, uint32_t deleted, uint32_t *entry);
 
 /*
  * The search index of a catalogue: five files, each whole in memory, which the two

@@ -12,6 +12,7 @@ ghost use Rattle.views.specs.Views.{viewOf, settledViewOf};
 ghost use Rattle.views.specs.Fields.{fieldOf, settledFieldOf};
 ghost use Rattle.asking.specs.Listing.{lists, allFieldsOf, allFieldsLeaves, settledAllFieldsOf, settledAllFieldsLeaves};
 ghost use Rattle.asking.specs.State.{nextFreeOf, stateOf, markNumber, deletedNumber};
+ghost use Rattle.asking.specs.RecordTest.{isDeleted, recordTestOf};
 ghost use Rattle.soundness.specs.Sound.{checkAnswer};
 ghost use Rattle.migrating.specs.Migrate.{migrateAnswer, migrateLeaves};
 ghost use Rattle.settling.specs.SettleList.{settleListAnswer, settleListLeaves, settleListTells};
@@ -296,6 +297,19 @@ pub extern "C" fn isis_migrate(mst: &mut [u8], xrf: &mut [u8]) -> u32
     ensures left { λ _. ⌜ store (now (mst .exit)) (now (xrf .exit)) ≡ migrateLeaves (store (now (mst .entry)) (now (xrf .entry))) ⌝ }
 {
     number(migrating::migrate::migrate(mst, xrf))
+}
+
+// Tests one record alone for an MFN, deleted (not 0) or not, all but its back pointer; the number of the first directory entry that breaks a rule
+// goes to `entry`.
+#[no_mangle]
+pub extern "C" fn isis_record_test(rec: &[u8], mfn: u32, deleted: u32, entry: &mut u32) -> u32
+    ensures answers { λ r. ⌜ r ≡ numberOf (recordTestOf (now (rec .entry)) mfn (isDeleted deleted) .answer) ⌝ }
+    ensures entries { λ _. ⌜ now (entry .exit) ≡ recordTestOf (now (rec .entry)) mfn (isDeleted deleted) .entry ⌝ }
+{
+    let tested = asking::record_test::test(rec, Mfn(mfn), deleted != 0);
+    *entry = tested.entry;
+    let a = tested.answer;
+    number(a)
 }
 
 // Checks the whole store.

@@ -13,7 +13,7 @@ use Rattle.layout.specs.declared.leader.Leader.{Leader}
 use Rattle.word.proofs.Tests.{tests}
 use Rattle.layout.proofs.Facts.{record-length-facts}
 use Rattle.record.specs.Directory.{tagAt, posAt, lenAt, entryRight, entriesRight, directoryRight}
-use Rattle.record.specs.Record.{leaderRight, extentRight, baseRight, fieldsRight, statusFor, statusRight, backFine, wellFormed, recordRight, noBack, Readable}
+use Rattle.record.specs.Record.{leaderRight, extentRight, baseRight, fieldsRight, statusFor, statusRight, backFine, wellFormed, recordRight, brokenEntry, noBack, Readable}
 use Rattle.record.specs.Inner.{testOf}
 use Rattle.record.specs.declared.test.Tested.the-variants.{WellFormed, Broken}
 
@@ -139,15 +139,24 @@ readable-facts {rec} r =
 
 -- ---- the test and the back pointer
 
+tested-right : (b : Bool) (l k : Leader) (n : ℕ) → cond b (WellFormed l) (Broken n) ≡ WellFormed k → (b ≡ true) × (l ≡ k)
+tested-right true l k n p = (refl, (cc))
+tested-right false l k n p = let z : _≡_ {A = ℕ} 0 1 = cc in absurd (omega arith)
+
+tested-broken : (b : Bool) (l : Leader) (n k : ℕ) → cond b (WellFormed l) (Broken n) ≡ Broken k → (b ≡ false) × (n ≡ k)
+tested-broken true l n k p = let z : _≡_ {A = ℕ} 0 1 = cc in absurd (omega arith)
+tested-broken false l n k p = (refl, (cc))
+
 module _ (rec : List ℕ) (m : ℕ) (deleted : Bool) where
-  -- a record that was tested well formed
-  pub test-right : (l : Leader) → testOf rec m deleted ≡ WellFormed l → recordRight rec m deleted ≡ true
+  -- a record that was tested well formed, with its leader
+  pub test-right : (l : Leader) → testOf rec m deleted ≡ WellFormed l → (recordRight rec m deleted ≡ true) × (leaderOf rec ≡ l)
   unfolding testOf
-  test-right l e = go (recordRight rec m deleted) e
-    where
-      go : (b : Bool) → cond b (WellFormed (leaderOf rec)) Broken ≡ WellFormed l → b ≡ true
-      go true h = refl
-      go false h = let z : _≡_ {A = ℕ} 0 1 = cc in absurd (omega arith)
+  test-right l e = tested-right (recordRight rec m deleted) (leaderOf rec) l (brokenEntry rec m deleted) e
+
+  -- and one that was not, with the entry that it was told
+  pub test-broken : (n : ℕ) → testOf rec m deleted ≡ Broken n → (recordRight rec m deleted ≡ false) × (brokenEntry rec m deleted ≡ n)
+  unfolding testOf
+  test-broken n e = tested-broken (recordRight rec m deleted) (leaderOf rec) (brokenEntry rec m deleted) n e
 
 -- the back pointer is 0/0
 pub record NoBackFacts (l : Leader) : Type 0 where

@@ -5,3 +5,4 @@ pub mod Search
 pub mod RecordTest
 pub mod Local
 pub mod Find
+pub mod Theorems

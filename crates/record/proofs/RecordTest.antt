@@ -2,8 +2,8 @@
 -- `search test-answers` finds them there. And what a test that passed tells the caller.
 use Prim.Native.Nat.{ℕ, _+_, _*_, _-_, _<_, _≤_}
 use native.Mathlib.Omega.{arith}
-use mathlib.Core.Path.{_≡_, refl, sym, _∙_}
-use mathlib.Core.Bool.{Bool, true, false, not, cond, and-false}
+use mathlib.Core.Path.{_≡_, refl, sym, ap, _∙_}
+use mathlib.Core.Bool.{Bool, true, false, not, _&&_, cond, and-false}
 use mathlib.Core.List.{List}
 use lib.Dec.{eqb}
 use lib.ListN.{length}
@@ -14,11 +14,12 @@ use Rattle.layout.specs.Leader.{leaderOf}
 use Rattle.layout.specs.declared.entry.Mark.{Mark}
 use Rattle.layout.specs.declared.entry.Mark.the-variants.{Settled, Changed, New}
 use Rattle.layout.specs.declared.leader.Leader.{Leader}
-use Rattle.record.specs.Directory.{directoryRight}
-use Rattle.record.specs.Record.{leaderRight, extentRight, baseRight, statusFor, statusRight, recordRight, noBack, backRight, Readable}
+use Rattle.record.specs.Directory.{isis, directoryRight}
+use Rattle.record.specs.Record.{leaderRight, extentRight, baseRight, fieldsRight, fieldsBroken, statusFor, statusRight, recordRight, brokenEntry, noBack, backRight, Readable}
 use Rattle.record.specs.Inner.{testOf}
 use Rattle.record.specs.declared.test.Tested.the-variants.{WellFormed, Broken}
-use Rattle.record.proofs.Facts.{leader-facts, right-facts, test-right, right-readable}
+use Rattle.record.proofs.Facts.{leader-facts, test-right, right-readable}
+use Rattle.record.proofs.DirectoryTest.{right-none}
 
 -- ---- the leader
 
@@ -61,17 +62,18 @@ module _ (m : ℕ) (deleted : Bool) (left : ℕ) (l : Leader) where
 -- ---- the record
 
 module _ (rec : List ℕ) (m : ℕ) (deleted : Bool) where
-  pub answer-short : length rec < 18 → Broken ≡ testOf rec m deleted
-  unfolding testOf
-  answer-short h = pick (recordRight rec m deleted) refl
+  pub answer-short : length rec < 18 → Broken 0 ≡ testOf rec m deleted
+  unfolding testOf recordRight brokenEntry
+  answer-short h = pick (leaderRight m deleted (length rec) (leaderOf rec)) refl
     where
-      pick : (b : Bool) → recordRight rec m deleted ≡ b → Broken ≡ cond b (WellFormed (leaderOf rec)) Broken
-      pick true e = let f = right-facts rec m deleted e .leader in absurd (omega arith)
+      pick : (b : Bool) → leaderRight m deleted (length rec) (leaderOf rec) ≡ b
+          → Broken 0 ≡ cond (b && fieldsRight rec (leaderOf rec)) (WellFormed (leaderOf rec)) (Broken (cond b (fieldsBroken rec (leaderOf rec)) 0))
+      pick true e = let f = leader-facts m deleted (length rec) (leaderOf rec) e in absurd (omega arith)
       pick false e = refl
 
   module _ (l : Leader) (b : Bool) (e : l ≡ leaderOf rec) (p : b ≡ leaderRight m deleted (length rec) l) where
-    pub answer-leader : not b ≡ true → Broken ≡ testOf rec m deleted
-    unfolding testOf recordRight
+    pub answer-leader : not b ≡ true → Broken 0 ≡ testOf rec m deleted
+    unfolding testOf recordRight brokenEntry
     answer-leader h = rw (← e, ← p, not-true b h)
 
     module _ (h : not b ≡ false) where
@@ -81,14 +83,18 @@ module _ (rec : List ℕ) (m : ℕ) (deleted : Bool) where
       pub need-directory : (18 + 6 * l .nvf ≤ length rec) × (l .nvf ≤ 65535) × (l .mfrl - l .base ≤ 65535)
       need-directory = let f = leader-facts m deleted (length rec) l (sym p ∙ not-false b h) in omega arith
 
-      module _ (d : Bool) (q : d ≡ directoryRight rec (l .mfrl - l .base) (l .nvf) 0 0) where
-        pub answer-right : d ≡ true → WellFormed l ≡ testOf rec m deleted
-        unfolding testOf recordRight
-        answer-right k = rw (← e, ← p, ← q, not-false b h, k)
+      module _ (n : ℕ) (q : n ≡ fieldsBroken rec l) where
+        fields-none : fieldsRight rec l ≡ eqb n 0
+        unfolding directoryRight
+        fields-none = right-none isis rec (l .mfrl - l .base) (l .nvf) 0 0 ∙ ap (λ (x : ℕ). eqb x 0) (sym q)
 
-        pub answer-wrong : d ≡ false → Broken ≡ testOf rec m deleted
+        pub answer-right : n ≡ 0 → WellFormed l ≡ testOf rec m deleted
         unfolding testOf recordRight
-        answer-wrong k = rw (← e, ← p, ← q, not-false b h, k)
+        answer-right k = rw (← e, ← p, fields-none, not-false b h, k)
+
+        pub answer-wrong : (n ≡ 0 → ⊥) → Broken n ≡ testOf rec m deleted
+        unfolding testOf recordRight brokenEntry
+        answer-wrong k = rw (← e, ← p, fields-none, not-false b h, ne-eqb n 0 k, ← q)
 
 -- ---- the back pointer
 
@@ -115,9 +121,9 @@ module _ (l : Leader) where
     back-new e s = rw (e, s)
 
 pub ruleset test-answers =
-    (leader-mfn, leader-past-end, leader-base, leader-no-room, leader-length, leader-status, answer-short, answer-leader, need-room, answer-right, answer-wrong, back-block, back-offset, back-settled, back-changed, back-new)
+    (leader-mfn, leader-past-end, leader-base, leader-no-room, leader-length, leader-status, need-room, back-block, back-offset, back-settled, back-changed, back-new)
 
 -- ---- what a test that passed tells
 
 pub readable : (rec : List ℕ) (m : ℕ) (deleted : Bool) (l : Leader) → testOf rec m deleted ≡ WellFormed l → Readable rec
-readable rec m deleted l e = right-readable rec m deleted (test-right rec m deleted l e)
+readable rec m deleted l e = right-readable rec m deleted (test-right rec m deleted l e .0)

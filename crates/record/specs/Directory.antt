@@ -1,7 +1,7 @@
 -- The directory of a record: NVF entries of TAG, POS, LEN after the leader. Document 01, "Records". A record is the part of the MST from
 -- its first byte; nothing here knows an address. The rules are said over the widths of a format, and this format's are one instance.
 use Prim.Native.Nat.{ℕ, zero, suc, _+_, _*_}
-use mathlib.Core.Bool.{Bool, true, _&&_}
+use mathlib.Core.Bool.{Bool, true, _&&_, cond}
 use mathlib.Core.List.{List}
 use lib.Dec.{eqb, leb}
 use Rattle.word.specs.Integer.{u16At}
@@ -48,6 +48,11 @@ entryRight w rec room i pos = w .permitted (tagIn w rec i) && eqb (posIn w rec i
 unfoldable pub entriesRight : Widths → List ℕ → ℕ → ℕ → ℕ → ℕ → Bool
 entriesRight w rec room zero i pos = true
 entriesRight w rec room (suc k) i pos = entryRight w rec room i pos && entriesRight w rec room k (i + 1) (pos + lenIn w rec i)
+
+-- the number, counted from 1, of the first of these entries that is not right, by the same rules; 0 where all are right. Request C-16
+unfoldable pub firstBroken : Widths → List ℕ → ℕ → ℕ → ℕ → ℕ → ℕ
+firstBroken w rec room zero i pos = 0
+firstBroken w rec room (suc k) i pos = cond (entryRight w rec room i pos) (firstBroken w rec room k (i + 1) (pos + lenIn w rec i)) (i + 1)
 
 unfoldable pub directoryRight : List ℕ → ℕ → ℕ → ℕ → ℕ → Bool
 directoryRight rec room k i pos = entriesRight isis rec room k i pos

@@ -1,5 +1,5 @@
 -- A well-formed record. Document 01, "Records". A record is read from its first byte up to the store's end.
-use Prim.Native.Nat.{ℕ, _+_, _*_, _-_, _≤_}
+use Prim.Native.Nat.{ℕ, _+_, _*_, _-_}
 use mathlib.Core.Path.{_≡_}
 use mathlib.Core.Bool.{Bool, true, not, _&&_, cond}
 use mathlib.Core.List.{List}
@@ -12,7 +12,7 @@ use Rattle.layout.specs.declared.entry.Mark.{Mark}
 use Rattle.layout.specs.declared.entry.Mark.the-variants.{Settled, Changed, New}
 use Rattle.layout.specs.declared.entry.Place.{Place}
 use Rattle.layout.specs.declared.leader.Leader.{Leader}
-use Rattle.record.specs.Directory.{directoryRight}
+use Rattle.record.specs.Directory.{isis, directoryRight, firstBroken}
 
 -- the MFN field is m; MFRL is in range and the record stops at or before the end, `left` bytes on
 unfoldable pub extentRight : ℕ → ℕ → Leader → Bool
@@ -25,6 +25,10 @@ baseRight l = eqb (l .base) (18 + 6 * l .nvf) && leb (l .base) (l .mfrl)
 -- tags in range; the first POS is 0, each next POS is the one before plus its LEN; the lengths sum to at most MFRL - BASE
 abbrev pub fieldsRight : List ℕ → Leader → Bool
 fieldsRight rec l = directoryRight rec (l .mfrl - l .base) (l .nvf) 0 0
+
+-- the number of the first entry for which one of these is not so, counted from 1; 0 where there is none
+abbrev pub fieldsBroken : List ℕ → Leader → ℕ
+fieldsBroken rec l = firstBroken isis rec (l .mfrl - l .base) (l .nvf) 0 0
 
 -- STATUS is 1 exactly if the entry is deleted, otherwise 0
 abbrev pub statusFor : Bool → ℕ
@@ -61,15 +65,21 @@ wellFormed rec end m p =
     && statusRight (p .deleted) (leaderOf rec)
     && backFine end p (leaderOf rec)
 
--- ---- Inner: serves functions and proofs, no part of what is promised
+-- ---- the record test: what is asked of a record alone, without its mark and the addresses. Request C-16
 
--- the sentences on the leader alone
+-- the leader passes: the sentences on it but for the back pointer, which needs the mark and the addresses
 unfoldable pub leaderRight : ℕ → Bool → ℕ → Leader → Bool
 leaderRight m deleted left l = extentRight m left l && baseRight l && statusRight deleted l
 
--- all but the back pointer, the leader first
+-- the record passes: all sentences but for the back pointer, the leader first
 unfoldable pub recordRight : List ℕ → ℕ → Bool → Bool
 recordRight rec m deleted = leaderRight m deleted (length rec) (leaderOf rec) && fieldsRight rec (leaderOf rec)
+
+-- the number of the first entry that breaks a rule, counted from 1; 0 if the record passes or its leader already fails
+unfoldable pub brokenEntry : List ℕ → ℕ → Bool → ℕ
+brokenEntry rec m deleted = cond (leaderRight m deleted (length rec) (leaderOf rec)) (fieldsBroken rec (leaderOf rec)) 0
+
+-- ---- Inner: serves functions and proofs, no part of what is promised
 
 -- a record whose fields can be read: the first three sentences hold, whatever its MFN, its STATUS and its back pointer
 pub record Readable (rec : List ℕ) : Type 0 where

@@ -1,4 +1,5 @@
-// The record test: leader first, then one walk over the directory. MFRL is compared with what is left before anything believes it.
+// The record test: leader first, then one walk over the directory, which ends at the first entry that breaks a rule. MFRL is compared with what is
+// left before anything believes it.
 use layout::entry::Mark;
 use layout::leader::Leader;
 use layout::sizes::Mfn;
@@ -7,9 +8,13 @@ ghost use Prim.Native.Nat.{_+_};
 ghost use Rattle.record.specs.Record.{leaderRight, statusFor, noBack, backRight};
 ghost use Rattle.record.specs.Inner.{testOf};
 
+// The number that is told where the leader fails, so that no entry is looked at.
+const NO_ENTRY: u32 = 0;
+
+// What the test found: the leader of a record that passes, or the number of the first entry that breaks a rule, counted from 1.
 pub enum Tested {
     WellFormed(Leader),
-    Broken,
+    Broken { entry: u32 },
 }
 
 // The STATUS of a record that is deleted or not.
@@ -47,19 +52,19 @@ pub fn test_record(rec: &[u8], m: Mfn, deleted: bool) -> Tested
 {
     let left = rec.len();
     if left < 18 {
-        return Tested::Broken;
+        return Tested::Broken { entry: NO_ENTRY };
     }
     let l = layout::leader::read_leader(rec);
     if !leader_right(m, deleted, left, l) {
-        return Tested::Broken;
+        return Tested::Broken { entry: NO_ENTRY };
     }
     let nvf = l.nvf as usize;
     let room = (l.mfrl - l.base) as usize;
-    if crate::directory::directory_right(rec, nvf, room) {
-        Tested::WellFormed(l)
-    } else {
-        Tested::Broken
+    let entry = crate::directory::first_broken(rec, nvf, room) as u32;
+    if entry == 0 {
+        return Tested::WellFormed(l);
     }
+    Tested::Broken { entry }
 }
 
 // Whether both parts of the back pointer are 0.

@@ -17,7 +17,6 @@ use Rattle.layout.specs.Entry.{wellPlaced, placeAddress}
 use Rattle.files.specs.CrossReference.{entryAt}
 use Rattle.files.specs.Control.{endOf, nextOf}
 use Rattle.files.specs.Inner.{controlOf}
-use Rattle.layout.specs.Leader.{leaderOf}
 use Rattle.layout.specs.declared.sizes.Mfn.{Mfn}
 use Rattle.files.specs.declared.control.Control.{Control}
 use Rattle.files.specs.declared.control.Control.the-variants.{Right, Wrong}
@@ -32,10 +31,11 @@ use Rattle.layout.proofs.entry.Mark as mark
 use Rattle.layout.proofs.Facts.{well-placed-facts}
 use Rattle.files.proofs.ControlRecord.{control-read}
 use Rattle.files.proofs.CrossReference.{entry-well-placed}
-use Rattle.record.specs.Record.{recordRight, noBack, backRight}
+use Rattle.record.specs.Record.{noBack, backRight}
 use Rattle.record.specs.Inner.{testOf}
 use Rattle.record.specs.declared.test.Tested.{Tested}
 use Rattle.record.specs.declared.test.Tested.the-variants.{WellFormed, Broken}
+use Rattle.record.proofs.Facts.{test-right, test-broken}
 use Rattle.store.specs.Answer.{numberOf, after}
 use Rattle.store.specs.Reading.{lengthsPermitted, controlFine, mfnInRange, placeIn, isMalformed, isGone, isChanged, recordAt, leaderAt, backAddress, backFine, recordFine, settledFine, versionFine}
 use Rattle.store.specs.Gate.{entryAnswer, placeKnown, settledFrom, gateOf, knownIf, knownOf, knownBoth}
@@ -113,23 +113,6 @@ module _ (end : ℕ) (p : Place) (l : Leader) (w : Bool) (e : w ≡ backRight en
 
 -- ---- the record test
 
-tested-broken : (b : Bool) (l : Leader) → cond b (WellFormed l) Broken ≡ Broken → b ≡ false
-tested-broken true l p = let z : _≡_ {A = ℕ} 0 1 = cc in absurd (omega arith)
-tested-broken false l p = refl
-
-tested-right : (b : Bool) (l k : Leader) → cond b (WellFormed l) Broken ≡ WellFormed k → (b ≡ true) × (l ≡ k)
-tested-right true l k p = (refl, (cc))
-tested-right false l k p = let z : _≡_ {A = ℕ} 0 1 = cc in absurd (omega arith)
-
-module _ (rec : List ℕ) (m : ℕ) (d : Bool) where
-  test-broken : testOf rec m d ≡ Broken → recordRight rec m d ≡ false
-  unfolding testOf
-  test-broken p = tested-broken (recordRight rec m d) (leaderOf rec) p
-
-  test-right : (l : Leader) → testOf rec m d ≡ WellFormed l → (recordRight rec m d ≡ true) × (leaderOf rec ≡ l)
-  unfolding testOf
-  test-right l p = tested-right (recordRight rec m d) (leaderOf rec) l p
-
 module _ (end : ℕ) (p : Place) (w : wellPlaced end (p .block .0) (p .offset) ≡ true) where
   pub place-block : 1 ≤ p .block .0
   place-block = well-placed-facts end (p .block .0) (p .offset) w .block
@@ -141,9 +124,9 @@ module _ (mst : List ℕ) (end m : ℕ) (p : Place) (h : end ≡ endOf mst) (at 
   tested : testOf (recordAt mst p) m (p .deleted) ≡ t
   tested = rw (← h, ← a, x)
 
-  pub place-broken : t ≡ Broken → Refused BadRecord ≡ placeKnown mst m p
+  pub place-broken : (n : ℕ) → t ≡ Broken n → Refused BadRecord ≡ placeKnown mst m p
   unfolding placeKnown
-  place-broken b = rw (fine-both mst m p, test-broken (recordAt mst p) m (p .deleted) (tested ∙ b))
+  place-broken n b = rw (fine-both mst m p, test-broken (recordAt mst p) m (p .deleted) n (tested ∙ b) .0)
 
   module _ (l : Leader) (g : t ≡ WellFormed l) (w : Bool) (b : w ≡ backFine end p l) where
     back-is : backFine (endOf mst) p (leaderAt mst p) ≡ w
@@ -207,9 +190,9 @@ module _ (mst xrf : List ℕ) (m : ℕ) where
 -- ---- the settled version
 
 module _ (mst : List ℕ) (end m at : ℕ) (t : Tested) (x : t ≡ testOf (part mst at (end - at)) m false) where
-  pub settled-broken : t ≡ Broken → false ≡ settledFrom mst end m at
+  pub settled-broken : (n : ℕ) → t ≡ Broken n → false ≡ settledFrom mst end m at
   unfolding settledFrom
-  settled-broken b = rw (test-broken (part mst at (end - at)) m false (sym x ∙ b))
+  settled-broken n b = rw (test-broken (part mst at (end - at)) m false n (sym x ∙ b) .0)
 
   pub settled-right : (l : Leader) (r : Bool) → t ≡ WellFormed l → r ≡ noBack l → r ≡ settledFrom mst end m at
   unfolding settledFrom

@@ -1,4 +1,4 @@
-//! Every call, on a thousand records each time; the record test and the field search
+//! Every call, on a thousand records each time; a settle that is refused and the field search
 //! on ten thousand records of forty fields; and copies against memcpy.
 
 use crate::cards::{Buffers, Kind, card, draft};
@@ -279,12 +279,12 @@ fn migrations(task: &Task, records: usize, settled: &Buffers) {
     );
 }
 
-/// The record test alone (settling a settled record is refused right after it), and
-/// the field search to the last of forty fields.
+/// A settle of a settled record, which is refused right after the record test, and the field
+/// search to the last of forty fields.
 fn forty_fields(task: &Task) {
     let records = task.records(10_000);
     let base = card(records, &draft(40, 10), Kind::Settled);
-    let mut tested = done("record test, 40 fields", "settle", &base, records);
+    let mut tested = done("settle refused by 10, 40 fields", "settle", &base, records);
     tested.wanted = 10;
     task.measure(
         &tested,

@@ -8,6 +8,7 @@
 //!
 //!   cargo measure                  all of it, some minutes
 //!   cargo measure quick            checks up to 16 MB only
+//!   cargo measure records          the rows of the record test only
 //!   cargo measure lists            the rows of posting lists only
 //!   cargo measure instructions     the instructions of each call, counted by callgrind
 
@@ -22,6 +23,7 @@ mod lists;
 mod lookups;
 mod machine;
 mod plain;
+mod records;
 mod rows;
 mod size;
 mod stack;
@@ -38,11 +40,14 @@ fn main() {
         [] => times(512),
         ["quick"] => times(16),
         ["instructions"] => instructions(&Task::Count),
-        ["lists"] => times_of_lists(),
+        ["records"] => times_of(records::run),
+        ["lists"] => times_of(lists::run),
         ["only", row, "library"] => only(row, Side::Library),
         ["only", row, "plain"] => only(row, Side::Plain),
         _ => {
-            eprintln!("bench: the words are 'quick', 'lists' or 'instructions', or none");
+            eprintln!(
+                "bench: the words are 'quick', 'records', 'lists' or 'instructions', or none"
+            );
             std::process::exit(64);
         }
     }
@@ -60,11 +65,11 @@ fn head() {
     clock::head("a call", &columns);
 }
 
-/// The rows of posting lists, timed.
-fn times_of_lists() {
+/// Some rows, timed.
+fn times_of(rows: fn(&Task)) {
     machine::run();
     head();
-    lists::run(&Task::Time);
+    rows(&Task::Time);
 }
 
 /// All that is timed or measured, with checks up to so many megabytes.
@@ -72,6 +77,7 @@ fn times(most: usize) {
     machine::run();
     head();
     calls::run(&Task::Time);
+    records::run(&Task::Time);
     let checks = checks::run(&Task::Time, most);
     let index_checks = lookups::run(&Task::Time, most.min(64));
     lists::run(&Task::Time);
@@ -88,6 +94,7 @@ fn instructions(task: &Task) {
     machine::run();
     clock::head("a call", &["library", "safe Rust", "ratio"]);
     calls::run(task);
+    records::run(task);
     checks::run(task, 1);
     lookups::run(task, 1);
     lists::run(task);
@@ -97,6 +104,7 @@ fn instructions(task: &Task) {
 fn only(row: &str, side: Side) {
     let task = Task::Only(row.to_string(), side);
     calls::run(&task);
+    records::run(&task);
     checks::run(&task, 1);
     lookups::run(&task, 1);
     lists::run(&task);

@@ -59,6 +59,7 @@ pub fn run() {
             reading();
             fields();
             telling();
+            testing();
             drafts();
             acts();
             searching();
@@ -179,6 +180,32 @@ fn telling() {
             }],
         );
     }
+}
+
+/// The test of a record that passes, and of one whose last entry is broken.
+fn testing() {
+    let a = arguments(Kind::Settled);
+    let mut entry = 0;
+    // SAFETY: as in `reading`; the first record stands behind the control record's 64 bytes, and
+    // its last entry behind the leader and 39 others.
+    let mut test = || unsafe {
+        black_box(raw::isis_record_test(
+            a.0.add(64),
+            a.1 - 64,
+            1,
+            0,
+            &mut entry,
+        ));
+        *a.0.add(64 + 18 + 6 * 39) = 0;
+        black_box(raw::isis_record_test(
+            a.0.add(64),
+            a.1 - 64,
+            1,
+            0,
+            &mut entry,
+        ));
+    };
+    report("record test", &mut [&mut test]);
 }
 
 /// Calls that take a draft.

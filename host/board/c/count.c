@@ -23,7 +23,7 @@ static uint8_t mst[64 * ISIS_BLOCK], xrf[ISIS_BLOCK];
 static uint16_t tags[FIELDS], lens[FIELDS];
 static uint8_t data[FIELDS * FIELD];
 static isis_size start, len, end, count, starts[FIELDS], field_lens[FIELDS];
-static uint32_t mfn, answer, occurrences, mark, deleted;
+static uint32_t mfn, answer, occurrences, mark, deleted, entry;
 static uint16_t tag, field_tags[FIELDS];
 static uint32_t mfns[RECORDS], answers[RECORDS];
 static uint64_t postings[POSTINGS];
@@ -40,6 +40,7 @@ static volatile uint32_t *const systick = (volatile uint32_t *)0xE000E010; /* co
 #define SHOWN &start, &len, &occurrences
 #define LISTS field_tags, FIELDS, starts, FIELDS, field_lens, FIELDS, &count
 #define DRAFT tags, FIELDS, lens, FIELDS, data, sizeof data
+#define RECORD mst + ISIS_FIRST_RECORD, sizeof mst - ISIS_FIRST_RECORD
 #define SLICE(i) slices[i].at, slices[i].len
 #define INDEX SLICE(0), SLICE(1), SLICE(2), SLICE(3), SLICE(4)
 #define FIRST places()[0], places()[1]
@@ -72,6 +73,7 @@ static void settle_list(void) { answer = isis_settle_list(CARD, mfns, RECORDS, a
 static void revert(void) { answer = isis_revert(CARD, 7); }
 static void migrate(void) { answer = isis_migrate(CARD); }
 static void check(void) { answer = isis_check(CARD); }
+static void record_test(void) { answer = isis_record_test(RECORD, 1, 0, &entry); }
 static void lookup_short(void) { answer = isis_lookup(INDEX, SLICE(SHORT_TERM), &block, &word); }
 static void lookup_long(void) { answer = isis_lookup(INDEX, SLICE(LONG_TERM), &block, &word); }
 static void check_index(void) { answer = isis_check_index(INDEX); }
@@ -123,6 +125,7 @@ static const struct {
     { "migrate an old card", OLD, migrate },
     { "format, 32 KB", NEW, format },
     { "check, 50 records", SETTLED, check },
+    { "record test, 8 fields", SETTLED, record_test },
     { "lookup, 9 bytes, in 1000 terms", NEW, lookup_short },
     { "lookup, 17 bytes, in 1000 terms", NEW, lookup_long },
     { "index check, 1000 terms", NEW, check_index },

@@ -17,14 +17,14 @@
  *
  * The stack below each call is painted too, so that the most that a call ever used
  * is known at the end of the list. A step on an index is index.c's, one on postings
- * postings.c's.
+ * postings.c's, and one on a single record records.c's.
  */
 #include "runner.h"
 
 extern const uint32_t list[];
 
-enum { MST_MAX = 128 * 1024, XRF_MAX = 8 * 1024, STACK = 512, KINDS = 25 };
-enum { MST_LAST, XRF_LAST, MIDDLE, ON_AN_INDEX, ON_POSTINGS };
+enum { MST_MAX = 128 * 1024, XRF_MAX = 8 * 1024, STACK = 512, KINDS = 26 };
+enum { MST_LAST, XRF_LAST, MIDDLE, ON_AN_INDEX, ON_POSTINGS, ON_A_RECORD };
 
 /* The list, and how much of it is done. */
 static const uint32_t *at = list;
@@ -305,23 +305,17 @@ static void outputs_are_wanted(void)
     answers_are_wanted();
 }
 
-static void one_step(void)
+/* A step on the card, which stood somewhere before. */
+static void card_step(uint32_t stands, uint32_t stood)
 {
-    static uint32_t stood = ~0u;
-    uint32_t stands = word(), mst_was = mst_len, xrf_was = xrf_len, changed, given;
+    uint32_t mst_was = mst_len, xrf_was = xrf_len, changed, given;
 
-    if (stands == ON_AN_INDEX || stands == ON_POSTINGS) {
-        stood = stands;
-        stands == ON_AN_INDEX ? index_step() : postings_step();
-        return;
-    }
     mst_len = word();
     xrf_len = word();
     changed = *at;
     read_changes();
     if (stands != stood || mst_len != mst_was || xrf_len != xrf_was || changed)
         lend(stands);
-    stood = stands;
     read_call(stands);
     memset(&out, RUBBISH, sizeof out);
     memset(answers, RUBBISH, call.kind == SETTLE_LIST ? 4 * ((uint32_t)call.index + 1) : 4);
@@ -332,6 +326,27 @@ static void one_step(void)
     file_is_wanted(" of the MST", mst, wanted_mst, mst_len);
     file_is_wanted(" of the XRF", xrf, wanted_xrf, xrf_len);
     each_strip(is_painted);
+}
+
+static void one_step(void)
+{
+    static uint32_t stood = ~0u;
+    uint32_t stands = word();
+
+    switch (stands) {
+    case ON_AN_INDEX:
+        index_step();
+        break;
+    case ON_POSTINGS:
+        postings_step();
+        break;
+    case ON_A_RECORD:
+        record_step();
+        break;
+    default:
+        card_step(stands, stood);
+    }
+    stood = stands;
 }
 
 /* Shuts what stands beside the card's memory, by the memory protection unit where there is one; where there is none, nothing stands there. */

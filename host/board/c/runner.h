@@ -1,6 +1,6 @@
 /*
- * runner.h: what the steps on a card (runner.c), those on an index (index.c) and those on
- * postings (postings.c) share.
+ * runner.h: what the steps on a card (runner.c), those on an index (index.c), on postings
+ * (postings.c) and on a single record (records.c) share.
  */
 #ifndef RUNNER_H
 #define RUNNER_H
@@ -30,7 +30,7 @@ void is_painted(const char *what, uint8_t *strip);
 /* Paints a strip of memory beside a buffer. */
 void paint(const char *what, uint8_t *strip);
 
-/* A slice of a step on an index or on postings: what is said of it, and where it stands. */
+/* A slice of a step on an index, on postings or on a record: what is said of it, and where it stands. */
 struct slice {
     const char *of, *before, *behind;
     uint8_t *at;
@@ -65,8 +65,9 @@ extern uint32_t *door;
 /* Makes a call, which sets the door, over so many painted words of stack; keeps the most that calls of its kind used. */
 uint32_t measured(uint32_t kind, uint32_t (*answer)(void), uint32_t words);
 
-/* A step on an index, and one on postings. */
+/* A step on an index, one on postings, and one on a record. */
 void index_step(void);
 void postings_step(void);
+void record_step(void);
 
 #endif

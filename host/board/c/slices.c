@@ -1,6 +1,6 @@
 /*
  * slices.c: where the slices of a step on an index or on postings stand, and the memory
- * beside them.
+ * beside them and beside a record.
  */
 #include "runner.h"
 

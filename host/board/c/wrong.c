@@ -2,7 +2,8 @@
  * wrong.c: a library that is wrong in one way, so that a test sees the runner say so.
  *
  * The linker puts these in the place of isis_check, isis_create, isis_view, isis_field,
- * isis_lookup and isis_postings (--wrap). Each makes the call and then does what WRONG names.
+ * isis_lookup, isis_postings and isis_record_test (--wrap). Each makes the call and then does
+ * what WRONG names.
  */
 #include "isis.h"
 
@@ -17,6 +18,7 @@ uint32_t __real_isis_lookup(const uint8_t *, isis_size, const uint8_t *, isis_si
                             const uint8_t *, isis_size, const uint8_t *, isis_size, const uint8_t *, isis_size,
                             int32_t *, int32_t *);
 uint32_t __real_isis_postings(const uint8_t *, isis_size, int32_t, int32_t, uint64_t *, isis_size, isis_size *);
+uint32_t __real_isis_record_test(const uint8_t *, isis_size, uint32_t, uint32_t, uint32_t *);
 
 enum way {
     READ_BEHIND_MST,
@@ -50,6 +52,14 @@ enum way {
     CHANGE_THE_IFP,
     CHANGE_A_POSTING,
     LEAVE_THE_COUNT,
+    READ_BEHIND_RECORD,
+    READ_BEFORE_RECORD,
+    CHANGE_THE_RECORD,
+    PASS_A_BROKEN_ENTRY,
+    COUNT_ENTRIES_FROM_0,
+    TELL_AN_ENTRY_OF_A_LEADER,
+    LEAVE_THE_ENTRY,
+    WRITE_BEHIND_THE_ENTRY,
 };
 
 static void read_at(const uint8_t *at)
@@ -163,6 +173,25 @@ uint32_t __wrap_isis_postings(const uint8_t *ifp, isis_size ifp_len, int32_t blo
     case CHANGE_THE_IFP: write_at(ifp + 20); break;
     case CHANGE_A_POSTING: write_at((const uint8_t *)out); break;
     case LEAVE_THE_COUNT: *count = answer == ISIS_DONE ? *count : left; break;
+    default: break;
+    }
+    return answer;
+}
+
+uint32_t __wrap_isis_record_test(const uint8_t *record, isis_size len, uint32_t mfn, uint32_t deleted, uint32_t *entry)
+{
+    uint32_t left = *entry;
+    uint32_t answer = __real_isis_record_test(record, len, mfn, deleted, entry);
+
+    switch ((enum way)WRONG) {
+    case READ_BEHIND_RECORD: read_at(record + len); break;
+    case READ_BEFORE_RECORD: read_at(record - 1); break;
+    case CHANGE_THE_RECORD: write_at(record); break;
+    case PASS_A_BROKEN_ENTRY: answer = *entry ? ISIS_DONE : answer; break;
+    case COUNT_ENTRIES_FROM_0: *entry -= *entry > 0; break;
+    case TELL_AN_ENTRY_OF_A_LEADER: *entry += answer != ISIS_DONE && *entry == 0; break;
+    case LEAVE_THE_ENTRY: *entry = answer == ISIS_DONE ? left : *entry; break;
+    case WRITE_BEHIND_THE_ENTRY: entry[1] = 0; break;
     default: break;
     }
     return answer;

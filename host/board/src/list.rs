@@ -3,12 +3,14 @@
 //! what it must give, and what it must change. A step on an index has the files' five
 //! lengths, what changed in them since the last such step, the call, its term, and what
 //! it must give; a step on postings has the same of one file, and the list that the call
-//! must leave.
+//! must leave; a step on a record has the record, and what it is held to.
 
 use crate::core::LIST_ROOM;
 use crate::posted::{Outputs as OfPostings, Posted};
 use crate::search::{Found, Search};
+use crate::tested::Tested;
 use differential::archive::Given;
+use differential::records;
 use model::Refusal;
 use model::ask::{Lists, RUBBISH};
 use model::call::{Call, OwnedDraft};
@@ -27,11 +29,13 @@ const PLACES: usize = 3;
 const ON_AN_INDEX: usize = PLACES;
 /// And for a step on postings.
 const ON_POSTINGS: usize = PLACES + 1;
+/// And for a step on a record.
+const ON_A_RECORD: usize = PLACES + 2;
 /// More bytes than a step takes: a draft, and a card before and after.
 const LONGEST_STEP: usize = 1 << 20;
 /// Equal bytes between two changes that are written down all the same.
 const GAP: usize = 16;
-/// The longest file of an index, and the longest list of postings, as the runner has them.
+/// The longest file of an index, list of postings, and record, as the runner has them.
 pub const SLICE_MAX: usize = 32 * 1024;
 /// The longest list that is lent for fields, as the runner has it.
 const LENT: usize = Taste::LONG.fields + 1;
@@ -262,6 +266,24 @@ impl List {
             self.put_long(*output);
         }
         self.put_bytes(&wanted.list);
+    }
+
+    /// Adds a step on a record: what it is held to, and what its test must give.
+    pub fn push_tested(&mut self, tested: Tested, wanted: records::Given) {
+        let Tested {
+            record,
+            mfn,
+            deleted,
+        } = tested;
+        let longest = record.len();
+        assert!(longest <= SLICE_MAX, "a record is longer than the runner's");
+        self.steps += 1;
+        self.put_all([ON_A_RECORD, longest]);
+        self.words.extend([mfn, deleted]);
+        self.put_bytes(record);
+        for output in [wanted.0, wanted.1] {
+            self.put_long(u64::from(output));
+        }
     }
 
     /// What changes from the card as it was, which is this one then.

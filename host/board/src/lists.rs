@@ -1,19 +1,21 @@
 //! The lists that every core is given.
 
 use crate::recorder::{
-    Recorder, of_family, of_index_family, of_postings_family, of_replay_lists, of_singles,
+    Recorder, of_family, of_index_family, of_postings_family, of_records, of_replay_lists,
+    of_singles,
 };
 use differential::damage::Damaged;
 use differential::families::{FromFormat, Hostile};
 use differential::index::cases;
 use differential::postings::cases as postings;
 use differential::random_cards::RandomCards;
+use differential::records::cases as records;
 
 /// What a list is called, and how it is made.
 pub type Named = (&'static str, fn() -> Recorder);
 
 /// All lists.
-pub const ALL: [Named; 16] = [
+pub const ALL: [Named; 18] = [
     ("replay-lists", of_replay_lists),
     ("lists-from-format", || {
         of_family(&mut FromFormat::new(), 20_000)
@@ -44,4 +46,17 @@ pub const ALL: [Named; 16] = [
         of_postings_family(postings::rubbish, 100)
     }),
     ("single-postings", || of_singles(1_000)),
+    ("broken-records", || {
+        of_records(&[records::leaders, records::entries], 1_500)
+    }),
+    ("other-records", || {
+        let families = [
+            records::right,
+            records::arguments,
+            records::poked,
+            records::chance,
+            records::rubbish,
+        ];
+        of_records(&families, 500)
+    }),
 ];

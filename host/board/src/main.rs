@@ -10,6 +10,7 @@ use board::posted::Posted;
 use board::recorder::Recorder;
 use board::runner;
 use board::search::Search;
+use board::tested;
 use model::Call;
 use model::index::{Entry, plain};
 use model::postings::build;
@@ -134,7 +135,7 @@ fn stack() {
         }
     }
     let names = Call::NAMES.into_iter().chain(Search::NAMES);
-    let names = names.chain(Posted::NAMES);
+    let names = names.chain(Posted::NAMES).chain(tested::NAMES);
     for (kind, name) in names.enumerate() {
         let numbers: Vec<String> = most.iter().map(|of| of[kind].to_string()).collect();
         line(name, &numbers);

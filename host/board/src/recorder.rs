@@ -4,12 +4,15 @@
 use crate::list::{List, SLICE_MAX};
 use crate::posted::Posted;
 use crate::search::Search;
+use crate::tested::Tested;
 use differential::archive::{Given, Subject};
 use differential::families::{Family, drive_subject, first_seed};
 use differential::guarded::Side;
 use differential::index;
 use differential::postings;
 use differential::postings::compare::Single;
+use differential::records;
+use differential::records::compare::{Case, Outcome as OfRecord};
 use differential::tally::Tally;
 use model::call::{Call, Outcome, on_bytes};
 use model::index::Files;
@@ -37,6 +40,8 @@ pub struct Recorder {
     pub searched: BTreeSet<Searched>,
     /// Which outcomes calls on postings had.
     pub posted: BTreeSet<Read>,
+    /// Which outcomes tests of records had.
+    pub tested: BTreeSet<OfRecord>,
 }
 
 impl Recorder {
@@ -63,6 +68,13 @@ impl Recorder {
         let (wanted, why) = posted.on(ifp);
         self.list().push_posted(ifp, posted, &wanted);
         self.posted.insert((posted.kind(), why));
+    }
+
+    /// The test of a record, written down with what the model tells.
+    pub fn test(&mut self, case: &Case) {
+        let (wanted, outcome) = case.wanted();
+        self.list().push_tested(Tested::of(case), wanted);
+        self.tested.insert(outcome);
     }
 
     /// A list that has room.
@@ -169,6 +181,21 @@ pub fn of_singles(cases: u64) -> Recorder {
             Posted::Compare(two),
         ] {
             recorder.post(&[], &call);
+        }
+    }
+    recorder
+}
+
+/// So many cases of each of some families of records; one that is longer than the runner's is
+/// left out.
+pub fn of_records(families: &[records::compare::Family], cases: u64) -> Recorder {
+    let mut recorder = Recorder::default();
+    for family in families {
+        for mut random in seeded(cases) {
+            let case = family(&mut random);
+            if case.record.len() <= SLICE_MAX {
+                recorder.test(&case);
+            }
         }
     }
     recorder

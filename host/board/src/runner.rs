@@ -1,14 +1,12 @@
 //! Runs the model's lists on a board, and reads what the runner says.
 
 use crate::core::Core;
-use crate::posted::Posted;
 use crate::recorder::Recorder;
-use crate::search::Search;
-use model::Call;
+use crate::tested;
 use std::fs;
 
-/// How many calls there are, on a card, on an index and on postings.
-pub const KINDS: usize = Call::NAMES.len() + Search::NAMES.len() + Posted::NAMES.len();
+/// How many calls there are, on a card, on an index, on postings and on a record.
+pub const KINDS: usize = tested::KIND + tested::NAMES.len();
 
 /// How much stack each call used at most, in bytes, by the call's kind.
 pub type Stack = [usize; KINDS];
@@ -31,6 +29,7 @@ pub fn run_with(
         "host/board/c/slices.c",
         "host/board/c/index.c",
         "host/board/c/postings.c",
+        "host/board/c/records.c",
     ];
     let files = [&own, files].concat();
     let program = core.build(name, &files, flags);

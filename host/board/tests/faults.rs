@@ -8,9 +8,12 @@ use board::runner::run_with;
 use board::search::Search;
 use differential::archive::Subject;
 use differential::guarded::Side;
+use differential::records::Parts;
+use differential::records::compare::Case;
 use model::call::{Call, OwnedDraft};
 use model::index::{Entry, plain};
 use model::postings;
+use model::random::Random;
 
 /// Format, then creates and checks in turn: 50 steps with the MST at the last byte and the
 /// XRF at the first, 50 the other way round, and 50 with a list of the draft at the last.
@@ -75,12 +78,33 @@ fn reads() -> Recorder {
     recorder
 }
 
+/// Tests of a record of three fields: as it is, at the last byte; with a wrong POS in its second
+/// entry, at the first; and held to another MFN.
+fn tests() -> Recorder {
+    let (right, mut recorder) = (
+        Parts::of(&[(24, 4), (70, 8), (69, 5)], 0, 0),
+        Recorder::default(),
+    );
+    let mut broken = right.clone();
+    broken.items[1].pos = 5;
+    for (parts, mfn) in [(&right, 7), (&broken, 7), (&right, 8)] {
+        recorder.test(&Case {
+            what: String::new(),
+            record: parts.bytes(&mut Random::new(1)),
+            mfn,
+            deleted: 0,
+            known: None,
+        });
+    }
+    recorder
+}
+
 /// What the runner says of a library that is wrong in one way.
 fn caught(core: &Core, way: &str, list: &Recorder) -> String {
     let flags = [
         &format!("-DWRONG={way}"),
         "-Wl,--wrap=isis_check,--wrap=isis_create,--wrap=isis_view,--wrap=isis_field",
-        "-Wl,--wrap=isis_lookup,--wrap=isis_postings",
+        "-Wl,--wrap=isis_lookup,--wrap=isis_postings,--wrap=isis_record_test",
     ];
     let name = format!("wrong-{way}");
     run_with(core, &name, list, &["host/board/c/wrong.c"], &flags).expect_err("nothing was noticed")
@@ -234,6 +258,44 @@ fn a_wrong_read_of_postings_is_said() {
         ),
     ] {
         assert_eq!(caught(&M0, way, &reads()), words);
+    }
+}
+
+#[test]
+fn a_byte_read_outside_of_a_record_is_a_fault() {
+    faults(&tests(), "READ_BEHIND_RECORD", 0);
+    faults(&tests(), "READ_BEFORE_RECORD", 1);
+}
+
+#[test]
+fn a_wrong_test_of_a_record_is_said() {
+    for (way, words) in [
+        (
+            "CHANGE_THE_RECORD",
+            "byte 0 of the record is 0, wanted 7, in step 0\n",
+        ),
+        (
+            "PASS_A_BROKEN_ENTRY",
+            "the answer is 0, wanted 8, in step 1\n",
+        ),
+        (
+            "COUNT_ENTRIES_FROM_0",
+            "the entry is 1, wanted 2, in step 1\n",
+        ),
+        (
+            "TELL_AN_ENTRY_OF_A_LEADER",
+            "the entry is 1, wanted 0, in step 2\n",
+        ),
+        (
+            "LEAVE_THE_ENTRY",
+            "the entry is 4008636142, wanted 0, in step 0\n",
+        ),
+        (
+            "WRITE_BEHIND_THE_ENTRY",
+            "what stands beside the entry is 0, wanted 4008636142, in step 0\n",
+        ),
+    ] {
+        assert_eq!(caught(&M0, way, &tests()), words);
     }
 }
 

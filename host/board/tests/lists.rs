@@ -9,8 +9,10 @@ use board::recorder::{Read, Searched};
 use board::runner;
 use board::search::Search;
 use differential::families::said;
+use differential::records::compare::{Outcome, Spot};
 use differential::tally::{ANSWERS, Tally};
 use model::Call;
+use model::fault::Rule;
 use model::index::fault::{Broken, Why};
 use model::postings::fault as postings;
 use model::postings::place;
@@ -113,17 +115,28 @@ fn single_postings() {
     holds(15);
 }
 
+#[test]
+fn broken_records() {
+    holds(16);
+}
+
+#[test]
+fn other_records() {
+    holds(17);
+}
+
 /// A list that never meets an answer says nothing about it, nor one that never meets the
-/// breach of a rule of an index or of postings.
+/// breach of a rule of an index, of postings or of a record.
 #[test]
 fn the_lists_meet_every_answer_and_every_broken_rule() {
     let (mut tally, mut searched) = (Tally::default(), BTreeSet::new());
-    let mut posted = BTreeSet::new();
+    let (mut posted, mut tested) = (BTreeSet::new(), BTreeSet::new());
     for (_, make) in ALL {
         let made = make();
         tally.join(&made.tally);
         searched.extend(made.searched);
         posted.extend(made.posted);
+        tested.extend(made.tested);
     }
     println!("{tally}");
     for (call, answers) in ANSWERS.iter().enumerate() {
@@ -137,6 +150,21 @@ fn the_lists_meet_every_answer_and_every_broken_rule() {
     }
     every_rule_is_broken(&searched);
     every_rule_of_postings_is_broken(&posted);
+    every_rule_of_records_is_broken(&tested);
+}
+
+/// Whether records passed, and broke each rule of a leader, and of an entry at the first, between
+/// others, and at the last.
+fn every_rule_of_records_is_broken(tested: &BTreeSet<Outcome>) {
+    let of_leader = Rule::OF_LEADER.map(Some).into_iter().chain([None]);
+    let of_leader = of_leader.map(|rule| (rule, Spot::Nowhere));
+    let of_entry = Rule::OF_ENTRY.into_iter().flat_map(|rule| {
+        let spots = Spot::OF_SEVERAL.into_iter();
+        spots.map(move |spot| (Some(rule), spot))
+    });
+    for outcome in of_leader.chain(of_entry) {
+        assert!(tested.contains(&outcome), "{outcome:?}");
+    }
 }
 
 /// Whether each call on lists of postings was done, and refused for all that it asks.

@@ -129,9 +129,9 @@ fn past_end(store: &Store, mfns: &[usize]) -> Option<String> {
     Some(entry_fault(first, &words))
 }
 
-/// A flaw with the name of the record that has it.
-fn of(name: &str, flaw: Flaw) -> Flaw {
-    let words = format!("{name}: {}", flaw.words);
+/// A flaw with the name of the version that has it, and its address.
+fn of(name: &str, at: usize, flaw: Flaw) -> Flaw {
+    let words = format!("{name}: {} (record at MST byte {at})", flaw.words);
     Flaw { words, ..flaw }
 }
 
@@ -149,16 +149,15 @@ struct Versions {
 impl Versions {
     /// The record of an MFN and, under a pending change, its settled version.
     fn add(&mut self, store: &Store, mfn: usize, place: Place) {
-        let back = self.version(store, mfn, place, "record");
+        let back = self.version(store, mfn, place, format!("MFN {mfn}"));
         if let (Some(back), Mark::Changed) = (back, place.mark) {
-            self.version(store, mfn, back, "settled version");
+            self.version(store, mfn, back, format!("MFN {mfn}, settled version"));
         }
     }
 
-    /// One version; gives the place of the settled one.
-    fn version(&mut self, store: &Store, mfn: usize, place: Place, what: &str) -> Option<Place> {
+    /// One version, by its name; gives the place of the settled one.
+    fn version(&mut self, store: &Store, mfn: usize, place: Place, name: String) -> Option<Place> {
         let at = place.at;
-        let name = format!("MFN {mfn}, {what} at MST byte {at}");
         match store.flaw(mfn, place) {
             Ok(back) => {
                 self.anchors.insert(at, mfn);
@@ -166,7 +165,7 @@ impl Versions {
                 back
             }
             Err(flaw) => {
-                self.flaws.push((at, of(&name, flaw)));
+                self.flaws.push((at, of(&name, at, flaw)));
                 self.names.entry(at).or_insert(name);
                 None
             }
@@ -181,9 +180,8 @@ impl Versions {
             .retain(|(at, flaw)| other(flaw) || !steps.contains_key(at));
         for (at, flaw) in steps {
             let name = self.names.remove(&at);
-            let unnamed = || format!("the record at MST byte {at}, to which no entry leads");
-            self.flaws
-                .push((at, of(&name.unwrap_or_else(unnamed), flaw)));
+            let name = name.unwrap_or_else(|| "a record to which no entry leads".into());
+            self.flaws.push((at, of(&name, at, flaw)));
         }
         self.flaws.sort_by_key(|(at, _)| *at);
         self.flaws.into_iter().map(|(_, flaw)| flaw).collect()

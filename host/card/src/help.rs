@@ -102,7 +102,8 @@ pub const VERBS: [Verb; 15] = [
                all are shown, the status is that of the first record that is not well formed.\n\
                One field is shown with which of how many it is, as in '70  1 of 2: Blake'. Of a field that is\n\
                not there it is told whether the record has no field of this tag (12), or has some, and how\n\
-               many, but no OCC of them (15); occurrences count from 1.\n",
+               many, but no OCC of them (15); occurrences count from 1.\n\
+               Of a record that is not well formed (8) it is told what is broken, as by 'card check'.\n",
         refusals: &[1, 2, 4, 6, 7, 8, 9, 12, 15],
     },
     Verb {
@@ -159,7 +160,9 @@ pub const VERBS: [Verb; 15] = [
         run: check::check,
         on: CARD,
         forms: &[("", "check the whole store and say what is wrong")],
-        more: "The first cause is named, and then what is independent of it.\n",
+        more: "The first cause is named, and then what is independent of it. Of a record it is told whether its\n\
+               leader is broken, or which entry of its directory is the first that is, counted from 1:\n    \
+               MFN 7: directory entry 3: POS is 40, 38 was expected (record at MST byte 530)\n",
         refusals: &[1, 2, 14],
     },
     Verb {

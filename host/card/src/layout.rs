@@ -24,6 +24,8 @@ pub const LEADER: usize = 18;
 pub const ITEM: usize = 6;
 /// Bytes of the longest record.
 pub const LONGEST: usize = 32_766;
+/// The highest tag.
+pub const LAST_TAG: usize = 32_767;
 
 /// The number in two bytes.
 pub fn short(bytes: &[u8], at: usize) -> usize {

@@ -1,8 +1,8 @@
 //! `card`: the command for a CDS/ISIS card kept in two files, and its search index.
 //!
-//! Every change is made by the proved library, and every answer number is its own.
-//! The words beside a number come from a second reading of the bytes, in `faults`,
-//! `tree_faults` and `posting_faults`.
+//! Every change is made by the proved library, and every answer number is its own; so is the
+//! number of the directory's entry that breaks a rule. The words beside a number come from a
+//! second reading of the bytes, in `faults`, `tree_faults` and `posting_faults`.
 
 mod arguments;
 mod calls;

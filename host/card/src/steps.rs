@@ -59,6 +59,6 @@ fn misfit(store: &Store, anchors: &Anchors, at: usize) -> Option<(usize, Flaw)> 
     if anchors.contains_key(&at) {
         return None;
     }
-    let flaw = store.record(at).shape(store.end).err()?;
+    let flaw = store.flaw_alone(at).err()?;
     (flaw.about != About::Other).then_some((at, flaw))
 }

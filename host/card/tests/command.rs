@@ -104,7 +104,7 @@ fn show_of_damaged_records() {
     }
     // MFN 2 stands at 98: 64 + 18 + 2 x 6 + 4. Its second tag is there 98 + 24.
     folder.damage("a.mst", 98 + 24, &[0, 0]);
-    folder.refused("show a.mst a.xrf 2", 8, "tag");
+    folder.refused("show a.mst a.xrf 2", 8, "directory entry 2: TAG is 0");
     let run = folder.card("show a.mst a.xrf");
     assert_eq!(run.status, 8);
     let lines: Vec<&str> = run.out.lines().collect();
@@ -177,9 +177,9 @@ fn check_says_what_is_wrong_and_where() {
     folder.refused(
         "check a.mst a.xrf",
         14,
-        "MFN 1, record at MST byte 64: its BASE is 25",
+        "MFN 1: leader: BASE is 25, 24 was expected, 18 + 6 times its NVF of 1 (record at MST byte 64)",
     );
-    folder.refused("show a.mst a.xrf 1", 8, "its BASE is 25");
+    folder.refused("show a.mst a.xrf 1", 8, "leader: BASE is 25");
     folder.refused("stat a.mst a.xrf", 14, "not sound");
     folder.damage("a.mst", 76, &[24]);
     folder.damage("a.xrf", 0, &[7]);

@@ -74,10 +74,7 @@ fn one_bad_length_is_one_fault() {
         finds(&folder, std::slice::from_ref(&cause));
         put(&folder, record_at(25) + 12, 25);
         put_entry(&folder, 28, 1536);
-        let others = [
-            "MFN 25, record at".to_string(),
-            "MFN 28, XRF byte".to_string(),
-        ];
+        let others = ["MFN 25: leader".to_string(), "MFN 28, XRF byte".to_string()];
         finds(&folder, &[vec![cause], others.to_vec()].concat());
         put(&folder, record_at(25) + 12, 24);
         put_entry(&folder, 28, entry_of(28));
@@ -155,7 +152,7 @@ fn a_misnumbered_block_is_one_fault() {
     folder.damage("a.xrf", 0, &[7]);
     finds(&folder, &["XRF block 1".into()]);
     put(&folder, record_at(9) + 16, 1);
-    finds(&folder, &["XRF block 1".into(), "MFN 9, record at".into()]);
+    finds(&folder, &["XRF block 1".into(), "MFN 9: leader".into()]);
 }
 
 /// An entry that leads into the middle of a record is the fault of that entry alone.
@@ -163,9 +160,9 @@ fn a_misnumbered_block_is_one_fault() {
 fn an_entry_that_leads_astray() {
     let folder = thirty("faults-entry");
     put_entry(&folder, 5, entry_of(5) + 2);
-    finds(&folder, &["MFN 5, ".into()]);
+    finds(&folder, &["MFN 5: ".into()]);
     put_entry(&folder, 5, entry_of(6));
-    finds(&folder, &["MFN 5, ".into()]);
+    finds(&folder, &["MFN 5: ".into()]);
 }
 
 /// More faults than are listed are counted.

@@ -112,7 +112,7 @@ fn a_lower_refusal_comes_first() {
     let folder = with_two_authors("lower");
     folder.refused("show a.mst a.xrf 2 70 9", 4, "MFNs 1 to 1 are given out");
     folder.damage("a.mst", 64 + 18, &[0]);
-    folder.refused("show a.mst a.xrf 1 70 9", 8, "tag");
+    folder.refused("show a.mst a.xrf 1 70 9", 8, "directory entry 1: TAG is 0");
     folder.damage("a.mst", 12, &[0]);
     folder.refused("show a.mst a.xrf 1 70 9", 2, "NXTMFP");
 }

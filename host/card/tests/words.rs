@@ -61,6 +61,8 @@ fn every_command_has_help() {
             "show",
             "15  refused: the tag occurs fewer times than asked for\n",
         ),
+        ("show", "as by 'card check'"),
+        ("check", "directory entry 3: POS is 40, 38 was expected "),
         ("lookup", "KITE: block 3, word 12"),
         ("lookup", "NAME.CNT"),
         ("check-index", "small letters"),

@@ -8,8 +8,8 @@
 //! ([`shrink`]) before it is shown. [`families`] makes trials at random; every seed
 //! is printed, and `ISIS_SEED=n` runs others.
 //!
-//! [`index`] does the same for the two calls on a search index, which is only read, and
-//! [`postings`] for the six on its postings.
+//! [`records`] does the same for the test of a single record, [`index`] for the two calls on a
+//! search index, which is only read, and [`postings`] for the six on its postings.
 
 pub mod archive;
 pub mod biblio;
@@ -20,6 +20,7 @@ pub mod index;
 mod lent;
 pub mod postings;
 pub mod random_cards;
+pub mod records;
 pub mod seeds;
 pub mod shrink;
 pub mod tally;

@@ -10,6 +10,7 @@ mod subject {
     use differential::guarded::Side;
     use differential::index::{self, Reader};
     use differential::postings::{self as posted, Element, Reader as _};
+    use differential::records::{self, Tester as _};
     use model::ask::{Lists, State};
     use model::call::{Call, OwnedDraft};
     use model::index::Files;
@@ -259,6 +260,10 @@ mod subject {
 
     pub fn posting_compare(a: u64, b: u64) -> u32 {
         posted(&[]).compare(a, b)
+    }
+
+    pub fn record_test(record: &[u8], mfn: u32, deleted: u32) -> (u32, u32) {
+        records::Archive::new().test(record, mfn, deleted, Side::Back)
     }
 }
 

@@ -23,8 +23,9 @@
 //! # Ok::<(), isis::Refusal>(())
 //! ```
 //!
-//! A [`CardRef`] reads a card whose bytes may not be written. An [`Index`] looks terms up in
-//! the five files of a search index, and an [`Ifp`] reads the lists of their postings.
+//! A [`CardRef`] reads a card whose bytes may not be written. [`record_test`] says of a single
+//! record where it is broken. An [`Index`] looks terms up in the five files of a search index,
+//! and an [`Ifp`] reads the lists of their postings.
 
 mod draft;
 mod fields;
@@ -32,6 +33,7 @@ mod index;
 mod postings;
 pub mod raw;
 mod reader;
+mod record;
 mod refusal;
 mod state;
 
@@ -40,6 +42,7 @@ pub use fields::{Field, Fields};
 pub use index::{IfpPlace, Index};
 pub use postings::{Ifp, Posting, Postings};
 pub use reader::CardRef;
+pub use record::{Broken, record_test};
 pub use refusal::{Answer, Refusal};
 pub use state::{Mark, Next, State};
 use std::ops::Range;

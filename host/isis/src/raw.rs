@@ -191,6 +191,15 @@ unsafe extern "C" {
     /// Checks the whole store.
     pub fn isis_check(mst: *const u8, mst_len: usize, xrf: *const u8, xrf_len: usize) -> u32;
 
+    /// Tests a single record and tells the first entry of its directory that breaks a rule.
+    pub fn isis_record_test(
+        record: *const u8,
+        len: usize,
+        mfn: u32,
+        deleted: u32,
+        entry: *mut u32,
+    ) -> u32;
+
     /// Looks a term up in an index.
     pub fn isis_lookup(
         cnt: *const u8,

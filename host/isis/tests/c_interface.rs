@@ -40,6 +40,8 @@ fn the_example_compiles_without_a_warning_and_does_what_it_says() {
         "{printed}"
     );
     assert!(printed.contains("answer 10\n"), "{printed}");
+    let broken = "    entry 2 of its directory is broken\n";
+    assert!(printed.contains(broken), "{printed}");
     let postings = "    postings of HOSSEINI, KHALED: block 1, word 9\n";
     assert!(printed.contains(postings), "{printed}");
     assert!(printed.contains("answer 22\n"), "{printed}");

@@ -53,6 +53,8 @@ int main(void)
     IS(ISIS_BAD_LENGTH, isis_migrate(mst, sizeof mst, NULL, 0));
     IS(ISIS_BAD_LENGTH, isis_migrate(NULL, 0, xrf, sizeof xrf));
     IS(ISIS_BAD_LENGTH, isis_check(NO_CARD));
+    IS(ISIS_BAD_RECORD, isis_record_test(NULL, 0, 1, 0, &mark));
+    IS(0, mark);
     IS(ISIS_BAD_TERM, isis_lookup(NO_INDEX, NULL, 0, &block, &word));
     IS(ISIS_BAD_INDEX, isis_lookup(NO_INDEX, (const uint8_t *)"KITE", 4, &block, &word));
     IS(ISIS_BAD_INDEX, isis_check_index(NO_INDEX));

@@ -102,6 +102,7 @@ pub enum DirectoryFault {
         wanted: usize,
     },
     Sum {
+        item: usize,
         sum: usize,
         room: usize,
     },
@@ -120,9 +121,9 @@ impl fmt::Display for DirectoryFault {
             } => {
                 write!(f, "the POS of field {item} is {found}, not {wanted}")
             }
-            Self::Sum { sum, room } => write!(
+            Self::Sum { item, sum, room } => write!(
                 f,
-                "its field lengths sum to {sum}, but only {room} bytes follow its BASE"
+                "with field {item} its lengths sum to {sum}, but only {room} bytes follow its BASE"
             ),
         }
     }
@@ -154,9 +155,10 @@ impl fmt::Display for BackFault {
 #[derive(Clone, Copy, Debug, PartialEq, Eq)]
 #[allow(missing_docs)]
 pub enum RecordFault {
+    Short { found: usize },
     Mfn { found: i32 },
     Mfrl { found: u16 },
-    PastEnd { mfrl: u16, end: usize },
+    PastEnd { mfrl: u16, left: usize },
     Base { found: u16, nvf: u16 },
     BasePastMfrl { base: u16, mfrl: u16 },
     Directory(DirectoryFault),
@@ -164,9 +166,82 @@ pub enum RecordFault {
     Back(BackFault),
 }
 
+/// A rule of the record test, so that tests can say that each was broken.
+#[derive(Clone, Copy, Debug, PartialEq, Eq, PartialOrd, Ord, Hash)]
+pub enum Rule {
+    /// There are 18 bytes.
+    Bytes,
+    /// The MFN field.
+    Mfn,
+    /// MFRL is in range.
+    Mfrl,
+    /// The record stops at or before the end.
+    BeforeEnd,
+    /// BASE = 18 + 6 × NVF.
+    Base,
+    /// BASE is at most MFRL.
+    BaseWithin,
+    /// STATUS.
+    Status,
+    /// An entry's tag.
+    Tag,
+    /// An entry's POS.
+    Pos,
+    /// The sum of the lengths up to an entry.
+    Sum,
+}
+
+impl Rule {
+    /// Those of the leader.
+    pub const OF_LEADER: [Rule; 7] = [
+        Rule::Bytes,
+        Rule::Mfn,
+        Rule::Mfrl,
+        Rule::BeforeEnd,
+        Rule::Base,
+        Rule::BaseWithin,
+        Rule::Status,
+    ];
+
+    /// Those of an entry.
+    pub const OF_ENTRY: [Rule; 3] = [Rule::Tag, Rule::Pos, Rule::Sum];
+}
+
+impl RecordFault {
+    /// The rule of the record test that is broken; the back pointer is no part of that.
+    pub fn rule(self) -> Option<Rule> {
+        Some(match self {
+            Self::Short { .. } => Rule::Bytes,
+            Self::Mfn { .. } => Rule::Mfn,
+            Self::Mfrl { .. } => Rule::Mfrl,
+            Self::PastEnd { .. } => Rule::BeforeEnd,
+            Self::Base { .. } => Rule::Base,
+            Self::BasePastMfrl { .. } => Rule::BaseWithin,
+            Self::Status { .. } => Rule::Status,
+            Self::Directory(DirectoryFault::Tag { .. }) => Rule::Tag,
+            Self::Directory(DirectoryFault::Pos { .. }) => Rule::Pos,
+            Self::Directory(DirectoryFault::Sum { .. }) => Rule::Sum,
+            Self::Back(_) => return None,
+        })
+    }
+
+    /// The number of the directory's entry that breaks a rule, from 1; 0 for any other fault.
+    pub fn entry(self) -> usize {
+        match self {
+            Self::Directory(
+                DirectoryFault::Tag { item, .. }
+                | DirectoryFault::Pos { item, .. }
+                | DirectoryFault::Sum { item, .. },
+            ) => item,
+            _ => 0,
+        }
+    }
+}
+
 impl fmt::Display for RecordFault {
     fn fmt(&self, f: &mut fmt::Formatter<'_>) -> fmt::Result {
         match self {
+            Self::Short { found } => write!(f, "it has {found} bytes, and a leader has 18"),
             Self::Mfn { found } => write!(f, "its MFN field is {found}"),
             Self::Mfrl { found } => {
                 write!(
@@ -174,9 +249,10 @@ impl fmt::Display for RecordFault {
                     "its MFRL is {found}, not an even number from 18 to 32766"
                 )
             }
-            Self::PastEnd { mfrl, end } => {
-                write!(f, "with its MFRL of {mfrl} it runs past the end, {end}")
-            }
+            Self::PastEnd { mfrl, left } => write!(
+                f,
+                "with its MFRL of {mfrl} it runs past the end: {left} bytes are left"
+            ),
             Self::Base { found, nvf } => {
                 write!(f, "its BASE is {found}, not 18 + 6 times its NVF of {nvf}")
             }

@@ -8,8 +8,9 @@
 //!   paper states it: collect the steps, then look at every entry; and the calls
 //!   that tell something of a card ([`ask`]), from the words of the header;
 //!   NXTMFP counts from one, and old cards are migrated, as request C-12 has it; a whole
-//!   list is settled, as request C-13 has it; and a view tells which kind of missing it met, as
-//!   request C-15 has it;
+//!   list is settled, as request C-13 has it; a view tells which kind of missing it met, as
+//!   request C-15 has it; and the record test ([`record_test`]) tells the first entry of a
+//!   directory that breaks a rule, as request C-16 has it;
 //! * the **ledger** ([`ledger`]): the plain ledger of demand 3, which never sees a
 //!   buffer and is only fed the calls.
 //!
@@ -34,6 +35,7 @@ pub mod outcome;
 pub mod postings;
 pub mod random;
 pub mod record;
+pub mod record_test;
 pub mod replay;
 pub mod sound;
 pub mod store;

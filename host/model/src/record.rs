@@ -1,12 +1,12 @@
-//! Records: the leader, the directory, the data, and the test of "Records".
+//! Records: the leader, the directory, the data, and the back pointer; what else "Records" asks is
+//! the record test ([`record_test`](crate::record_test)).
 
 use crate::answer::Refusal;
 use crate::bytes::{i32_at, put_i32, put_u16, u16_at};
 use crate::draft::Draft;
-use crate::fault::{BackFault, DirectoryFault, RecordFault};
-use crate::layout::{
-    ITEM, LAST_TAG, LEADER, LONGEST, Mark, Place, block_and_offset, well_formed_place,
-};
+use crate::fault::{BackFault, RecordFault};
+use crate::layout::{ITEM, LEADER, LONGEST, Mark, Place, block_and_offset, well_formed_place};
+use crate::record_test::{Paper, test_by};
 use std::ops::Range;
 
 /// The eighteen bytes that a record begins with.
@@ -70,7 +70,8 @@ pub struct Record {
     pub data: usize,
 }
 
-/// Tests the record of MFN `mfn` at its entry's place, with the end known.
+/// Tests the record of MFN `mfn` at its entry's place, with the end known: the record test, and
+/// then the back pointer.
 pub fn well_formed(
     mst: &[u8],
     end: usize,
@@ -78,58 +79,9 @@ pub fn well_formed(
     place: Place,
 ) -> Result<Record, RecordFault> {
     let at = place.address();
-    let leader = Leader::read(mst, at);
-    if leader.mfn as i64 != mfn as i64 {
-        return Err(RecordFault::Mfn { found: leader.mfn });
-    }
-    let mfrl = leader.length;
-    if !length_right(mfrl) {
-        return Err(RecordFault::Mfrl { found: mfrl });
-    }
-    if at + usize::from(mfrl) > end {
-        return Err(RecordFault::PastEnd { mfrl, end });
-    }
-    let (base, nvf) = (leader.base, leader.fields);
-    if usize::from(base) != LEADER + ITEM * usize::from(nvf) {
-        return Err(RecordFault::Base { found: base, nvf });
-    }
-    if base > mfrl {
-        return Err(RecordFault::BasePastMfrl { base, mfrl });
-    }
-    let items = &mst[at + LEADER..at + usize::from(base)];
-    let data = directory(items, usize::from(mfrl - base)).map_err(RecordFault::Directory)?;
-    let (found, wanted) = (leader.status, u16::from(place.deleted));
-    if found != wanted {
-        return Err(RecordFault::Status { found, wanted });
-    }
+    let (leader, data) = test_by(&Paper, &mst[at..end], mfn as u32, place.deleted.into())?;
     back_pointer(&leader, at, end, place.mark).map_err(RecordFault::Back)?;
     Ok(Record { at, leader, data })
-}
-
-/// Tests the directory, with room for so many data bytes; gives the sum of its lengths.
-fn directory(items: &[u8], room: usize) -> Result<usize, DirectoryFault> {
-    let mut sum = 0;
-    for (i, item) in items.chunks_exact(ITEM).enumerate() {
-        let (tag, pos) = (u16_at(item, 0), u16_at(item, 2));
-        if !(1..=LAST_TAG).contains(&tag) {
-            return Err(DirectoryFault::Tag {
-                item: i + 1,
-                found: tag,
-            });
-        }
-        if usize::from(pos) != sum {
-            return Err(DirectoryFault::Pos {
-                item: i + 1,
-                found: pos,
-                wanted: sum,
-            });
-        }
-        sum += usize::from(u16_at(item, 4));
-    }
-    if sum > room {
-        return Err(DirectoryFault::Sum { sum, room });
-    }
-    Ok(sum)
 }
 
 /// Tests the back pointer of a record at `at` under a mark.

@@ -12,6 +12,7 @@ mod subject {
         compare as posting_compare, read as posting_read, write as posting_write,
     };
     pub use model::postings::{common, joined, postings};
+    pub use model::record_test::record_test;
     pub use model::store::{
         Answer, Indexed, check, create, delete, field, field_settled, format, migrate, revert,
         settle, settle_list, update, view, view_settled,
@@ -25,7 +26,7 @@ const EXPECTED: &str = include_str!("../examples/outcomes/expected.txt");
 
 /// The calls and the answers that the paper's table gives to each; a field by its
 /// index is answered as a view, and the calls that tell something as the header says.
-const ANSWERS: [(&str, &[u32]); 25] = [
+const ANSWERS: [(&str, &[u32]); 26] = [
     ("format", &[0, 1]),
     ("view", &[0, 1, 2, 4, 6, 7, 8, 9, 12, 15]),
     ("settled view", &[0, 1, 2, 4, 6, 7, 8, 9, 11, 12, 15]),
@@ -51,6 +52,7 @@ const ANSWERS: [(&str, &[u32]); 25] = [
     ("postings", &[0, 17, 23]),
     ("common", &[0, 17, 23]),
     ("joined", &[0, 17, 23]),
+    ("record test", &[0, 8]),
 ];
 
 /// The answer of a line that tells of a call.

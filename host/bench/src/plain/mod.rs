@@ -43,6 +43,8 @@ pub mod called {
         store::revert(mst: &[u8], xrf: &mut [u8], mfn: u32) -> u32;
         write::migrate(mst: &mut [u8], xrf: &[u8]) -> u32;
         check::check(mst: &[u8], xrf: &[u8]) -> u32;
+        record::record_test(record: &[u8], mfn: u32, deleted: u32) -> (u32, u32);
+        record::record_test_plainly(record: &[u8], mfn: u32, deleted: u32) -> (u32, u32);
         index::lookup(cnt: &[u8], n01: &[u8], l01: &[u8], n02: &[u8], l02: &[u8], term: &[u8]) -> (u32, i32, i32);
         index::check_index(cnt: &[u8], n01: &[u8], l01: &[u8], n02: &[u8], l02: &[u8]) -> u32;
         postings::postings(ifp: &[u8], from: (i32, i32), out: &mut [u64]) -> (u32, usize);
@@ -60,6 +62,7 @@ pub mod inlined {
     pub use super::check::check;
     pub use super::index::{check_index, lookup};
     pub use super::postings::{common, joined, postings};
+    pub use super::record::{record_test, record_test_plainly};
     pub use super::store::{
         delete, field, field_settled, revert, settle, settle_list, view, view_settled,
     };

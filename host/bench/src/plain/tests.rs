@@ -6,6 +6,8 @@ use differential::index::cases;
 use differential::index::compare::{Case, Family};
 use differential::postings::compare::{KINDS, broken, drive_reader};
 use differential::postings::{self as posted, Element, Given, Reader};
+use differential::records::compare::{Family as OfRecords, drive_tester};
+use differential::records::{self, Tester, cases as tested};
 use model::Refusal;
 use model::ask::{Lists, RUBBISH, Room};
 use model::call::{Call, Outcome, Shown, on_bytes};
@@ -185,6 +187,36 @@ fn the_plain_lookup_and_index_check_do_the_same_as_the_model() {
         let (number, ()) = numbered(check(&files));
         let found = called::check_index(cnt, n01, l01, n02, l02);
         assert_eq!(found, number, "{seed}, {what}");
+    }
+}
+
+/// The record test in plain safe Rust.
+struct PlainTest;
+
+impl Tester for PlainTest {
+    fn test(&mut self, record: &[u8], mfn: u32, deleted: u32, _: Side) -> records::Given {
+        let given = called::record_test(record, mfn, deleted);
+        let plainly = called::record_test_plainly(record, mfn, deleted);
+        assert_eq!(plainly, given, "one entry in a turn and four");
+        given
+    }
+}
+
+/// On the families that the library is held to the model with.
+#[test]
+fn the_plain_record_test_is_that_of_the_model() {
+    let families: [OfRecords; 7] = [
+        tested::right,
+        tested::leaders,
+        tested::entries,
+        tested::arguments,
+        tested::poked,
+        tested::chance,
+        tested::rubbish,
+    ];
+    for family in families {
+        let held = drive_tester(&mut PlainTest, family, 20_000, 1);
+        held.unwrap_or_else(|words| panic!("{words}"));
     }
 }
 

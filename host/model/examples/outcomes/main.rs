@@ -11,6 +11,7 @@ mod subject {
         compare as posting_compare, read as posting_read, write as posting_write,
     };
     pub use model::postings::{common, joined, postings};
+    pub use model::record_test::record_test;
     pub use model::store::{
         Answer, Indexed, check, create, delete, field, field_settled, format, migrate, revert,
         settle, settle_list, update, view, view_settled,

@@ -11,6 +11,7 @@ mod marks;
 mod migration;
 mod order;
 mod postings;
+mod record_tests;
 mod records;
 mod refusals;
 mod soundness_faults;
@@ -34,5 +35,5 @@ pub fn lines() -> String {
     refusals::lengths(&mut card);
     let mut large = Card::new(3584);
     limits::capacity(&mut large);
-    card.lines + &large.lines + &index::lines() + &postings::lines()
+    card.lines + &large.lines + &index::lines() + &postings::lines() + &record_tests::lines()
 }
