@@ -191,7 +191,7 @@ impl Versions {
 #[cfg(test)]
 mod tests {
     use super::*;
-    use crate::trials::{Dice, card, damage};
+    use crate::trials::{Dice, damaged};
     use isis::{CardRef, Refusal};
 
     /// A cause is named exactly where the library finds the store not sound, and a fault of
@@ -201,8 +201,7 @@ mod tests {
         let mut dice = Dice(12);
         let (mut sound, mut not_sound, mut refused) = (0, 0, 0);
         for _ in 0..20_000 {
-            let (mut mst, mut xrf) = card(&mut dice);
-            damage(&mut dice, &mut mst, &mut xrf);
+            let (mst, xrf) = damaged(&mut dice);
             let card = CardRef::over(&mst, &xrf);
             match card.check() {
                 Ok(()) => sound += 1,

@@ -213,7 +213,7 @@ impl Record<'_> {
 mod tests {
     use super::*;
     use crate::layout::Entry;
-    use crate::trials::{Dice, card, damage};
+    use crate::trials::{Dice, damaged};
     use isis::CardRef;
     use model::record_test::record_test;
 
@@ -237,8 +237,7 @@ mod tests {
         let mut dice = Dice(16);
         let (mut passed, mut leaders, mut entries) = (0, 0, 0);
         for _ in 0..30_000 {
-            let (mut mst, mut xrf) = card(&mut dice);
-            damage(&mut dice, &mut mst, &mut xrf);
+            let (mst, xrf) = damaged(&mut dice);
             let Ok(store) = Store::open(CardRef::over(&mst, &xrf)) else {
                 continue;
             };

@@ -128,15 +128,14 @@ pub fn space(store: &Store, spans: &[Span]) -> Space {
 #[cfg(test)]
 mod tests {
     use super::*;
-    use crate::trials::{Dice, card, damage};
+    use crate::trials::{Dice, damaged};
     use isis::CardRef;
 
     #[test]
     fn any_card_is_surveyed_and_its_space_adds_up() {
         let mut dice = Dice(7);
         for _ in 0..5_000 {
-            let (mut mst, mut xrf) = card(&mut dice);
-            damage(&mut dice, &mut mst, &mut xrf);
+            let (mst, xrf) = damaged(&mut dice);
             let Ok(store) = Store::open(CardRef::over(&mst, &xrf)) else {
                 continue;
             };

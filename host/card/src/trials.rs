@@ -28,8 +28,15 @@ impl Dice {
     }
 }
 
+/// An MST and an XRF after some calls, damaged.
+pub fn damaged(dice: &mut Dice) -> (Vec<u8>, Vec<u8>) {
+    let (mut mst, mut xrf) = card(dice);
+    damage(dice, &mut mst, &mut xrf);
+    (mst, xrf)
+}
+
 /// An MST and an XRF after some calls.
-pub fn card(dice: &mut Dice) -> (Vec<u8>, Vec<u8>) {
+fn card(dice: &mut Dice) -> (Vec<u8>, Vec<u8>) {
     let (mut mst, mut xrf) = (vec![0; 512 * (1 + dice.below(6))], vec![0; 512]);
     let mut card = Card::over(&mut mst, &mut xrf);
     card.format().unwrap();
@@ -51,7 +58,7 @@ pub fn card(dice: &mut Dice) -> (Vec<u8>, Vec<u8>) {
 }
 
 /// Changes a few bytes anywhere, most of them where much depends on them.
-pub fn damage(dice: &mut Dice, mst: &mut [u8], xrf: &mut [u8]) {
+fn damage(dice: &mut Dice, mst: &mut [u8], xrf: &mut [u8]) {
     for _ in 0..dice.below(4) {
         let bytes = if dice.below(3) == 0 {
             &mut *xrf
