@@ -4,9 +4,10 @@
  * The key keeps a card in two static buffers. This program formats it, catalogues
  * two books, changes a title by mistake while the index still describes the right
  * one, takes the change back, deletes the other book, settles what is left in one call,
- * and checks the card. Then it migrates a card of the old rule, looks terms up in a search
- * index, and reads where they occur. On a key, each call that writes would follow one touch
- * of the sensor; firmware/main.c does so. It compiles unchanged for both:
+ * and checks the card. Then it migrates a card of the old rule, recounts one that did not
+ * keep the number of its records, looks terms up in a search index, and reads where they
+ * occur. On a key, each call that writes would follow one touch of the sensor;
+ * firmware/main.c does so. It compiles unchanged for both:
  *
  *   cc -std=c11 -Wall -Wextra -Werror -Iinclude examples/key.c target/staticlib/libisis.a -o key
  *   firmware/run cortex-m0 examples/key.c
@@ -109,6 +110,16 @@ static uint32_t show_state(uint32_t mfn)
     answer |= isis_next(mst, sizeof mst, xrf, sizeof xrf, &next, &end);
     printf("    the next MFN is %u, its record begins at %u\n", (unsigned)next, (unsigned)end);
     return answer;
+}
+
+/* Prints RECCNT: how many records are neither deleted nor physically deleted, least significant byte first. */
+static uint32_t show_count(void)
+{
+    const uint8_t *at = mst + ISIS_RECCNT_AT;
+    uint32_t count = at[0] | (uint32_t)at[1] << 8 | (uint32_t)at[2] << 16 | (uint32_t)at[3] << 24;
+
+    printf("    RECCNT is %u\n", (unsigned)count);
+    return count;
 }
 
 /* Tests the first record, which is read from its first byte to the end, and prints where it is broken. */
@@ -326,6 +337,8 @@ int main(void)
         failed = 1;
 
     failed |= report("check the whole card", isis_check(mst, sizeof mst, xrf, sizeof xrf));
+    if (show_count() != 1)
+        failed = 1;
 
     /* A damaged record says where: here POS, two bytes into the second entry of the directory. */
     uint8_t *pos = mst + ISIS_FIRST_RECORD + ISIS_LEADER + ISIS_DIRECTORY_ENTRY + 2;
@@ -344,6 +357,16 @@ int main(void)
     failed |= report("check it again", isis_check(mst, sizeof mst, xrf, sizeof xrf));
     if (report("migrate again: it is not old", isis_migrate(mst, sizeof mst, xrf, sizeof xrf)) != ISIS_BAD_CONTROL)
         failed = 1;
+
+    /* A card as it was written before isis.h 4.0: RECCNT holds anything. It is sound apart from
+     * that, so it can be used; firmware that meets a 14 from isis_check may try this first. */
+    mst[ISIS_RECCNT_AT] = 7;
+    if (report("check a card that was not counted", isis_check(mst, sizeof mst, xrf, sizeof xrf)) != ISIS_NOT_SOUND)
+        failed = 1;
+    failed |= report("count its records", isis_recount(mst, sizeof mst, xrf, sizeof xrf));
+    if (show_count() != 1)
+        failed = 1;
+    failed |= report("check it once more", isis_check(mst, sizeof mst, xrf, sizeof xrf));
 
     struct place kite, hosseini, none;
     write_tree(1, n01, l01, "KITE", 1, KITE);

@@ -16,6 +16,14 @@
  * offset itself there; isis_migrate makes them cards of today, and until then every
  * other function but isis_format answers 2 to them, isis_settle_list for each MFN.
  *
+ * Bytes 16 to 19 of the control record (RECCNT, a signed number) hold how many records
+ * are there that are neither deleted nor physically deleted, as the desktop's statistics
+ * page reads it. isis_create, isis_delete and isis_revert keep it. Cards written before
+ * isis.h 4.0 have anything there; isis_recount writes it, and until then isis_check
+ * answers 14 where it is wrong. No other function compares it with the records: each
+ * does its work whatever stands there, but for the numbers that leave no room for one
+ * more or one less, see isis_create, isis_delete and isis_revert.
+ *
  * Every function may be called on any bytes with any arguments; it stays inside
  * what it is lent and always ends. C's own rules are all that is asked for:
  *   - every pointer is valid for its length, counted in elements;
@@ -56,8 +64,8 @@ extern "C" {
 #endif
 
 /* The interface. The first number rises when a function that was here changes, the second when something is added. */
-#define ISIS_VERSION_MAJOR 3
-#define ISIS_VERSION_MINOR 1
+#define ISIS_VERSION_MAJOR 4
+#define ISIS_VERSION_MINOR 0
 
 /* The format. */
 #define ISIS_BLOCK           512     /* bytes of a block, of either file */
@@ -70,6 +78,7 @@ extern "C" {
 #define ISIS_RECORD_MAX      32766   /* bytes of the longest record */
 #define ISIS_TAG_MAX         32767   /* the highest tag; the lowest is 1 */
 #define ISIS_FIELDS_MAX      5458    /* the most fields of a record */
+#define ISIS_RECCNT_AT       16      /* where the four bytes of RECCNT begin in the MST */
 #define ISIS_CNT             52      /* bytes of an index's CNT */
 #define ISIS_SHORT_TERM_MAX  10      /* bytes of the longest term of the first tree */
 #define ISIS_TERM_MAX        30      /* bytes of the longest term */
@@ -108,7 +117,8 @@ enum isis_answer {
     ISIS_DONE            = 0,  /* done */
     ISIS_BAD_LENGTH      = 1,  /* a buffer is not 1 to 1048575 (MST) or 1 to 4096 (XRF) blocks of 512 bytes */
     ISIS_BAD_CONTROL     = 2,  /* the control record (MST bytes 0 to 15) is not right; isis_migrate: not right by the
-                                  rule before isis.h 2.0 */
+                                  rule before isis.h 2.0; create, revert: RECCNT is 2147483647; delete: RECCNT is 0
+                                  or below, and none of 4 to 9 applies */
     ISIS_BAD_DRAFT       = 3,  /* the draft is not right, see isis_create */
     ISIS_NO_MFN          = 4,  /* the MFN is 0 or was never given out */
     ISIS_NO_SLOT         = 5,  /* create: every MFN of the XRF is given out */
@@ -123,7 +133,7 @@ enum isis_answer {
     ISIS_NEVER_SETTLED   = 11, /* revert, a field of the settled version: the record was never settled */
     ISIS_NO_FIELD        = 12, /* the tag does not occur, or occurrence 0 is asked for; no field of that index */
     ISIS_NO_ROOM         = 13, /* the record does not fit before the end of the MST */
-    ISIS_NOT_SOUND       = 14, /* check: the store is not sound */
+    ISIS_NOT_SOUND       = 14, /* check: the store is not sound; recount: not sound apart from RECCNT */
     ISIS_FEWER_FIELDS    = 15, /* a view by tag: the tag occurs, but fewer times than asked for */
     ISIS_NO_ROOM_IN_LIST = 17, /* a list that is lent for outputs is too short for them; isis_settle_list: the two
                                   lists are not equally long, or over-long */
@@ -136,7 +146,7 @@ enum isis_answer {
 
 /*
  * Empties a card: both buffers are filled with zero and get the control record
- * and the block numbers of an empty catalogue. Answers 0 or 1.
+ * and the block numbers of an empty catalogue; RECCNT is 0. Answers 0 or 1.
  * Touches every byte of both.
  */
 uint32_t isis_format(uint8_t *mst, isis_size mst_len, uint8_t *xrf, isis_size xrf_len);
@@ -220,14 +230,15 @@ uint32_t isis_state(const uint8_t *mst, isis_size mst_len, const uint8_t *xrf, i
                     uint32_t mfn, uint32_t *mark, uint32_t *deleted);
 
 /*
- * Writes a new record at the end of the MST, pending, and gives its MFN.
+ * Writes a new record at the end of the MST, pending, and gives its MFN. RECCNT grows
+ * by one.
  * The draft is three lists: the fields' tags, their lengths, and their bytes one
  * after the other. It is right if tags_len equals lens_len, every tag is in 1 to
  * 32767, the lengths sum to data_len, and ISIS_NEED(tags_len, data_len) is at most
  * 32766. No fields and empty fields are permitted.
- * Answers 0, 1, 2, 3, 5, 6 or 13.
- * Touches bytes 4 to 13 of the MST, as many bytes as the draft needs from the end
- * on, and the four bytes of the MFN's entry in the XRF.
+ * Answers 0, 1, 2, 3, 5, 6 or 13; 2 too where RECCNT is 2147483647, whatever the draft.
+ * Touches bytes 4 to 13 and 16 to 19 of the MST, as many bytes as the draft needs from
+ * the end on, and the four bytes of the MFN's entry in the XRF.
  */
 uint32_t isis_create(uint8_t *mst, isis_size mst_len, uint8_t *xrf, isis_size xrf_len,
                      const uint16_t *tags, isis_size tags_len,
@@ -249,10 +260,12 @@ uint32_t isis_update(uint8_t *mst, isis_size mst_len, uint8_t *xrf, isis_size xr
 
 /*
  * Deletes a record; the deletion is pending. Its settled version, if there is
- * one, is kept. Answers 0, 1, 2, 4, 6, 7, 8, 9 or 13.
- * Touches the four bytes of the entry in the XRF; in the MST the record's own
- * bytes if it was pending, otherwise bytes 8 to 13 and, from the end on, as many
- * bytes as a draft of its fields needs.
+ * one, is kept. RECCNT falls by one.
+ * Answers 0, 1, 2, 4, 6, 7, 8, 9 or 13; 2 too where RECCNT is 0 or below and none of 4
+ * to 9 applies, and so before 13.
+ * Touches the four bytes of the entry in the XRF and bytes 16 to 19 of the MST; the
+ * record's own bytes in the MST if it was pending, otherwise bytes 8 to 13 and, from
+ * the end on, as many bytes as a draft of its fields needs.
  */
 uint32_t isis_delete(uint8_t *mst, isis_size mst_len, uint8_t *xrf, isis_size xrf_len, uint32_t mfn);
 
@@ -278,8 +291,11 @@ uint32_t isis_settle_list(uint8_t *mst, isis_size mst_len, uint8_t *xrf, isis_si
 
 /*
  * Makes the settled version of a record current again, whatever was done since;
- * a pending deletion is undone too. Answers 0, 1, 2, 4, 6, 7, 8, 10 or 11.
- * Touches the four bytes of the entry in the XRF, and nothing of the MST.
+ * a pending deletion is undone too, and then RECCNT grows by one.
+ * Answers 0, 1, 2, 4, 6, 7, 8, 10 or 11; 2 too where RECCNT is 2147483647, whatever the
+ * record.
+ * Touches the four bytes of the entry in the XRF, and bytes 16 to 19 of the MST if a
+ * deletion is undone; otherwise nothing of the MST.
  */
 uint32_t isis_revert(uint8_t *mst, isis_size mst_len, uint8_t *xrf, isis_size xrf_len, uint32_t mfn);
 
@@ -289,13 +305,25 @@ uint32_t isis_revert(uint8_t *mst, isis_size mst_len, uint8_t *xrf, isis_size xr
  * not right by the rule of that time, under which NXTMFP is the end's offset, even
  * and at most 498. A card of today is not right by it, so a second call answers 2
  * and changes nothing. Afterwards the card holds what it held: the same end, the
- * same records and fields, and it is sound exactly if it was.
+ * same records and fields, and it is sound apart from RECCNT exactly if it was.
+ * RECCNT is neither read nor written: isis_recount comes next.
  * Touches bytes 12 and 13 of the MST, and nothing of the XRF.
  */
 uint32_t isis_migrate(uint8_t *mst, isis_size mst_len, uint8_t *xrf, isis_size xrf_len);
 
 /*
- * Checks the whole store: 0 exactly if it is sound, otherwise 1, 2 or 14.
+ * Writes RECCNT of a card that did not keep it: the number of records whose entry is
+ * neither deleted nor physically deleted. Answers 0, 1, 2 or 14, the last where the
+ * store is not sound apart from RECCNT; what RECCNT holds never refuses it. Afterwards
+ * the card is sound. A card that is sound stays as it is, byte by byte.
+ * Touches bytes 16 to 19 of the MST, and nothing of the XRF.
+ */
+uint32_t isis_recount(uint8_t *mst, isis_size mst_len, uint8_t *xrf, isis_size xrf_len);
+
+/*
+ * Checks the whole store: 0 exactly if it is sound, otherwise 1, 2 or 14. A store whose
+ * RECCNT is not the number of records that are neither deleted nor physically deleted
+ * is not sound; isis_recount mends it if it is sound apart from that.
  */
 uint32_t isis_check(const uint8_t *mst, isis_size mst_len, const uint8_t *xrf, isis_size xrf_len);
 

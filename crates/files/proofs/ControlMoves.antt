@@ -12,7 +12,7 @@ use Rattle.word.specs.Integer.{u16At, le}
 use Rattle.word.proofs.Overwrite.{lt-or-ge, overwrite-other}
 use Rattle.layout.specs.Sizes.{mstMost, addressLimit}
 use Rattle.files.specs.Control.{endBytes, nextOf, endOf, controlRight, withNext, withEnd, migratedMst}
-use Rattle.files.specs.NamedBytes.{Within, NextByte, EndByte, OffsetByte, ControlByte, next-mfn, the-end}
+use Rattle.files.specs.NamedBytes.{Within, NextByte, EndByte, OffsetByte, CountByte, ControlByte, next-mfn, the-end, the-count}
 use Rattle.files.proofs.ControlRecord.{next-length, next-of-next, end-of-next, control-right-next, end-length, next-of-end, end-of-end, control-right-end}
 
 -- ---- bytes in and out of a range
@@ -22,9 +22,10 @@ out-of a n i off = ⊎-elim (λ b. inl b) (λ b. ⊎-elim (λ c. absurd (off (b,
 
 -- the control record is before byte 64
 pub control-front : (i : ℕ) → ControlByte i → i < 64
-unfolding NextByte EndByte
+unfolding NextByte EndByte CountByte
 control-front i (next-mfn h) = omega (arith, h .1)
 control-front i (the-end h) = omega (arith, h .1)
+control-front i (the-count h) = omega (arith, h .1)
 
 -- ---- the two writes
 

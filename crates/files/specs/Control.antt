@@ -1,4 +1,4 @@
--- The control record, from MST byte 0. Document 01, "Control record"; request C-12 for NXTMFP.
+-- The control record, from MST byte 0. Document 01, "Control record"; request C-12 for NXTMFP, C-17 for RECCNT.
 --
 --   byte   field     rule
 --   0      CTLMFN*   0
@@ -6,17 +6,21 @@
 --   8      NXTMFB*   the end's block
 --   12     NXTMFP    the end's offset plus 1, odd, at most 499; by the old rule the offset itself, even, at most 498
 --   14     MFTYPE    0
---   16-63  ignored and kept
+--   16     RECCNT*   how many records have an entry that is neither deleted nor gone; no part of what makes the control record right
+--   20-63  ignored and kept
 use Prim.Native.Nat.{ℕ, _+_, _-_, _%_}
-use mathlib.Core.Bool.{Bool, _&&_}
+use mathlib.Core.Bool.{Bool, false, _&&_}
 use mathlib.Core.List.{List, _++_}
 use lib.Dec.{eqb, leb}
+use lib.IntN.{ℤ, pos, negsuc, sucℤ, predℤ}
 use lib.ListN.{length, replicate}
+use lib.Signed.{leZ}
 use Rattle.word.specs.Integer.{u16At, u32At, le}
 use Rattle.word.specs.Overwrite.{overwrite}
+use Rattle.word.specs.Signed.{signedOf, bitsOf}
 use Rattle.layout.specs.Sizes.{offsetMost, addressOf, blockAt, offsetAt}
 
--- all that is read of it stands in its first bytes
+-- all that makes it right stands in its first bytes, and so do NXTMFN and the end
 abbrev pub controlRead : ℕ
 controlRead = 16
 
@@ -95,10 +99,48 @@ endBytes e = le 4 (blockAt e) ++ le 2 (storedOffset offsetsFrom (offsetAt e))
 unfoldable pub withEnd : List ℕ → ℕ → List ℕ
 withEnd mst e = overwrite mst 8 (endBytes e)
 
--- what format leaves in an MST of n bytes: zero, but for NXTMFN 1 and the end 64
+-- what format leaves in an MST of n bytes: zero, RECCNT too, but for NXTMFN 1 and the end 64
 unfoldable pub formattedMst : ℕ → List ℕ
 formattedMst n = withEnd (withNext (replicate n 0) 1) 64
 
 -- what a migration leaves of an MST: NXTMFP plus 1, and no other byte changed
 unfoldable pub migratedMst : List ℕ → List ℕ
 migratedMst mst = overwrite mst 12 (le 2 (u16At mst 12 + 1))
+
+-- ---- RECCNT, in two's complement
+
+-- RECCNT
+unfoldable pub countOf : List ℕ → ℤ
+countOf mst = signedOf (u32At mst 16)
+
+-- a signed number is n
+abbrev pub isNumber : ℤ → ℕ → Bool
+isNumber (pos k) n = eqb k n
+isNumber (negsuc k) n = false
+
+-- RECCNT is n
+unfoldable pub countIs : List ℕ → ℕ → Bool
+countIs mst n = isNumber (countOf mst) n
+
+-- the greatest number of 4 bytes
+abbrev pub countMost : ℕ
+countMost = 2147483647
+
+-- RECCNT is 2,147,483,647: no 4 bytes hold more
+unfoldable pub countFull : List ℕ → Bool
+countFull mst = leZ (pos countMost) (countOf mst)
+
+-- RECCNT is 0 or below
+unfoldable pub countNone : List ℕ → Bool
+countNone mst = leZ (countOf mst) (pos 0)
+
+-- the MST with another RECCNT
+unfoldable pub withCount : List ℕ → ℤ → List ℕ
+withCount mst z = overwrite mst 16 (le 4 (bitsOf z))
+
+-- plus one, and minus one
+unfoldable pub countedMore : List ℕ → List ℕ
+countedMore mst = withCount mst (sucℤ (countOf mst))
+
+unfoldable pub countedLess : List ℕ → List ℕ
+countedLess mst = withCount mst (predℤ (countOf mst))

@@ -1,23 +1,28 @@
-// The control record. Bytes 16 to 63 are never read, and only format writes them.
+// The control record. Bytes 20 to 63 are never read, and only format writes them.
 use layout::sizes::Block;
 use layout::sizes::Mfn;
 use layout::sizes::OFFSET_MOST;
 use word::integer::u16_at;
 use word::integer::u32_at;
 ghost use mathlib.Core.Path.{_≡_};
-ghost use mathlib.Core.Bool.{true};
+ghost use mathlib.Core.Bool.{true, cond};
 ghost use Prim.Native.Nat.{_+_, _≤_, _<_};
+ghost use lib.IntN.{pos, sucℤ, predℤ};
 ghost use lib.ListN.{length};
 ghost use Rattle.word.specs.Integer.{u16At, u32At};
+ghost use Rattle.word.specs.Signed.{signedOf, bitsOf};
 ghost use Rattle.layout.specs.Sizes.{offsetMost, addressLimit, mstPermitted};
 ghost use Rattle.files.specs.Inner.{controlOf};
-ghost use Rattle.files.specs.Control.{endFrom, numbersRight, endRightFrom, oldControlRight, withNext, withEnd, formattedMst, migratedMst};
+ghost use Rattle.files.specs.Control.{endFrom, numbersRight, endRightFrom, oldControlRight, withNext, withEnd, formattedMst, migratedMst, countIs, countMost, countFull, countNone, withCount, countedMore, countedLess};
 
 // NXTMFP counts the end's offset from here.
 const OFFSETS_FROM: u16 = 1;
 
 // By the old rule it counted it from there.
 const OLD_OFFSETS_FROM: u16 = 0;
+
+// The greatest signed number of 4 bytes.
+const COUNT_MOST: u32 = 2147483647;
 
 // What the control record says, where it is right.
 pub enum Control {
@@ -139,4 +144,74 @@ pub fn migrate_end(mst: &mut [u8])
 {
     let stored = u16_at(mst, 12);
     word::integer::put_u16(mst, 12, stored + 1)
+}
+
+// Whether RECCNT is 2,147,483,647.
+pub fn count_full(mst: &[u8]) -> bool
+    requires { ⌜ 64 ≤ length (now mst) ⌝ }
+    ensures { λ r. ⌜ r ≡ countFull (now (mst .entry)) ⌝ }
+{
+    u32_at(mst, 16) == COUNT_MOST
+}
+
+// Whether RECCNT is 0 or below; its bits are above those of every positive number then.
+pub fn count_none(mst: &[u8]) -> bool
+    requires { ⌜ 64 ≤ length (now mst) ⌝ }
+    ensures { λ r. ⌜ r ≡ countNone (now (mst .entry)) ⌝ }
+{
+    let bits = u32_at(mst, 16);
+    if bits < 1 {
+        return true;
+    }
+    COUNT_MOST < bits
+}
+
+// Whether RECCNT is `n`.
+pub fn count_is(mst: &[u8], n: usize) -> bool
+    requires { ⌜ (64 ≤ length (now mst)) × (n ≤ countMost) ⌝ }
+    ensures { λ r. ⌜ r ≡ countIs (now (mst .entry)) n ⌝ }
+{
+    u32_at(mst, 16) as usize == n
+}
+
+// Writes RECCNT.
+pub fn put_count(mst: &mut [u8], n: u32)
+    requires { ⌜ 64 ≤ length (now mst) ⌝ }
+    ensures { λ _. ⌜ now (mst .exit) ≡ withCount (now (mst .entry)) (pos n) ⌝ }
+{
+    word::integer::put_u32(mst, 16, n)
+}
+
+// The bits of the signed number that is one more than that of `bits`: those of -1 go on to those of 0.
+fn one_more(bits: u32) -> u32
+    ensures { λ r. ⌜ r ≡ bitsOf (sucℤ (signedOf bits)) ⌝ }
+{
+    if bits < 4294967295 { bits + 1 } else { 0 }
+}
+
+// The bits of the signed number that is one less.
+fn one_less(bits: u32) -> u32
+    ensures { λ r. ⌜ r ≡ bitsOf (predℤ (signedOf bits)) ⌝ }
+{
+    if bits < 1 { 4294967295 } else { bits - 1 }
+}
+
+// RECCNT plus 1, where there is one more live record.
+pub fn count_more(mst: &mut [u8], one: bool)
+    requires { ⌜ 64 ≤ length (now mst) ⌝ }
+    ensures { λ _. ⌜ now (mst .exit) ≡ cond one (countedMore (now (mst .entry))) (now (mst .entry)) ⌝ }
+{
+    if one {
+        let bits = u32_at(mst, 16);
+        word::integer::put_u32(mst, 16, one_more(bits));
+    }
+}
+
+// RECCNT minus 1.
+pub fn count_less(mst: &mut [u8])
+    requires { ⌜ 64 ≤ length (now mst) ⌝ }
+    ensures { λ _. ⌜ now (mst .exit) ≡ countedLess (now (mst .entry)) ⌝ }
+{
+    let bits = u32_at(mst, 16);
+    word::integer::put_u32(mst, 16, one_less(bits))
 }

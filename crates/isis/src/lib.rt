@@ -14,6 +14,7 @@ ghost use Rattle.asking.specs.Listing.{lists, allFieldsOf, allFieldsLeaves, set
 ghost use Rattle.asking.specs.State.{nextFreeOf, stateOf, markNumber, deletedNumber};
 ghost use Rattle.asking.specs.RecordTest.{isDeleted, recordTestOf};
 ghost use Rattle.soundness.specs.Sound.{checkAnswer};
+ghost use Rattle.soundness.specs.Recount.{recountAnswer, recountLeaves};
 ghost use Rattle.migrating.specs.Migrate.{migrateAnswer, migrateLeaves};
 ghost use Rattle.settling.specs.SettleList.{settleListAnswer, settleListLeaves, settleListTells};
 ghost use lib.ListN.{length};
@@ -297,6 +298,15 @@ pub extern "C" fn isis_migrate(mst: &mut [u8], xrf: &mut [u8]) -> u32
     ensures left { λ _. ⌜ store (now (mst .exit)) (now (xrf .exit)) ≡ migrateLeaves (store (now (mst .entry)) (now (xrf .entry))) ⌝ }
 {
     number(migrating::migrate::migrate(mst, xrf))
+}
+
+// Writes RECCNT of a store that is sound apart from it.
+#[no_mangle]
+pub extern "C" fn isis_recount(mst: &mut [u8], xrf: &mut [u8]) -> u32
+    ensures answers { λ r. ⌜ r ≡ numberOf (recountAnswer (store (now (mst .entry)) (now (xrf .entry)))) ⌝ }
+    ensures left { λ _. ⌜ store (now (mst .exit)) (now (xrf .exit)) ≡ recountLeaves (store (now (mst .entry)) (now (xrf .entry))) ⌝ }
+{
+    number(soundness::check::recount(mst, xrf))
 }
 
 // Tests one record alone for an MFN, deleted (not 0) or not, all but its back pointer; the number of the first directory entry that breaks a rule

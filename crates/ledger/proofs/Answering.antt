@@ -9,7 +9,7 @@ use lib.Dec.{eqb, ltb}
 use lib.ListN.{length}
 use Rattle.layout.specs.Sizes.{capacityOf}
 use Rattle.files.specs.CrossReference.{xrfBlock, headRight, slotFree}
-use Rattle.files.specs.Control.{nextOf}
+use Rattle.files.specs.Control.{nextOf, countFull, countNone}
 use Rattle.layout.specs.declared.entry.Mark.{Mark}
 use Rattle.layout.specs.declared.entry.Mark.the-variants.{Settled, Changed, New}
 use Rattle.layout.specs.declared.entry.Place.{Place}
@@ -24,13 +24,15 @@ use Rattle.store.specs.declared.answer.Answer.{Answer}
 use Rattle.writing.specs.Refusals.{exceeds, formatAnswer, createAnswer, updateAnswer, deleteAnswer, settleAnswer, revertAnswer}
 use Rattle.versions.specs.Written.{updateAppends}
 use Rattle.views.specs.Views.{viewAnswer, settledViewAnswer}
-use Rattle.store.specs.declared.answer.Answer.the-variants.{Done, BadControl, BadDraft, NoMfn, NoSlot, BadEntry, Gone as GoneAnswer, BadRecord, NoRoom}
-use Rattle.soundness.specs.Sound.{bodySound, checkAnswer}
+use Rattle.store.specs.declared.answer.Answer.the-variants.{Done, BadControl, BadDraft, NoMfn, NoSlot, BadEntry, Gone as GoneAnswer, BadRecord, NoRoom, Deleted}
+use Rattle.soundness.specs.Sound.{bodyApart, bodySound, checkAnswer}
+use Rattle.soundness.specs.Recount.{recountAnswer}
+use Rattle.writing.proofs.Counted.{create-clear, revert-clear, delete-late}
 use Rattle.migrating.specs.Migrate.{migrateAnswer, migrateLeaves}
 use Rattle.migrating.proofs.Theorems.{today-refused}
 use Rattle.store.specs.Store.{Store}
 use Rattle.drafts.specs.Draft.{Draft, isRight, fieldsIn}
-use Rattle.ledger.specs.Call.{format, view, viewSettled, create, update, delete, settle, revert, check, migrate}
+use Rattle.ledger.specs.Call.{format, view, viewSettled, create, update, delete, settle, revert, check, migrate, recount}
 use Rattle.ledger.specs.Ledger.{gone, held, mfnIn, itemOf, isGoneItem, isSettledMark, isNewMark, settledOr}
 use Rattle.ledger.specs.LedgerAnswers.{overfull, appends, refusalsL, numberL, replyL}
 use Rattle.ledger.specs.LedgerOf.{markingAt, itemFor, ledgerOf}
@@ -132,12 +134,20 @@ module _ (s : Store) (o : Opened s) where
         (shared (fine s m) _ _ fine-fits
         (λ p k e. rw (e, item-at m p k e, appends-is (s .mst) p (p .mark) (needFor (fieldsIn d)), room-is (needFor (fieldsIn d))))))
 
-    pub delete-answer : deleteAnswer s m ≡ numberL (ledgerOf s) (delete m)
-    unfolding deleteAnswer numberL refusalsL replyL
-    delete-answer =
-        rw (o .lengths, o .control, lengths-are s o)
+    -- a delete, which RECCNT does not bar where the record is live
+    pub delete-answer : ((p : Place) → mfnInRange (s .mst) m ≡ true → entryFor s m ≡ At p → p .deleted ≡ false → countNone (s .mst) ≡ false)
+        → deleteAnswer s m ≡ numberL (ledgerOf s) (delete m)
+    unfolding numberL refusalsL replyL
+    delete-answer some =
+        delete-late s m
+        ∙ rw (o .lengths, o .control, lengths-are s o)
         (shared (fine s m) _ _ fine-fits
-        (λ p k e. rw (e, item-at m p k e, settled-mark (s .mst) p (p .mark), room-is (needFor (currentFields (s .mst) p)))))
+        (λ p k e.
+        rw (e, item-at m p k e, settled-mark (s .mst) p (p .mark), room-is (needFor (currentFields (s .mst) p))) (late (p .deleted) _ (some p k e))))
+      where
+        late : (d : Bool) (x : Answer) → (d ≡ false → countNone (s .mst) ≡ false) → cond d Deleted (cond (countNone (s .mst)) BadControl x) ≡ cond d Deleted x
+        late true x f = refl
+        late false x f = rw (f refl)
 
     pub settle-answer : settleAnswer s m ≡ numberL (ledgerOf s) (settle m)
     unfolding settleAnswer numberL refusalsL replyL
@@ -145,19 +155,21 @@ module _ (s : Store) (o : Opened s) where
         rw (o .lengths, o .control, lengths-are s o)
         (shared (fine s m) _ _ fine-fits (λ p k e. rw (e, item-at m p k e, settled-mark (s .mst) p (p .mark))))
 
-    pub revert-answer : revertAnswer s m ≡ numberL (ledgerOf s) (revert m)
-    unfolding revertAnswer numberL refusalsL replyL
-    revert-answer =
-        rw (o .lengths, o .control, lengths-are s o)
+    pub revert-answer : countFull (s .mst) ≡ false → revertAnswer s m ≡ numberL (ledgerOf s) (revert m)
+    unfolding numberL refusalsL replyL
+    revert-answer less =
+        revert-clear s m less
+        ∙ rw (o .lengths, o .control, lengths-are s o)
         (shared (bothFine s m) _ _ both-fit (λ p k e. rw (e, item-at m p k e, settled-mark (s .mst) p (p .mark), new-mark (s .mst) p (p .mark))))
 
   -- create, whose row 6 does not apply below the capacity
-  pub create-answer : (d : Draft)
+  pub create-answer : (d : Draft) → countFull (s .mst) ≡ false
       → (eqb (nextOf (s .mst)) (capacityOf (length (s .xrf)) + 1) ≡ false → (headRight (s .xrf) (xrfBlock (nextOf (s .mst))) && slotFree (s .xrf) (nextOf (s .mst))) ≡ true)
       → createAnswer s d ≡ numberL (ledgerOf s) (create d)
-  unfolding createAnswer numberL refusalsL replyL
-  create-answer d free =
-      rw (o .lengths, o .control, lengths-are s o, room-is (needFor (fieldsIn d)), next-is s o, xrf-is)
+  unfolding numberL refusalsL replyL
+  create-answer d less free =
+      create-clear s d less
+      ∙ rw (o .lengths, o .control, lengths-are s o, room-is (needFor (fieldsIn d)), next-is s o, xrf-is)
       (go (eqb (nextOf (s .mst)) (capacityOf (length (s .xrf)) + 1)) free)
     where
       go : (full : Bool) → (full ≡ false → (headRight (s .xrf) (xrfBlock (nextOf (s .mst))) && slotFree (s .xrf) (nextOf (s .mst))) ≡ true)
@@ -171,6 +183,10 @@ module _ (s : Store) (o : Opened s) where
   pub check-answer : bodySound s ≡ true → checkAnswer s ≡ numberL (ledgerOf s) check
   unfolding checkAnswer numberL refusalsL replyL
   check-answer b = rw (o .lengths, o .control, lengths-are s o, b)
+
+  pub recount-answer : bodyApart s ≡ true → recountAnswer s ≡ numberL (ledgerOf s) recount
+  unfolding recountAnswer numberL refusalsL replyL
+  recount-answer b = rw (o .lengths, o .control, lengths-are s o, b)
 
   -- a store of today is not migrated
   pub migrate-refuses : migrateAnswer s ≡ BadControl

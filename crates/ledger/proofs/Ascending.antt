@@ -3,7 +3,7 @@ use mathlib.Core.Path.{_≡_, refl}
 use mathlib.Core.Bool.{true}
 use Rattle.store.specs.Answer.{numberOf}
 use Rattle.store.proofs.Lowest.{above, ascends, IsLowest, lowest-is-lowest}
-use Rattle.ledger.specs.Call.{Call, format, view, viewSettled, create, update, delete, settle, revert, check, migrate, settleList}
+use Rattle.ledger.specs.Call.{Call, format, view, viewSettled, create, update, delete, settle, revert, check, migrate, settleList, recount}
 use Rattle.ledger.specs.Ledger.{Ledger}
 use Rattle.ledger.specs.LedgerAnswers.{refusalsL, numberL, replyL}
 
@@ -20,6 +20,7 @@ tables-ascend L (revert m) = refl
 tables-ascend L check = refl
 tables-ascend L migrate = refl
 tables-ascend L (settleList ms lent) = refl
+tables-ascend L recount = refl
 
 -- THE ANSWER IS THE LOWEST that applies
 pub number-lowest : (L : Ledger) (c : Call) → IsLowest (refusalsL L c) (numberL L c)

@@ -35,14 +35,16 @@ marking-same mst mst′ p r New e = rw (r .leader)
 item-same : (mst mst′ : List ℕ) (p : Place) → SameReading mst mst′ p → itemFor mst′ (At p) ≡ itemFor mst (At p)
 item-same mst mst′ p r = rw (r .fields, marking-same mst mst′ p r (p .mark) refl)
 
+-- the item of an entry that stands, where its record, if it has one, is read the same
+pub item-stands : {mst xrf : List ℕ} (mst′ : List ℕ) {o : ℕ} → EntryStands mst xrf o → ((q : Place) → entryFor (store mst xrf) o ≡ At q → SameReading mst mst′ q)
+    → itemFor mst′ (entryFor (store mst xrf) o) ≡ itemFor mst (entryFor (store mst xrf) o)
+item-stands mst′ (is-gone e) r = rw e
+item-stands {mst} mst′ (is-at q e f) r = rw e (item-same mst mst′ q (r q e))
+
 module _ {mst xrf mst′ xrf′ : List ℕ} {m end next : ℕ} {p : Place} {mfrl : ℕ} {fs old : List Field} (s : Sound mst xrf)
     (l : Leaves mst xrf mst′ xrf′ m end next p mfrl fs old) where
   item-kept : (o : ℕ) → (o ≡ m → ⊥) → 1 ≤ o → o < nextOf mst → itemAt (store mst′ xrf′) o ≡ itemAt (store mst xrf) o
-  item-kept o ne low high = ap (itemFor mst′) (l .others o ne low high) ∙ go (s .entries o low high)
-    where
-      go : EntryStands mst xrf o → itemFor mst′ (entryFor (store mst xrf) o) ≡ itemFor mst (entryFor (store mst xrf) o)
-      go (is-gone e) = rw e
-      go (is-at q e f) = rw e (item-same mst mst′ q (l .same o q ne low high e))
+  item-kept o ne low high = ap (itemFor mst′) (l .others o ne low high) ∙ item-stands mst′ (s .entries o low high) (λ q e. l .same o q ne low high e)
 
   -- the item of m
   own-marking : (k : Mark) → p .mark ≡ k → markingAt mst′ p k ≡ markingFor k mfrl old

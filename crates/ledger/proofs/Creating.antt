@@ -1,8 +1,12 @@
 -- A create that is done on a sound store, beside the ledger's create.
 use Prim.Native.Nat.{ℕ, _+_}
-use mathlib.Core.Path.{refl}
+use mathlib.Core.Path.{_≡_, refl}
 use mathlib.Core.Bool.{false}
 use mathlib.Core.List.{List, []}
+use lib.IntN.{pos}
+use Rattle.files.specs.Control.{countOf}
+use Rattle.soundness.specs.Sound.{liveCount}
+use Rattle.soundness.proofs.Live.{created-counts}
 use Rattle.layout.specs.Sizes.{endMoved}
 use Rattle.files.specs.Control.{nextOf, endOf}
 use Rattle.layout.specs.declared.entry.Mark.the-variants.{New}
@@ -21,7 +25,7 @@ use Rattle.ledger.specs.LedgerOf.{ledgerOf}
 use Rattle.ledger.proofs.Changing.{ledger-more}
 use Rattle.ledger.proofs.Either.{Left}
 
-module _ (mst xrf : List ℕ) (d : Draft) (s : Sound mst xrf) (a : CreateAsked mst xrf d) where
+module _ (mst xrf : List ℕ) (d : Draft) (s : Sound mst xrf) (c : countOf mst ≡ pos (liveCount (store mst xrf))) (a : CreateAsked mst xrf d) where
   create-leaves : Leaves mst xrf (createdMst mst (fieldsIn d)) (createdXrf mst xrf) (nextOf mst) (endMoved (endOf mst + needFor (fieldsIn d))) (nextOf mst + 1)
       (placeAtEnd mst false New) (needFor (fieldsIn d)) (fieldsIn d) []
   create-leaves = created-leaves s (fieldsIn d) (draft-draftable (d .tags) (d .lens) (d .bytes) (a .draft)) (a .below) (a .room)
@@ -31,5 +35,5 @@ module _ (mst xrf : List ℕ) (d : Draft) (s : Sound mst xrf) (a : CreateAsked m
   create-left =
       record {
         ledger = ledger-more s create-leaves (s .numbers .next-low) refl refl;
-        sound = sound (createdMst mst (fieldsIn d)) (createdXrf mst xrf) (create-leaves .sound);
+        sound = sound (createdMst mst (fieldsIn d)) (createdXrf mst xrf) (create-leaves .sound) (created-counts s c (fieldsIn d) create-leaves refl);
       }

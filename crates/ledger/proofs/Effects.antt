@@ -14,14 +14,14 @@ use Rattle.record.specs.Fields.{Field}
 use Rattle.drafts.specs.Bytes.{needFor}
 use Rattle.store.specs.Answer.{numberOf, after}
 use Rattle.store.specs.declared.answer.Answer.{Answer}
-use Rattle.store.specs.declared.answer.Answer.the-variants.{Done, BadLength, NoMfn, NeverSettled}
+use Rattle.store.specs.declared.answer.Answer.the-variants.{Done, BadLength, NoMfn, Deleted, NeverSettled}
 use Rattle.store.proofs.Gates.{number-done, after-done, after-refused}
 use Rattle.store.proofs.Lowest.{Applies}
 use Rattle.settling.specs.Theorems.{among}
 use Rattle.settling.proofs.Theorems.{among-first, among-behind}
 use Rattle.drafts.specs.Draft.{Draft, fieldsIn}
-use Rattle.ledger.specs.Call.{Call, format, view, viewSettled, create, update, delete, settle, revert, check, migrate, settleList}
-use Rattle.ledger.specs.Ledger.{new, Item, gone, held, Ledger, nextMfn, lengthsFine, mfnIn, itemOf, keptMark, isSettledMark, isNewMark}
+use Rattle.ledger.specs.Call.{Call, format, view, viewSettled, create, update, delete, settle, revert, check, migrate, settleList, recount}
+use Rattle.ledger.specs.Ledger.{new, Item, gone, held, Ledger, nextMfn, lengthsFine, mfnIn, itemOf, keptDeleted, keptMark, isSettledMark, isNewMark}
 use Rattle.ledger.specs.LedgerAnswers.{appends, settledItem, settledOne, settledEach, refusalsL, numberL, replyL}
 use Rattle.ledger.specs.LedgerSteps.{Effect, stays, emptied, itemSet, itemAdded, eachSettled, applied, version, settledAs, effectOf, nextL}
 use Rattle.ledger.proofs.Ascending.{number-lowest}
@@ -77,9 +77,26 @@ pub create-lengths : (L : Ledger) (f : Draft) → numberL L (create f) ≡ Done 
 unfolding refusalsL replyL
 create-lengths L f d = permitted L (create f) d (λ e. inl (refl, e))
 
+pub update-known : (L : Ledger) (m : ℕ) (f : Draft) → numberL L (update m f) ≡ Done → Known L m
+unfolding refusalsL replyL
+update-known L m f d = known L (update m f) d m (λ e. inl (refl, e)) (λ e. inr (inr (inl (refl, e))))
+
+pub delete-known : (L : Ledger) (m : ℕ) → numberL L (delete m) ≡ Done → Known L m
+unfolding refusalsL replyL
+delete-known L m d = known L (delete m) d m (λ e. inl (refl, e)) (λ e. inr (inl (refl, e)))
+
+-- and it was not deleted
+pub delete-live : (L : Ledger) (m : ℕ) → numberL L (delete m) ≡ Done → keptDeleted (itemOf L m) ≡ false
+unfolding refusalsL replyL
+delete-live L m d = row L (delete m) d Deleted (keptDeleted (itemOf L m)) (λ e. inr (inr (inr (inl (refl, e)))))
+
 pub settle-known : (L : Ledger) (m : ℕ) → numberL L (settle m) ≡ Done → Known L m
 unfolding refusalsL replyL
 settle-known L m d = known L (settle m) d m (λ e. inl (refl, e)) (λ e. inr (inl (refl, e)))
+
+pub revert-known : (L : Ledger) (m : ℕ) → numberL L (revert m) ≡ Done → Known L m
+unfolding refusalsL replyL
+revert-known L m d = known L (revert m) d m (λ e. inl (refl, e)) (λ e. inr (inl (refl, e)))
 
 pub does : (L : Ledger) (c : Call) → numberL L c ≡ Done → Does L c (effectOf L c)
 unfolding effectOf refusalsL replyL
@@ -87,18 +104,16 @@ does L format d = empties refl
 does L (view m tag occ) d = reads
 does L (viewSettled m tag occ) d = reads
 does L (create f) d = adds (create-lengths L f d) _ _ _
-does L (update m f) d =
-    changes m (known L (update m f) d m (λ e. inl (refl, e)) (λ e. inr (inr (inl (refl, e))))) _ _
-    (appends (keptMark (itemOf L m)) (needFor (fieldsIn f)))
-does L (delete m) d =
-    changes m (known L (delete m) d m (λ e. inl (refl, e)) (λ e. inr (inl (refl, e)))) _ _ (isSettledMark (keptMark (itemOf L m)))
+does L (update m f) d = changes m (update-known L m f d) _ _ (appends (keptMark (itemOf L m)) (needFor (fieldsIn f)))
+does L (delete m) d = changes m (delete-known L m d) _ _ (isSettledMark (keptMark (itemOf L m)))
 does L (settle m) d = settles m (settle-known L m d) refl _ _
 does L (revert m) d =
-    reverts m (known L (revert m) d m (λ e. inl (refl, e)) (λ e. inr (inl (refl, e)))) refl
+    reverts m (revert-known L m d) refl
     (row L (revert m) d NeverSettled (isNewMark (keptMark (itemOf L m))) (λ e. inr (inr (inr (inr (inl (refl, e))))))) _
 does L check d = reads
 does L migrate d = reads
 does L (settleList ms lent) d = settles-each ms lent refl
+does L recount d = reads
 
 -- what holds where the call is refused, and after what it does where it is done, holds after it
 after-either : (P : Ledger → Type 0) (L : Ledger) (c : Call) → P L → (numberL L c ≡ Done → P (applied L (effectOf L c))) → P (nextL L c)

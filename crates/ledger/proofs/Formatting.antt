@@ -4,6 +4,8 @@ use mathlib.Core.Path.{_≡_}
 use mathlib.Core.Bool.{true}
 use mathlib.Core.List.{List}
 use lib.ListN.{length}
+use Rattle.files.proofs.Count.{formatted-none}
+use Rattle.soundness.specs.Sound.{sumTo, liveCount}
 use Rattle.layout.specs.Sizes.{mstPermitted, xrfPermitted}
 use Rattle.files.specs.CrossReference.{formattedXrf}
 use Rattle.files.specs.Control.{nextOf, endOf, formattedMst}
@@ -46,7 +48,9 @@ module _ (mst xrf : List ℕ) (h : lengthsPermitted (store mst xrf) ≡ true) wh
   first-end = formatted-end (length mst) mst-fits
 
   pub formatted-sound : SoundStore (formatted mst xrf)
-  formatted-sound = sound (formattedMst (length mst)) (formattedXrf (length xrf)) (format-sound mst xrf h)
+  unfolding liveCount sumTo
+  formatted-sound =
+      sound (formattedMst (length mst)) (formattedXrf (length xrf)) (format-sound mst xrf h) (rw first-next (formatted-none (length mst) mst-fits))
 
   pub formatted-ledger : ledgerOf (formatted mst xrf) ≡ empty (length mst) (length xrf)
   unfolding ledgerOf empty tabulate

@@ -23,3 +23,5 @@ pub mod Touched
 pub mod Claims
 pub mod EvenCount
 pub mod Singles
+pub mod RecordCount
+pub mod Recounted

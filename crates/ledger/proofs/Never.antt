@@ -18,7 +18,7 @@ use Rattle.store.specs.declared.answer.Answer.{Answer}
 use Rattle.store.specs.declared.answer.Answer.the-variants.{Done, NoMfn}
 use Rattle.store.specs.Store.{store}
 use Rattle.store.proofs.Gates.{after-cases}
-use Rattle.ledger.specs.Call.{Call, format, view, viewSettled, create, update, delete, settle, revert, check, migrate, settleList}
+use Rattle.ledger.specs.Call.{Call, format, view, viewSettled, create, update, delete, settle, revert, check, migrate, settleList, recount}
 use Rattle.ledger.specs.Ledger.{new, Item, held, Ledger, nextMfn, empty, lengthsFine, mfnIn, itemOf, isGoneItem}
 use Rattle.ledger.specs.LedgerAnswers.{measured, named, settleRows, settledOne, answersEach, refusalsL, numberL, givesL, answerL, replyL}
 use Rattle.ledger.specs.LedgerSteps.{Effect, itemSet, itemAdded, applied, effectOf, nextL, answersL}
@@ -28,11 +28,11 @@ use Rattle.ledger.proofs.Theorem.{demand-3}
 use Rattle.ledger.proofs.History.{number-is}
 
 -- lengths are right, and no MFN is gone
-record Whole (L : Ledger) : Type 0 where
-  lengths : lengthsFine L ≡ true
-  held : (o : ℕ) → mfnIn L o ≡ true → isGoneItem (itemOf L o) ≡ false
+pub record Whole (L : Ledger) : Type 0 where
+  pub lengths : lengthsFine L ≡ true
+  pub held : (o : ℕ) → mfnIn L o ≡ true → isGoneItem (itemOf L o) ≡ false
 
-whole-empty : (mst xrf : ℕ) → lengthsFine (empty mst xrf) ≡ true → Whole (empty mst xrf)
+pub whole-empty : (mst xrf : ℕ) → lengthsFine (empty mst xrf) ≡ true → Whole (empty mst xrf)
 unfolding empty mfnIn
 whole-empty mst xrf h = record { lengths = h; held = λ o q. let r = simp tests at q in absurd (omega arith) }
 
@@ -76,6 +76,7 @@ module _ (L : Ledger) (w : Whole L) where
   rows-may check = no-length (no-row refl)
   rows-may migrate = no-length (row (λ e. refl) (λ e. absurd (false-true (sym e))))
   rows-may (settleList ms lent) = may refl (no-row refl)
+  rows-may recount = no-length (no-row refl)
 
   answer-may : (c : Call) → MayCome c (answerL L c .answer)
   unfolding numberL
@@ -83,7 +84,7 @@ module _ (L : Ledger) (w : Whole L) where
 
   -- ---- it stays so
 
-  whole-set : (k : ℕ) (i : Item) (e : ℕ) → Known L k → isGoneItem i ≡ false → Whole (applied L (itemSet k i e))
+  pub whole-set : (k : ℕ) (i : Item) (e : ℕ) → Known L k → isGoneItem i ≡ false → Whole (applied L (itemSet k i e))
   unfolding lengthsFine mfnIn
   whole-set k i e known h = record { lengths = w .lengths; held = λ o q. go o q (ℕ-discrete k o) }
     where
@@ -108,7 +109,7 @@ module _ (L : Ledger) (w : Whole L) where
   unfolding empty lengthsFine
   same-lengths = w .lengths
 
-whole-next : (L : Ledger) → Whole L → (c : Call) → Whole (nextL L c)
+pub whole-next : (L : Ledger) → Whole L → (c : Call) → Whole (nextL L c)
 whole-next L w c = after-call Whole L c w (go (effectOf L c))
   where
     go : (e : Effect) → Does L c e → Whole (applied L e)
@@ -144,6 +145,7 @@ lists-own L w (settle m) = no-answer
 lists-own L w (revert m) = no-answer
 lists-own L w check = no-answer
 lists-own L w migrate = no-answer
+lists-own L w recount = no-answer
 lists-own L w (settleList ms lent) =
     ⊎-elim (λ d. rw (d .1) (each-own L w ms)) (λ r. rw (r .1) no-answer) (after-cases (numberL L (settleList ms lent)) (answersEach L ms) [])
 
@@ -152,7 +154,7 @@ unfolding answersL
 all-may-come L w [] = none
 all-may-come L w (c ∷ cs) = more (answer-may L w c) (lists-own L w c) (all-may-come (nextL L c) (whole-next L w c) cs)
 
-permitted : (mst xrf : List ℕ) → lengthsPermitted (store mst xrf) ≡ true → lengthsFine (empty (length mst) (length xrf)) ≡ true
+pub permitted : (mst xrf : List ℕ) → lengthsPermitted (store mst xrf) ≡ true → lengthsFine (empty (length mst) (length xrf)) ≡ true
 unfolding lengthsPermitted lengthsFine empty
 permitted mst xrf h = h
 

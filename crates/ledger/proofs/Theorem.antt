@@ -7,22 +7,29 @@ use mathlib.Core.Path.{_≡_, refl, sym, ap, _∙_}
 use mathlib.Core.Bool.{Bool, true, false}
 use mathlib.Core.List.{List, [], _∷_}
 use lib.ListN.{length}
-use Rattle.files.specs.Control.{endOf, formattedMst}
+use lib.IntN.{pos}
+use Rattle.files.specs.Control.{endOf, formattedMst, countOf, countFull, countNone}
+use Rattle.layout.specs.declared.entry.Place.{Place}
+use Rattle.layout.specs.declared.entry.Entry.the-variants.{At}
+use Rattle.store.proofs.Gates.{mfn-facts}
+use Rattle.soundness.specs.Sound.{liveCount}
+use Rattle.soundness.proofs.Live.{sound-not-full, sound-not-none}
+use Rattle.soundness.proofs.Recount.{recounts}
 use Rattle.files.specs.CrossReference.{formattedXrf}
 use Rattle.drafts.proofs.Draftable.{draft-draftable}
 use Rattle.store.specs.Answer.{lowest, after}
 use Rattle.settling.specs.SettleList.{settleEachAnswers, settleEachLeaves, settleListRefusals, settleListAnswer, settleListLeaves}
-use Rattle.store.specs.Reading.{lengthsPermitted, mfnInRange}
+use Rattle.store.specs.Reading.{lengthsPermitted, mfnInRange, entryFor}
 use Rattle.writing.specs.Refusals.{formatAnswer, createAnswer, updateAnswer, deleteAnswer, settleAnswer, revertAnswer}
 use Rattle.writing.specs.Calls.{formatLeaves, createOf, createLeaves, updateLeaves, deleteLeaves, settleLeaves, revertLeaves}
 use Rattle.store.specs.declared.answer.Answer.{Answer}
 use Rattle.store.specs.declared.answer.Answer.the-variants.{Done}
 use Rattle.store.proofs.Gates.{after-same}
-use Rattle.soundness.proofs.SoundEntries.{Sound, stands, body-sound, EntryStands, is-gone, is-at, known-stands, create-row, below-capacity, version-fine}
+use Rattle.soundness.proofs.SoundEntries.{Sound, stands, stands-counted, body-apart, body-sound, EntryStands, is-gone, is-at, known-stands, create-row, below-capacity, version-fine}
 use Rattle.soundness.proofs.Asked.{create-asked, update-asked, delete-asked, settle-asked, revert-asked}
 use Rattle.store.specs.Store.{Store, store}
 use Rattle.drafts.specs.Draft.{Draft}
-use Rattle.ledger.specs.Call.{Call, format, view, viewSettled, create, update, delete, settle, revert, check, migrate, settleList, Outcome, plain, returned, listed}
+use Rattle.ledger.specs.Call.{Call, format, view, viewSettled, create, update, delete, settle, revert, check, migrate, settleList, recount, Outcome, plain, returned, listed}
 use Rattle.ledger.specs.Ledger.{Ledger, nextMfn}
 use Rattle.ledger.specs.LedgerAnswers.{settleRows, settledOne, settledEach, answersEach, refusalsL, numberL, givesL, outcomeOf, answerL, replyL}
 use Rattle.ledger.specs.LedgerSteps.{stays, applied, effectOf, nextL, afterL}
@@ -30,7 +37,7 @@ use Rattle.ledger.specs.StoreRun.{answerS, nextS, afterS, resultS}
 use Rattle.ledger.specs.LedgerOf.{ledgerOf, SoundStore}
 use Rattle.ledger.specs.Demand3.{Kept, FromSound, Demand3}
 use Rattle.ledger.proofs.Reading.{Opened, Seen, absent, physically, present, next-is}
-use Rattle.ledger.proofs.Answering.{format-answer, create-answer, update-answer, delete-answer, settle-answer, revert-answer, check-answer, migrate-answer, migrate-left}
+use Rattle.ledger.proofs.Answering.{format-answer, create-answer, update-answer, delete-answer, settle-answer, revert-answer, check-answer, recount-answer, migrate-answer, migrate-left}
 use Rattle.ledger.proofs.Viewing.{view-outcome, settled-view-outcome}
 use Rattle.ledger.proofs.Formatting.{formatted, formatted-sound, formatted-ledger, format-leaves}
 use Rattle.ledger.proofs.Creating.{create-left}
@@ -44,6 +51,16 @@ module _ (t : Store) (h : SoundStore t) where
 
   s : Sound (t .mst) (t .xrf)
   s = stands (t .mst) (t .xrf) h
+
+  -- RECCNT
+  c : countOf (t .mst) ≡ pos (liveCount t)
+  c = stands-counted (t .mst) (t .xrf) h
+
+  less : countFull (t .mst) ≡ false
+  less = sound-not-full s c
+
+  some : (m : ℕ) (p : Place) → mfnInRange (t .mst) m ≡ true → entryFor t m ≡ At p → p .deleted ≡ false → countNone (t .mst) ≡ false
+  some m p k e live = let r = mfn-facts (t .mst) m k in sound-not-none s c m p (r .low) (r .high) e live
 
   pub opened : Opened t
   opened = record { lengths = s .lengths; control = s .control; next-low = s .numbers .next-low }
@@ -93,7 +110,7 @@ module _ (t : Store) (h : SoundStore t) where
   unfolding answerS givesL nextS effectOf settleLeaves replyL resultS
   settle-step m =
       written (settle m) (settleAnswer t m) _ (settle-answer t opened m (see m)) refl refl
-      (λ e. settle-left (t .mst) (t .xrf) s m opened (settle-asked s m e .here))
+      (λ e. settle-left (t .mst) (t .xrf) s c m opened (settle-asked s m e .here))
 
 -- ---- a list of MFNs: each is settled by one step
 
@@ -142,23 +159,24 @@ module _ (t : Store) (h : SoundStore t) where
   step (view m tag occ) = asked t h (view m tag occ) (view-outcome t (opened t h) m tag occ (see t h m)) refl refl
   step (viewSettled m tag occ) = asked t h (viewSettled m tag occ) (settled-view-outcome t (opened t h) m tag occ (see t h m)) refl refl
   step (create d) =
-      written t h (create d) (createAnswer t d) _ (create-answer t (opened t h) d (λ e. create-row (s t h) (below-capacity (s t h) e))) (create-gives t h d) refl
-      (λ e. create-left (t .mst) (t .xrf) d (s t h) (create-asked (s t h) d e))
+      written t h (create d) (createAnswer t d) _ (create-answer t (opened t h) d (less t h) (λ e. create-row (s t h) (below-capacity (s t h) e))) (create-gives t h d) refl
+      (λ e. create-left (t .mst) (t .xrf) d (s t h) (c t h) (create-asked (s t h) d e))
   step (update m d) =
       written t h (update m d) (updateAnswer t m d) _ (update-answer t (opened t h) m (see t h m) d) refl refl
       (λ e.
       let a = update-asked (s t h) m d e in
-      update-left (t .mst) (t .xrf) (s t h) m (opened t h) (a .here) d (draft-draftable (d .tags) (d .lens) (d .bytes) (a .draft)) (a .live) (a .room))
+      update-left (t .mst) (t .xrf) (s t h) (c t h) m (opened t h) (a .here) d (draft-draftable (d .tags) (d .lens) (d .bytes) (a .draft)) (a .live) (a .room))
   step (delete m) =
-      written t h (delete m) (deleteAnswer t m) _ (delete-answer t (opened t h) m (see t h m)) refl refl
-      (λ e. let a = delete-asked (s t h) m e in delete-left (t .mst) (t .xrf) (s t h) m (opened t h) (a .here) (a .live) (a .room))
+      written t h (delete m) (deleteAnswer t m) _ (delete-answer t (opened t h) m (see t h m) (some t h m)) refl refl
+      (λ e. let a = delete-asked (s t h) m e in delete-left (t .mst) (t .xrf) (s t h) (c t h) m (opened t h) (a .here) (a .live) (a .room))
   step (settle m) = settle-step t h m
   step (revert m) =
-      written t h (revert m) (revertAnswer t m) _ (revert-answer t (opened t h) m (see t h m)) refl refl
-      (λ e. let a = revert-asked (s t h) m e in revert-left (t .mst) (t .xrf) (s t h) m (opened t h) (a .here) (a .changed))
-  step check = asked t h check (ap plain (check-answer t (opened t h) (body-sound (t .mst) (t .xrf) (s t h)))) refl refl
+      written t h (revert m) (revertAnswer t m) _ (revert-answer t (opened t h) m (see t h m) (less t h)) refl refl
+      (λ e. let a = revert-asked (s t h) m e in revert-left (t .mst) (t .xrf) (s t h) (c t h) m (opened t h) (a .here) (a .changed))
+  step check = asked t h check (ap plain (check-answer t (opened t h) (body-sound (t .mst) (t .xrf) (s t h) (c t h)))) refl refl
   step migrate = asked t h migrate (ap plain (migrate-answer t (opened t h))) (migrate-left t (opened t h)) refl
   step (settleList ms lent) = list-step t h ms lent
+  step recount = asked t h recount (ap plain (recount-answer t (opened t h) (body-apart (t .mst) (t .xrf) (s t h)))) (recounts t .nothing h) refl
 
   -- what the control record says
   end-is : endOf (t .mst) ≡ ledgerOf t .end

@@ -4,6 +4,7 @@ use Prim.Native.Nat.{ℕ}
 use mathlib.Core.Path.{_≡_, refl}
 use mathlib.Core.Logic.{⊎-elim}
 use lib.ListN.{length}
+use Rattle.soundness.proofs.Recount.{recounts}
 use Rattle.files.specs.Control.{nextOf}
 use Rattle.store.specs.Store.{Store}
 use Rattle.store.specs.Answer.{after}
@@ -16,7 +17,7 @@ use Rattle.soundness.specs.Touching.{MayChange, TouchesOnly}
 use Rattle.soundness.proofs.Touching.{calls-touch-only, nothing-touched}
 use Rattle.settling.specs.SettleList.{settleEachLeaves, settleListAnswer, settleListLeaves}
 use Rattle.settling.proofs.Theorems.{unchanged, changes-only}
-use Rattle.ledger.specs.Call.{format, view, viewSettled, create, update, delete, settle, revert, check, migrate, settleList}
+use Rattle.ledger.specs.Call.{format, view, viewSettled, create, update, delete, settle, revert, check, migrate, settleList, recount}
 use Rattle.ledger.specs.StoreRun.{nextS, resultS}
 use Rattle.ledger.specs.LedgerSteps.{effectOf}
 use Rattle.ledger.specs.Touched.{Touches, ListTouches}
@@ -44,6 +45,7 @@ touches s (revert m) sound other no-list = either s _ (revertAnswer s m) m (call
 touches s check sound other no-list = same-touched s s 0 refl
 touches s migrate sound other no-list = same-touched s _ 0 (migrate-left s (opened s sound))
 touches s (settleList ms lent) sound other no-list = absurd (no-list ms lent refl)
+touches s recount sound other no-list = same-touched s _ 0 (recounts s .nothing sound)
 
 -- a list of MFNs, refused or not
 pub list-touches : ListTouches

@@ -6,7 +6,10 @@ use mathlib.Core.Bool.{Bool, true, false, _||_, cond}
 use mathlib.Core.List.{List}
 use lib.Dec.{ltb}
 use lib.ListN.{length}
-use Rattle.files.specs.Control.{nextOf, endOf}
+use lib.IntN.{pos}
+use Rattle.files.specs.Control.{nextOf, endOf, countOf}
+use Rattle.soundness.specs.Sound.{liveCount}
+use Rattle.soundness.proofs.Live.{same-counts, update-kept, settle-kept, deleted-counts, reverted-counts}
 use Rattle.layout.specs.declared.entry.Mark.{Mark}
 use Rattle.layout.specs.declared.entry.Mark.the-variants.{Settled, Changed, New}
 use Rattle.layout.specs.declared.entry.Place.{Place}
@@ -16,7 +19,7 @@ use Rattle.record.specs.Fields.{Field, fieldsOf}
 use Rattle.drafts.specs.Bytes.{needFor}
 use Rattle.drafts.proofs.Draftable.{Draftable}
 use Rattle.store.specs.Reading.{placeFor, isSettled, isChanged, recordAt, leaderAt, settledRecord, currentFields}
-use Rattle.versions.specs.Written.{updateAppends, pendingMark, updatedMst, updatedXrf, deletedMst, deletedXrf, settledMst, settledXrf, revertedXrf}
+use Rattle.versions.specs.Written.{updateAppends, pendingMark, updatedMst, updatedXrf, deletedMst, deletedXrf, settledMst, settledXrf, revertedMst, revertedXrf}
 use Rattle.store.proofs.Gates.{MfnFacts, mfn-facts}
 use Rattle.soundness.proofs.SoundEntries.{Sound, sound}
 use Rattle.soundness.proofs.Leaving.{Leaves}
@@ -64,7 +67,7 @@ in-place p l need e = go (isSettled (p .mark)) (ltb (l .mfrl) need) e
     go true b h = absurd (false-true (sym h))
     go false b h = refl
 
-module _ (mst xrf : List ℕ) (s : Sound mst xrf) (m : ℕ) (o : Opened (store mst xrf)) (t : There mst xrf m) where
+module _ (mst xrf : List ℕ) (s : Sound mst xrf) (c : countOf mst ≡ pos (liveCount (store mst xrf))) (m : ℕ) (o : Opened (store mst xrf)) (t : There mst xrf m) where
   abbrev p : Place
   p = placeFor (store mst xrf) m
 
@@ -79,13 +82,16 @@ module _ (mst xrf : List ℕ) (s : Sound mst xrf) (m : ℕ) (o : Opened (store m
 
   -- what a call leaves, with the item of m
   left-set : {mst′ xrf′ : List ℕ} {end mfrl : ℕ} {q : Place} {fs old : List Field} → Leaves mst xrf mst′ xrf′ m end (nextOf mst) q mfrl fs old
-      → (e : Effect) → itemSet m (held fs (q .deleted) (markingFor (q .mark) mfrl old)) end ≡ e → Left (store mst′ xrf′) (applied L e)
-  left-set {mst′} {xrf′} l e same =
-      record { ledger = ledger-set s l refl (range .low) (range .high) ∙ ap (applied L) same; sound = sound mst′ xrf′ (l .sound) }
+      → countOf mst′ ≡ pos (liveCount (store mst′ xrf′)) → (e : Effect) → itemSet m (held fs (q .deleted) (markingFor (q .mark) mfrl old)) end ≡ e → Left (store mst′ xrf′) (applied L e)
+  left-set {mst′} {xrf′} l k e same =
+      record { ledger = ledger-set s l refl (range .low) (range .high) ∙ ap (applied L) same; sound = sound mst′ xrf′ (l .sound) k }
 
   end-is : L .end ≡ endOf mst
   unfolding ledgerOf
   end-is = refl
+
+  updated : (d : Draft) → countOf (updatedMst mst m p (fieldsIn d)) ≡ countOf mst
+  updated d = update-kept s c m p (range .low) (range .high) (t .entry) (fieldsIn d)
 
   -- ---- update, by whether it is appended
 
@@ -102,10 +108,12 @@ module _ (mst xrf : List ℕ) (s : Sound mst xrf) (m : ℕ) (o : Opened (store m
         go : (b : Bool) → updateAppends p (leaderAt mst p) (needFor (fieldsIn d)) ≡ b
             → Left (store (updatedMst mst m p (fieldsIn d)) (updatedXrf mst xrf m p (fieldsIn d))) (applied L (effectOf L (update m d)))
         go true e =
-            left-set (update-appends s m p (range .low) (range .high) (t .entry) live (fieldsIn d) fits e (room e)) (effectOf L (update m d))
+            let l = update-appends s m p (range .low) (range .high) (t .entry) live (fieldsIn d) fits e (room e) in
+            left-set l (same-counts s c m p (range .low) (range .high) (t .entry) l (sym live) (updated d)) (effectOf L (update m d))
             (rw (item, appends-same ∙ e, live, end-is, changed-marking mst p (p .mark) (needFor (fieldsIn d))))
         go false e =
-            left-set (update-stays s m p (range .low) (range .high) (t .entry) live (fieldsIn d) fits e) (effectOf L (update m d))
+            let l = update-stays s m p (range .low) (range .high) (t .entry) live (fieldsIn d) fits e in
+            left-set l (same-counts s c m p (range .low) (range .high) (t .entry) l refl (updated d)) (effectOf L (update m d))
             (rw (item, appends-same ∙ e, live, end-is, kept-marking mst p (p .mark) (in-place p (leaderAt mst p) (needFor (fieldsIn d)) e)))
 
   -- ---- delete, by whether the record is settled
@@ -119,17 +127,22 @@ module _ (mst xrf : List ℕ) (s : Sound mst xrf) (m : ℕ) (o : Opened (store m
         go : (b : Bool) → isSettled (p .mark) ≡ b
             → Left (store (deletedMst mst m p (currentFields mst p)) (deletedXrf mst xrf m p)) (applied L (effectOf L (delete m)))
         go true e =
-            left-set (delete-appends s m p (range .low) (range .high) (t .entry) live e (room e)) (effectOf L (delete m))
+            let l = delete-appends s m p (range .low) (range .high) (t .entry) live e (room e) in
+            left-set l (deleted-counts s c m p (range .low) (range .high) (t .entry) (currentFields mst p) l live refl) (effectOf L (delete m))
             (rw (item, settled-mark mst p (p .mark), e, end-is, settled-version mst p (p .mark) (needFor (currentFields mst p)) e))
         go false e =
-            left-set (delete-stays s m p (range .low) (range .high) (t .entry) live e) (effectOf L (delete m))
+            let l = delete-stays s m p (range .low) (range .high) (t .entry) live e in
+            left-set l (deleted-counts s c m p (range .low) (range .high) (t .entry) (currentFields mst p) l live refl) (effectOf L (delete m))
             (rw (item, settled-mark mst p (p .mark), e, end-is, kept-marking mst p (p .mark) e))
 
   -- ---- settle and revert
 
   pub settle-left : Left (store (settledMst mst p) (settledXrf xrf m p)) (applied L (effectOf L (settle m)))
   unfolding effectOf
-  settle-left = left-set (settled-leaves s m p (range .low) (range .high) (t .entry)) (effectOf L (settle m)) (rw (item, end-is))
+  settle-left =
+      let l = settled-leaves s m p (range .low) (range .high) (t .entry) in
+      left-set l (same-counts s c m p (range .low) (range .high) (t .entry) l refl (settle-kept s c m p (range .low) (range .high) (t .entry)))
+      (effectOf L (settle m)) (rw (item, end-is))
 
   abbrev settledEnd : List Field → ℕ → Effect
   settledEnd fs end = itemSet m (held fs false settled) end
@@ -142,8 +155,9 @@ module _ (mst xrf : List ℕ) (s : Sound mst xrf) (m : ℕ) (o : Opened (store m
   reverted-fields : p .mark ≡ Changed → fieldsOf (settledRecord mst p) ≡ settledFields (itemOf L m)
   reverted-fields c = rw item (sym (changed-fields (p .mark) c))
 
-  pub revert-left : p .mark ≡ Changed → Left (store mst (revertedXrf mst xrf m p)) (applied L (effectOf L (revert m)))
+  pub revert-left : p .mark ≡ Changed → Left (store (revertedMst mst p) (revertedXrf mst xrf m p)) (applied L (effectOf L (revert m)))
   unfolding effectOf
-  revert-left c =
-      left-set (reverted-leaves s m p (range .low) (range .high) (t .entry) c) (effectOf L (revert m))
-      (ap (λ (fs : List Field). settledEnd fs (endOf mst)) (reverted-fields c) ∙ ap (settledEnd (settledFields (itemOf L m))) (sym end-is))
+  revert-left k =
+      let l = reverted-leaves s m p (range .low) (range .high) (t .entry) k in
+      left-set l (reverted-counts s c m p (range .low) (range .high) (t .entry) l refl) (effectOf L (revert m))
+      (ap (λ (fs : List Field). settledEnd fs (endOf mst)) (reverted-fields k) ∙ ap (settledEnd (settledFields (itemOf L m))) (sym end-is))

@@ -19,6 +19,8 @@ pub data Call : Type 0 where
   migrate : Call
   -- request C-13: the MFNs, and how long the lent list of answers is
   settleList : List ℕ → ℕ → Call
+  -- request C-17
+  recount : Call
 
 -- what a call answers
 pub record Outcome : Type 0 where

@@ -16,7 +16,7 @@ use Rattle.store.specs.declared.answer.Answer.the-variants.{Done, BadControl, N
 use Rattle.store.specs.Store.{Store, store}
 use Rattle.settling.specs.Theorems.{among}
 use Rattle.drafts.specs.Draft.{Draft, fieldsIn}
-use Rattle.ledger.specs.Call.{Call, format, view, viewSettled, create, update, delete, settle, revert, check, migrate, settleList, Outcome, plain}
+use Rattle.ledger.specs.Call.{Call, format, view, viewSettled, create, update, delete, settle, revert, check, migrate, settleList, recount, Outcome, plain}
 use Rattle.ledger.specs.Ledger.{itemOf, keptFields, keptMark, isSettledMark}
 use Rattle.ledger.specs.LedgerAnswers.{appends, refusalsL}
 use Rattle.ledger.specs.LedgerSteps.{touches, effectOf}
@@ -123,6 +123,10 @@ neverMigrating = 0 ∷ 1 ∷ 3 ∷ 4 ∷ 5 ∷ 6 ∷ 7 ∷ 8 ∷ 9 ∷ 10 ∷ 11
 abbrev pub neverListed : List ℕ
 neverListed = 1 ∷ 2 ∷ 3 ∷ 4 ∷ 5 ∷ 6 ∷ 7 ∷ 8 ∷ 9 ∷ 10 ∷ 11 ∷ 12 ∷ 13 ∷ 14 ∷ 15 ∷ []
 
+-- for a recount, every number but 0
+abbrev pub neverRecounting : List ℕ
+neverRecounting = 1 ∷ 2 ∷ 3 ∷ 4 ∷ 5 ∷ 6 ∷ 7 ∷ 8 ∷ 9 ∷ 10 ∷ 11 ∷ 12 ∷ 13 ∷ 14 ∷ 15 ∷ 17 ∷ []
+
 abbrev pub neverFrom : Call → List ℕ
 neverFrom format = neverOthers
 neverFrom (view m tag occ) = neverViews
@@ -135,6 +139,7 @@ neverFrom (revert m) = neverOthers
 neverFrom check = neverOthers
 neverFrom migrate = neverMigrating
 neverFrom (settleList ms lent) = neverListed
+neverFrom recount = neverRecounting
 
 -- an answer may come from a call
 abbrev pub MayCome : Call → Answer → Type 0
@@ -174,3 +179,6 @@ pub record Claims (s : Store) : Type 0 where
   -- a migration answers 2 and changes nothing
   pub migrate-refused : answerS s migrate ≡ plain BadControl
   pub migrate-nothing : nextS s migrate ≡ s
+  -- a recount answers 0 and changes nothing
+  pub recount-done : answerS s recount ≡ plain Done
+  pub recount-nothing : nextS s recount ≡ s

@@ -1,6 +1,6 @@
 -- What the ledger answers to a call: the lowest number that the table gives, read on the ledger. Each call's refusals stand in the order of
 -- their numbers, and `lowest` takes the first that applies; proofs/Ascending shows that every table ascends, so that the first is the lowest.
--- Document 01, "The ledger of demand 3"; request C-15.
+-- Document 01, "The ledger of demand 3"; requests C-15 and C-17.
 use Prim.Native.Nat.{ℕ, _+_}
 use mathlib.Core.Bool.{Bool, true, not, _&&_, _||_}
 use mathlib.Core.List.{List, [], _∷_}
@@ -16,7 +16,7 @@ use Rattle.store.specs.declared.answer.Answer.the-variants.{BadLength, BadContr
 use Rattle.drafts.specs.Draft.{isRight, fieldsIn}
 use Rattle.views.specs.Views.{amongFields, occurrencesWith}
 use Rattle.settling.specs.SettleList.{settleListRefusals}
-use Rattle.ledger.specs.Call.{Call, format, view, viewSettled, create, update, delete, settle, revert, check, migrate, settleList, Outcome, plain, returned, viewed, listed}
+use Rattle.ledger.specs.Call.{Call, format, view, viewSettled, create, update, delete, settle, revert, check, migrate, settleList, recount, Outcome, plain, returned, viewed, listed}
 use Rattle.ledger.specs.Ledger.{Marking, settled, Item, held, Ledger, nextMfn, withItem, lengthsFine, mfnIn, itemOf, isGoneItem, keptFields, keptDeleted, keptMark, isSettledMark, isNewMark, keptLength, settledFields}
 
 -- ---- the rows that calls share
@@ -139,6 +139,8 @@ replyL L check = reply (measured L []) nothing
 replyL L migrate = reply (measured L (refuse BadControl true ∷ [])) nothing
 -- 17 by the two lengths of the lists alone
 replyL L (settleList ms lent) = reply (settleListRefusals (length ms) lent) (theAnswers (answersEach L ms))
+-- a recount answers 0
+replyL L recount = reply (measured L []) nothing
 
 unfoldable pub refusalsL : Ledger → Call → List Refusal
 refusalsL L c = replyL L c .refusals

@@ -10,7 +10,7 @@ use Rattle.drafts.specs.Bytes.{needFor}
 use Rattle.store.specs.Answer.{after}
 use Rattle.drafts.specs.Draft.{fieldsIn}
 use Rattle.settling.specs.Theorems.{among}
-use Rattle.ledger.specs.Call.{Call, format, view, viewSettled, create, update, delete, settle, revert, check, migrate, settleList, Outcome}
+use Rattle.ledger.specs.Call.{Call, format, view, viewSettled, create, update, delete, settle, revert, check, migrate, settleList, recount, Outcome}
 use Rattle.ledger.specs.Ledger.{Marking, settled, new, changed, Item, held, Ledger, nextMfn, empty, withItem, itemOf, keptFields, keptDeleted, keptMark, isSettledMark, keptLength, settledFields}
 use Rattle.ledger.specs.LedgerAnswers.{appends, settledItem, settledEach, numberL, answerL}
 
@@ -94,6 +94,8 @@ effectOf L (revert m) = settledAs L m (settledFields (itemOf L m)) false
 effectOf L check = stays
 effectOf L migrate = stays
 effectOf L (settleList ms lent) = eachSettled ms
+-- and changes nothing
+effectOf L recount = stays
 
 -- a refused call changes nothing
 unfoldable pub nextL : Ledger → Call → Ledger

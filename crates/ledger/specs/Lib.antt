@@ -9,3 +9,4 @@ pub mod History
 pub mod Touched
 pub mod EvenCount
 pub mod Singles
+pub mod RecordCount

@@ -9,11 +9,12 @@ use Rattle.views.specs.Views.{viewOf, settledViewOf, shownBytes}
 use Rattle.writing.specs.declared.create.Created.{Created}
 use Rattle.views.specs.declared.views.Shown.{Shown}
 use Rattle.soundness.specs.Sound.{checkAnswer}
+use Rattle.soundness.specs.Recount.{recountAnswer, recountLeaves}
 use Rattle.migrating.specs.Migrate.{migrateAnswer, migrateLeaves}
 use Rattle.settling.specs.SettleList.{settleEachAnswers, settleListAnswer, settleListLeaves}
 use Rattle.store.specs.Answer.{after}
 use Rattle.store.specs.Store.{Store}
-use Rattle.ledger.specs.Call.{Call, format, view, viewSettled, create, update, delete, settle, revert, check, migrate, settleList, Outcome, plain, returned, viewed, listed}
+use Rattle.ledger.specs.Call.{Call, format, view, viewSettled, create, update, delete, settle, revert, check, migrate, settleList, recount, Outcome, plain, returned, viewed, listed}
 
 -- what a view shows, and what a create returns
 abbrev pub shownOutcome : List ℕ → Shown → Outcome
@@ -46,6 +47,7 @@ resultS s (revert m) = result (plain (revertAnswer s m)) (revertLeaves s m)
 resultS s check = result (plain (checkAnswer s)) s
 resultS s migrate = result (plain (migrateAnswer s)) (migrateLeaves s)
 resultS s (settleList ms lent) = result (listOutcome s ms lent) (settleListLeaves s ms lent)
+resultS s recount = result (plain (recountAnswer s)) (recountLeaves s)
 
 unfoldable pub answerS : Store → Call → Outcome
 answerS s c = resultS s c .outcome

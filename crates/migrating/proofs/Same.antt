@@ -1,6 +1,7 @@
--- A card of the old rule, and the same card migrated, each read by its own rule. Both have the same end, the same NXTMFN and the same bytes
--- behind the control record; all that is read of a record stands there, since a well-formed place has an address of 64 or more. So both read the
--- same: every view, every step, and whether the store is sound.
+-- Two cards, one read by a rule and one by the rule of today, that have the same end, the same NXTMFN and the same bytes behind the control
+-- record (`SameBehind`). All that is read of a record stands there, since a well-formed place has an address of 64 or more. So both read the same:
+-- every view, every step, and whether the store is sound apart from RECCNT. A card of the old rule and the same card migrated are two such cards,
+-- and so are a card and the same card recounted.
 use Prim.Native.Nat.{ℕ, zero, suc, _+_, _-_, _≤_}
 use native.Mathlib.Omega.{arith}
 use mathlib.Core.Path.{_≡_, refl, sym, ap, _∙_}
@@ -20,9 +21,9 @@ use Rattle.layout.specs.declared.entry.Place.{Place}
 use Rattle.layout.specs.declared.entry.Entry.{Entry}
 use Rattle.layout.specs.declared.entry.Entry.the-variants.{Gone, Malformed, At}
 use Rattle.layout.proofs.Facts.{well-placed-facts, end-moved-facts}
-use Rattle.files.specs.Control.{offsetsFrom, oldOffsetsFrom, nextOf, endFrom, endOf, oldEndOf, controlRightFrom, oldControlRight, migratedMst}
+use Rattle.files.specs.Control.{offsetsFrom, nextOf, endFrom, endOf, controlRightFrom, countOf, countIs}
 use Rattle.files.specs.CrossReference.{entryAt}
-use Rattle.files.proofs.ControlRecord.{control-facts, migrated-part, migrated-length, migrated-next, migrated-end, migrated-right}
+use Rattle.files.proofs.ControlRecord.{control-facts}
 use Rattle.files.proofs.CrossReference.{entry-well-placed}
 use Rattle.record.specs.Record.{backAddress}
 use Rattle.record.specs.Directory.{tagAt, posAt, lenAt}
@@ -41,7 +42,7 @@ use Rattle.asking.specs.State.{stateShown}
 use Rattle.asking.specs.Listing.{Lists, listedOver}
 use Rattle.soundness.specs.Sound.{elem, implies}
 use Rattle.soundness.proofs.Counting.{allTo-same}
-use Rattle.migrating.specs.Readings.{recordBy, leaderBy, backBy, fineBy, settledFineBy, bothFineBy, namedBy, stateBy, onCurrentBy, settledRecordBy, settledAddressBy, onSettledBy, foundRows, foundShown, viewBy, settledViewBy, indexRows, indexShown, fieldBy, settledFieldBy, listShown, mfrlBy, nextStepBy, stepsInBy, arrivesInBy, stepsBy, arrivesBy, entrySoundBy, bodySoundBy, soundBy}
+use Rattle.migrating.specs.Readings.{recordBy, leaderBy, backBy, fineBy, settledFineBy, bothFineBy, namedBy, stateBy, onCurrentBy, settledRecordBy, settledAddressBy, onSettledBy, foundRows, foundShown, viewBy, settledViewBy, indexRows, indexShown, fieldBy, settledFieldBy, listShown, mfrlBy, nextStepBy, stepsInBy, arrivesInBy, stepsBy, arrivesBy, entrySoundBy, bodyApartBy, apartBy, bodySoundBy, soundBy, liveCountBy}
 use Rattle.migrating.specs.Theorems.{SameBytes}
 
 -- ---- a call by what is read: where the tables ask the same, the same is shown
@@ -144,97 +145,106 @@ module _ (lengths known : Bool) where
 
 -- ---- the two cards
 
-module _ (mst xrf : List ℕ) (old : oldControlRight mst (capacityOf (length xrf)) ≡ true) where
-  same-end : endFrom offsetsFrom (migratedMst mst) ≡ endFrom oldOffsetsFrom mst
-  same-end = migrated-end mst (capacityOf (length xrf)) old
+-- one that is right by a rule, and one that is right by the rule of today
+pub record SameBehind (from : ℕ) (mst mst′ : List ℕ) (capacity : ℕ) : Type 0 where
+  pub right : controlRightFrom from mst capacity ≡ true
+  pub right-now : controlRightFrom offsetsFrom mst′ capacity ≡ true
+  pub long : length mst′ ≡ length mst
+  pub next : nextOf mst′ ≡ nextOf mst
+  pub end : endFrom offsetsFrom mst′ ≡ endFrom from mst
+  pub parts : (at n : ℕ) → 64 ≤ at → part mst′ at n ≡ part mst at n
+
+module _ {from : ℕ} (mst mst′ xrf : List ℕ) (behind : SameBehind from mst mst′ (capacityOf (length xrf))) where
+  same-end : endFrom offsetsFrom mst′ ≡ endFrom from mst
+  same-end = behind .end
 
   -- ---- a record
 
-  -- of the migrated card, with the end that both have
+  -- of the second card, with the end that both have
   abbrev readNow : ℕ → List ℕ
-  readNow at = part (migratedMst mst) at (oldEndOf mst - at)
+  readNow at = part mst′ at (endFrom from mst - at)
 
-  read-same : (at : ℕ) → 64 ≤ at → readNow at ≡ recordBy oldOffsetsFrom mst at
-  read-same at h = migrated-part mst at (oldEndOf mst - at) h
+  read-same : (at : ℕ) → 64 ≤ at → readNow at ≡ recordBy from mst at
+  read-same at h = behind .parts at (endFrom from mst - at) h
 
-  record-same : (at : ℕ) → 64 ≤ at → recordBy offsetsFrom (migratedMst mst) at ≡ recordBy oldOffsetsFrom mst at
+  record-same : (at : ℕ) → 64 ≤ at → recordBy offsetsFrom mst′ at ≡ recordBy from mst at
   record-same at h = rw same-end (read-same at h)
 
   module _ (m : ℕ) (p : Place) (low : 64 ≤ placeAddress p) where
-    fine-same : fineBy offsetsFrom (migratedMst mst) m p ≡ fineBy oldOffsetsFrom mst m p
+    fine-same : fineBy offsetsFrom mst′ m p ≡ fineBy from mst m p
     unfolding fineBy
     fine-same = rw (record-same (placeAddress p) low, same-end)
 
-    back-same : backBy offsetsFrom (migratedMst mst) p ≡ backBy oldOffsetsFrom mst p
+    back-same : backBy offsetsFrom mst′ p ≡ backBy from mst p
     back-same = rw (record-same (placeAddress p) low)
 
     -- a changed record that is well formed has a well-formed back place
-    back-low : fineBy oldOffsetsFrom mst m p ≡ true → p .mark ≡ Changed → 64 ≤ backBy oldOffsetsFrom mst p
+    back-low : fineBy from mst m p ≡ true → p .mark ≡ Changed → 64 ≤ backBy from mst p
     unfolding fineBy
     back-low e k =
-        let q = simp tests at (sym (well-formed-both (recordBy oldOffsetsFrom mst (placeAddress p)) (oldEndOf mst) m p) ∙ e) in
-        back-changed (oldEndOf mst) p (leaderBy oldOffsetsFrom mst p) (q .1) k .facts .above
+        let q = simp tests at (sym (well-formed-both (recordBy from mst (placeAddress p)) (endFrom from mst) m p) ∙ e) in
+        back-changed (endFrom from mst) p (leaderBy from mst p) (q .1) k .facts .above
 
-    settled-fine-same : 64 ≤ backBy oldOffsetsFrom mst p → settledFineBy offsetsFrom (migratedMst mst) m p ≡ settledFineBy oldOffsetsFrom mst m p
+    settled-fine-same : 64 ≤ backBy from mst p → settledFineBy offsetsFrom mst′ m p ≡ settledFineBy from mst m p
     unfolding settledFineBy
-    settled-fine-same h = rw (record-same (placeAddress p) low, record-same (backBy oldOffsetsFrom mst p) h, same-end)
+    settled-fine-same h = rw (record-same (placeAddress p) low, record-same (backBy from mst p) h, same-end)
 
     -- with its settled version
-    both-same : bothFineBy offsetsFrom (migratedMst mst) m p ≡ bothFineBy oldOffsetsFrom mst m p
-    both-same = rw fine-same (go (fineBy oldOffsetsFrom mst m p) refl)
+    both-same : bothFineBy offsetsFrom mst′ m p ≡ bothFineBy from mst m p
+    both-same = rw fine-same (go (fineBy from mst m p) refl)
       where
-        by : (k : Mark) → p .mark ≡ k → fineBy oldOffsetsFrom mst m p ≡ true
-            → cond (isChanged k) (settledFineBy offsetsFrom (migratedMst mst) m p) true ≡ cond (isChanged k) (settledFineBy oldOffsetsFrom mst m p) true
+        by : (k : Mark) → p .mark ≡ k → fineBy from mst m p ≡ true
+            → cond (isChanged k) (settledFineBy offsetsFrom mst′ m p) true ≡ cond (isChanged k) (settledFineBy from mst m p) true
         by Settled e f = refl
         by Changed e f = settled-fine-same (back-low f e)
         by New e f = refl
 
-        go : (b : Bool) → fineBy oldOffsetsFrom mst m p ≡ b
-            → (b && cond (isChanged (p .mark)) (settledFineBy offsetsFrom (migratedMst mst) m p) true)
-            ≡ (b && cond (isChanged (p .mark)) (settledFineBy oldOffsetsFrom mst m p) true)
+        go : (b : Bool) → fineBy from mst m p ≡ b
+            → (b && cond (isChanged (p .mark)) (settledFineBy offsetsFrom mst′ m p) true)
+            ≡ (b && cond (isChanged (p .mark)) (settledFineBy from mst m p) true)
         go false e = refl
         go true e = by (p .mark) refl e
 
-    settled-record-same : fineBy oldOffsetsFrom mst m p ≡ true
-        → (settledRecordBy offsetsFrom (migratedMst mst) p ≡ settledRecordBy oldOffsetsFrom mst p) × (settledAddressBy offsetsFrom (migratedMst mst) p ≡ settledAddressBy oldOffsetsFrom mst p)
+    settled-record-same : fineBy from mst m p ≡ true
+        → (settledRecordBy offsetsFrom mst′ p ≡ settledRecordBy from mst p) × (settledAddressBy offsetsFrom mst′ p ≡ settledAddressBy from mst p)
     settled-record-same f = go (p .mark) refl
       where
         go : (k : Mark) → p .mark ≡ k
-            → (cond (isChanged k) (recordBy offsetsFrom (migratedMst mst) (backBy offsetsFrom (migratedMst mst) p)) (recordBy offsetsFrom (migratedMst mst) (placeAddress p))
-            ≡ cond (isChanged k) (recordBy oldOffsetsFrom mst (backBy oldOffsetsFrom mst p)) (recordBy oldOffsetsFrom mst (placeAddress p)))
-            × (cond (isChanged k) (backBy offsetsFrom (migratedMst mst) p) (placeAddress p) ≡ cond (isChanged k) (backBy oldOffsetsFrom mst p) (placeAddress p))
+            → (cond (isChanged k) (recordBy offsetsFrom mst′ (backBy offsetsFrom mst′ p)) (recordBy offsetsFrom mst′ (placeAddress p))
+            ≡ cond (isChanged k) (recordBy from mst (backBy from mst p)) (recordBy from mst (placeAddress p)))
+            × (cond (isChanged k) (backBy offsetsFrom mst′ p) (placeAddress p) ≡ cond (isChanged k) (backBy from mst p) (placeAddress p))
         go Settled e = (record-same (placeAddress p) low, refl)
-        go Changed e = (rw back-same (record-same (backBy oldOffsetsFrom mst p) (back-low f e)), back-same)
+        go Changed e = (rw back-same (record-same (backBy from mst p) (back-low f e)), back-same)
         go New e = (record-same (placeAddress p) low, refl)
 
     -- the record that the settled view reads stands behind the control record
-    settled-address-low : fineBy oldOffsetsFrom mst m p ≡ true → 64 ≤ settledAddressBy oldOffsetsFrom mst p
+    settled-address-low : fineBy from mst m p ≡ true → 64 ≤ settledAddressBy from mst p
     settled-address-low f = go (p .mark) refl
       where
-        go : (k : Mark) → p .mark ≡ k → 64 ≤ cond (isChanged k) (backBy oldOffsetsFrom mst p) (placeAddress p)
+        go : (k : Mark) → p .mark ≡ k → 64 ≤ cond (isChanged k) (backBy from mst p) (placeAddress p)
         go Settled e = low
         go Changed e = back-low f e
         go New e = low
 
   -- ---- an entry
 
-  entry-low : (m : ℕ) (p : Place) → entryAt xrf (oldEndOf mst) m ≡ At p → 64 ≤ placeAddress p
-  entry-low m p e = well-placed-facts (oldEndOf mst) (p .block .0) (p .offset) (entry-well-placed xrf (oldEndOf mst) m p e) .above
+  entry-low : (m : ℕ) (p : Place) → entryAt xrf (endFrom from mst) m ≡ At p → 64 ≤ placeAddress p
+  entry-low m p e = well-placed-facts (endFrom from mst) (p .block .0) (p .offset) (entry-well-placed xrf (endFrom from mst) m p e) .above
 
-  known-same : (m : ℕ) → mfnInRange (migratedMst mst) m ≡ mfnInRange mst m
+  known-same : (m : ℕ) → mfnInRange mst′ m ≡ mfnInRange mst m
   unfolding mfnInRange
-  known-same m = rw (migrated-next mst (capacityOf (length xrf)) old)
+  known-same m = rw (behind .next)
 
-  pub lengths-same : lengthsPermitted (store (migratedMst mst) xrf) ≡ lengthsPermitted (store mst xrf)
+  pub lengths-same : lengthsPermitted (store mst′ xrf) ≡ lengthsPermitted (store mst xrf)
   unfolding lengthsPermitted
-  lengths-same = rw (migrated-length mst (capacityOf (length xrf)) old)
+  lengths-same = rw (behind .long)
 
   -- ---- the views
 
-  right-both : (controlRightFrom offsetsFrom (migratedMst mst) (capacityOf (length xrf)) ≡ true) × (controlRightFrom oldOffsetsFrom mst (capacityOf (length xrf)) ≡ true)
-  right-both = (migrated-right mst (capacityOf (length xrf)) old, old)
+  right-both : (controlRightFrom offsetsFrom mst′ (capacityOf (length xrf)) ≡ true) × (controlRightFrom from mst (capacityOf (length xrf)) ≡ true)
+  right-both = (behind .right-now, behind .right)
 
-  -- the settled version of the migrated card, with the end that both have
+  -- the settled version of the second card, with the end that both have
   abbrev backNow : Place → ℕ
   backNow p = backAddress (leaderOf (readNow (placeAddress p)))
 
@@ -244,15 +254,15 @@ module _ (mst xrf : List ℕ) (old : oldControlRight mst (capacityOf (length xrf
   abbrev settledAtNow : Place → ℕ
   settledAtNow p = cond (isChanged (p .mark)) (backNow p) (placeAddress p)
 
-  pub state-same : (m : ℕ) → stateBy offsetsFrom (store (migratedMst mst) xrf) m ≡ stateBy oldOffsetsFrom (store mst xrf) m
+  pub state-same : (m : ℕ) → stateBy offsetsFrom (store mst′ xrf) m ≡ stateBy from (store mst xrf) m
   unfolding stateBy
   state-same m =
       rw (right-both .0, right-both .1, lengths-same, known-same m, same-end)
       (shown-same (lengthsPermitted (store mst xrf)) (mfnInRange mst m)
-      (fineBy offsetsFrom (migratedMst mst) m) (fineBy oldOffsetsFrom mst m)
+      (fineBy offsetsFrom mst′ m) (fineBy from mst m)
       (λ p. Done) (λ p. Done)
       (λ a p. stateShown a (p .mark) (p .deleted)) (λ a p. stateShown a (p .mark) (p .deleted))
-      (entryAt xrf (oldEndOf mst) m)
+      (entryAt xrf (endFrom from mst) m)
       (λ a h p. refl)
       (λ p e. fine-same m p (entry-low m p e))
       (λ p e f. (refl, λ a. refl)))
@@ -267,87 +277,87 @@ module _ (mst xrf : List ℕ) (old : oldControlRight mst (capacityOf (length xrf
     settledRest rec p = cond (p .deleted && isSettled (p .mark)) Deleted (cond (isNew (p .mark)) NeverSettled (lowest (rows rec)))
 
     module _ {A : Type 0} (show : Answer → ℕ → List ℕ → A) (empty : EmptyRefused show) where
-      pub current-same : onCurrentBy offsetsFrom (store (migratedMst mst) xrf) m rows show ≡ onCurrentBy oldOffsetsFrom (store mst xrf) m rows show
+      pub current-same : onCurrentBy offsetsFrom (store mst′ xrf) m rows show ≡ onCurrentBy from (store mst xrf) m rows show
       current-same =
           rw (right-both .0, right-both .1, lengths-same, known-same m, same-end)
           (shown-same (lengthsPermitted (store mst xrf)) (mfnInRange mst m)
-          (fineBy offsetsFrom (migratedMst mst) m) (fineBy oldOffsetsFrom mst m)
-          (λ p. currentRest (readNow (placeAddress p)) p) (λ p. currentRest (recordBy oldOffsetsFrom mst (placeAddress p)) p)
+          (fineBy offsetsFrom mst′ m) (fineBy from mst m)
+          (λ p. currentRest (readNow (placeAddress p)) p) (λ p. currentRest (recordBy from mst (placeAddress p)) p)
           (λ a p. show a (placeAddress p) (readNow (placeAddress p)))
-          (λ a p. show a (placeAddress p) (recordBy oldOffsetsFrom mst (placeAddress p)))
-          (entryAt xrf (oldEndOf mst) m)
+          (λ a p. show a (placeAddress p) (recordBy from mst (placeAddress p)))
+          (entryAt xrf (endFrom from mst) m)
           (λ a h p. empty a h _ _ _ _)
           (λ p e. fine-same m p (entry-low m p e))
           (λ p e f. let r = read-same (placeAddress p) (entry-low m p e) in (rw r refl, λ a. rw r refl)))
 
-      pub settled-same : onSettledBy offsetsFrom (store (migratedMst mst) xrf) m rows show ≡ onSettledBy oldOffsetsFrom (store mst xrf) m rows show
+      pub settled-same : onSettledBy offsetsFrom (store mst′ xrf) m rows show ≡ onSettledBy from (store mst xrf) m rows show
       settled-same =
           rw (right-both .0, right-both .1, lengths-same, known-same m, same-end)
           (shown-same (lengthsPermitted (store mst xrf)) (mfnInRange mst m)
-          (bothFineBy offsetsFrom (migratedMst mst) m) (bothFineBy oldOffsetsFrom mst m)
-          (λ p. settledRest (settledNow p) p) (λ p. settledRest (settledRecordBy oldOffsetsFrom mst p) p)
+          (bothFineBy offsetsFrom mst′ m) (bothFineBy from mst m)
+          (λ p. settledRest (settledNow p) p) (λ p. settledRest (settledRecordBy from mst p) p)
           (λ a p. show a (settledAtNow p) (settledNow p))
-          (λ a p. show a (settledAddressBy oldOffsetsFrom mst p) (settledRecordBy oldOffsetsFrom mst p))
-          (entryAt xrf (oldEndOf mst) m)
+          (λ a p. show a (settledAddressBy from mst p) (settledRecordBy from mst p))
+          (entryAt xrf (endFrom from mst) m)
           (λ a h p. empty a h _ _ _ _)
           (λ p e. both-same m p (entry-low m p e))
           (λ p e f.
-          let r : (settledNow p ≡ settledRecordBy oldOffsetsFrom mst p) × (settledAtNow p ≡ settledAddressBy oldOffsetsFrom mst p)
-          = rw same-end at (settled-record-same m p (entry-low m p e) (and-left (fineBy oldOffsetsFrom mst m p) _ f)) in
+          let r : (settledNow p ≡ settledRecordBy from mst p) × (settledAtNow p ≡ settledAddressBy from mst p)
+          = rw same-end at (settled-record-same m p (entry-low m p e) (and-left (fineBy from mst m p) _ f)) in
           (rw (r .0) refl, λ a. rw (r .0, r .1) refl)))
 
     -- where it is done, the version stands behind the control record
     abbrev place : Place
-    place = placeIn (entryAt xrf (oldEndOf mst) m)
+    place = placeIn (entryAt xrf (endFrom from mst) m)
 
     abbrev currentAsked : List Refusal
     currentAsked =
-        namedBy oldOffsetsFrom (store mst xrf) m (fineBy oldOffsetsFrom mst m place)
-        (refuse Deleted (place .deleted) ∷ rows (recordBy oldOffsetsFrom mst (placeAddress place)))
+        namedBy from (store mst xrf) m (fineBy from mst m place)
+        (refuse Deleted (place .deleted) ∷ rows (recordBy from mst (placeAddress place)))
 
     current-low : lowest currentAsked ≡ Done → 64 ≤ placeAddress place
     current-low d =
-        let q = table-done (lengthsPermitted (store mst xrf)) (mfnInRange mst m) (entryAt xrf (oldEndOf mst) m) (fineBy oldOffsetsFrom mst m place)
-        (currentRest (recordBy oldOffsetsFrom mst (placeAddress place)) place) (rw (right-both .1) at d) in
+        let q = table-done (lengthsPermitted (store mst xrf)) (mfnInRange mst m) (entryAt xrf (endFrom from mst) m) (fineBy from mst m place)
+        (currentRest (recordBy from mst (placeAddress place)) place) (rw (right-both .1) at d) in
         entry-low m place (q .0)
 
     abbrev settledAsked : List Refusal
     settledAsked =
-        namedBy oldOffsetsFrom (store mst xrf) m (bothFineBy oldOffsetsFrom mst m place)
+        namedBy from (store mst xrf) m (bothFineBy from mst m place)
         (refuse Deleted (place .deleted && isSettled (place .mark))
         ∷ refuse NeverSettled (isNew (place .mark))
-        ∷ rows (settledRecordBy oldOffsetsFrom mst place))
+        ∷ rows (settledRecordBy from mst place))
 
-    settled-low : lowest settledAsked ≡ Done → 64 ≤ settledAddressBy oldOffsetsFrom mst place
+    settled-low : lowest settledAsked ≡ Done → 64 ≤ settledAddressBy from mst place
     settled-low d =
-        let q = table-done (lengthsPermitted (store mst xrf)) (mfnInRange mst m) (entryAt xrf (oldEndOf mst) m) (bothFineBy oldOffsetsFrom mst m place)
-        (settledRest (settledRecordBy oldOffsetsFrom mst place) place) (rw (right-both .1) at d) in
-        settled-address-low m place (entry-low m place (q .0)) (and-left (fineBy oldOffsetsFrom mst m place) _ (q .1))
+        let q = table-done (lengthsPermitted (store mst xrf)) (mfnInRange mst m) (entryAt xrf (endFrom from mst) m) (bothFineBy from mst m place)
+        (settledRest (settledRecordBy from mst place) place) (rw (right-both .1) at d) in
+        settled-address-low m place (entry-low m place (q .0)) (and-left (fineBy from mst m place) _ (q .1))
 
   -- ---- the bytes shown
 
-  bytes-same : (a : Answer) (at n len : ℕ) → (a ≡ Done → 64 ≤ at) → SameBytes (store mst xrf) (store (migratedMst mst) xrf) (after a (at + n) 0) (after a len 0)
+  bytes-same : (a : Answer) (at n len : ℕ) → (a ≡ Done → 64 ≤ at) → SameBytes (store mst xrf) (store mst′ xrf) (after a (at + n) 0) (after a len 0)
   bytes-same a at n len low =
       ⊎-elim
-      (λ d. rw (after-done a (at + n) 0 (d .0), after-done a len 0 (d .0)) (migrated-part mst (at + n) len (omega (arith, low (d .0)))))
+      (λ d. rw (after-done a (at + n) 0 (d .0), after-done a len 0 (d .0)) (behind .parts (at + n) len (omega (arith, low (d .0)))))
       (λ r. rw (after-refused a (at + n) 0 (r .0), after-refused a len 0 (r .0)) refl)
       (after-cases {A = ℕ} a 1 0)
 
   module _ (m tag occ : ℕ) where
-    pub view-bytes-same : SameBytes (store mst xrf) (store (migratedMst mst) xrf) (viewBy oldOffsetsFrom (store mst xrf) m tag occ .start) (viewBy oldOffsetsFrom (store mst xrf) m tag occ .len)
+    pub view-bytes-same : SameBytes (store mst xrf) (store mst′ xrf) (viewBy from (store mst xrf) m tag occ .start) (viewBy from (store mst xrf) m tag occ .len)
     unfolding viewBy shownAt
     view-bytes-same = bytes-same _ _ _ _ (current-low m (foundRows tag occ))
 
-    pub settled-bytes-same : SameBytes (store mst xrf) (store (migratedMst mst) xrf) (settledViewBy oldOffsetsFrom (store mst xrf) m tag occ .start) (settledViewBy oldOffsetsFrom (store mst xrf) m tag occ .len)
+    pub settled-bytes-same : SameBytes (store mst xrf) (store mst′ xrf) (settledViewBy from (store mst xrf) m tag occ .start) (settledViewBy from (store mst xrf) m tag occ .len)
     unfolding settledViewBy shownAt
     settled-bytes-same = bytes-same _ _ _ _ (settled-low m (foundRows tag occ))
 
   module _ (m i : ℕ) where
-    pub field-bytes-same : SameBytes (store mst xrf) (store (migratedMst mst) xrf) (fieldBy oldOffsetsFrom (store mst xrf) m i .start) (fieldBy oldOffsetsFrom (store mst xrf) m i .len)
+    pub field-bytes-same : SameBytes (store mst xrf) (store mst′ xrf) (fieldBy from (store mst xrf) m i .start) (fieldBy from (store mst xrf) m i .len)
     unfolding fieldBy handedOut
     field-bytes-same = bytes-same _ _ _ _ (current-low m (indexRows i))
 
-    pub settled-field-bytes-same : SameBytes (store mst xrf) (store (migratedMst mst) xrf) (settledFieldBy oldOffsetsFrom (store mst xrf) m i .start) (settledFieldBy oldOffsetsFrom (store mst xrf) m i .len)
+    pub settled-field-bytes-same : SameBytes (store mst xrf) (store mst′ xrf) (settledFieldBy from (store mst xrf) m i .start) (settledFieldBy from (store mst xrf) m i .len)
     unfolding settledFieldBy handedOut
     settled-field-bytes-same = bytes-same _ _ _ _ (settled-low m (indexRows i))
 
@@ -357,82 +367,91 @@ module _ (mst xrf : List ℕ) (old : oldControlRight mst (capacityOf (length xrf
   abbrev stepTo : ℕ → ℕ → ℕ → ℕ
   stepTo at mfrl end = cond (recordLength mfrl && leb (at + mfrl) end) (endMoved (at + mfrl)) (end + 1)
 
-  next-same : (at : ℕ) → 64 ≤ at → nextStepBy offsetsFrom (migratedMst mst) at ≡ nextStepBy oldOffsetsFrom mst at
+  next-same : (at : ℕ) → 64 ≤ at → nextStepBy offsetsFrom mst′ at ≡ nextStepBy from mst at
   unfolding nextStepBy
   next-same at h =
-      let mfrl : mfrlBy offsetsFrom (migratedMst mst) at ≡ mfrlBy oldOffsetsFrom mst at = ap (λ (r : List ℕ). leaderOf r .mfrl) (record-same at h) in
-      ap (λ (k : ℕ). stepTo at k (endOf (migratedMst mst))) mfrl ∙ ap (stepTo at (mfrlBy oldOffsetsFrom mst at)) same-end
+      let mfrl : mfrlBy offsetsFrom mst′ at ≡ mfrlBy from mst at = ap (λ (r : List ℕ). leaderOf r .mfrl) (record-same at h) in
+      ap (λ (k : ℕ). stepTo at k (endOf mst′)) mfrl ∙ ap (stepTo at (mfrlBy from mst at)) same-end
 
-  next-low : (at : ℕ) → 64 ≤ at → 64 ≤ nextStepBy oldOffsetsFrom mst at
+  next-low : (at : ℕ) → 64 ≤ at → 64 ≤ nextStepBy from mst at
   unfolding nextStepBy
-  next-low at h = go (recordLength (mfrlBy oldOffsetsFrom mst at) && leb (at + mfrlBy oldOffsetsFrom mst at) (oldEndOf mst))
+  next-low at h = go (recordLength (mfrlBy from mst at) && leb (at + mfrlBy from mst at) (endFrom from mst))
     where
-      go : (b : Bool) → 64 ≤ cond b (endMoved (at + mfrlBy oldOffsetsFrom mst at)) (oldEndOf mst + 1)
-      go true = omega (arith, end-moved-facts (at + mfrlBy oldOffsetsFrom mst at) .low)
-      go false = omega (arith, control-facts mst (capacityOf (length xrf)) old .end-low)
+      go : (b : Bool) → 64 ≤ cond b (endMoved (at + mfrlBy from mst at)) (endFrom from mst + 1)
+      go true = omega (arith, end-moved-facts (at + mfrlBy from mst at) .low)
+      go false = omega (arith, control-facts mst (capacityOf (length xrf)) (behind .right) .end-low)
 
-  steps-in-same : (n at : ℕ) → 64 ≤ at → stepsInBy offsetsFrom n (migratedMst mst) at ≡ stepsInBy oldOffsetsFrom n mst at
+  steps-in-same : (n at : ℕ) → 64 ≤ at → stepsInBy offsetsFrom n mst′ at ≡ stepsInBy from n mst at
   unfolding stepsInBy
   steps-in-same zero at h = refl
-  steps-in-same (suc n) at h = rw (next-same at h, steps-in-same n (nextStepBy oldOffsetsFrom mst at) (next-low at h), same-end)
+  steps-in-same (suc n) at h = rw (next-same at h, steps-in-same n (nextStepBy from mst at) (next-low at h), same-end)
 
-  arrives-in-same : (n at : ℕ) → 64 ≤ at → arrivesInBy offsetsFrom n (migratedMst mst) at ≡ arrivesInBy oldOffsetsFrom n mst at
+  arrives-in-same : (n at : ℕ) → 64 ≤ at → arrivesInBy offsetsFrom n mst′ at ≡ arrivesInBy from n mst at
   unfolding arrivesInBy
   arrives-in-same zero at h = rw same-end
-  arrives-in-same (suc n) at h = rw (next-same at h, arrives-in-same n (nextStepBy oldOffsetsFrom mst at) (next-low at h), same-end)
+  arrives-in-same (suc n) at h = rw (next-same at h, arrives-in-same n (nextStepBy from mst at) (next-low at h), same-end)
 
-  pub steps-are-same : stepsBy offsetsFrom (migratedMst mst) ≡ stepsBy oldOffsetsFrom mst
+  pub steps-are-same : stepsBy offsetsFrom mst′ ≡ stepsBy from mst
   unfolding stepsBy
-  steps-are-same = rw same-end (steps-in-same (oldEndOf mst - 64) 64 (omega arith))
+  steps-are-same = rw same-end (steps-in-same (endFrom from mst - 64) 64 (omega arith))
 
-  arrives-same : arrivesBy offsetsFrom (migratedMst mst) ≡ arrivesBy oldOffsetsFrom mst
+  arrives-same : arrivesBy offsetsFrom mst′ ≡ arrivesBy from mst
   unfolding arrivesBy
-  arrives-same = rw same-end (arrives-in-same (oldEndOf mst - 64) 64 (omega arith))
+  arrives-same = rw same-end (arrives-in-same (endFrom from mst - 64) 64 (omega arith))
 
   -- ---- a sound store
 
   place-sound-same : (l : List ℕ) (m : ℕ) (p : Place) → 64 ≤ placeAddress p
-      → entrySoundBy offsetsFrom (migratedMst mst) l m (At p) ≡ entrySoundBy oldOffsetsFrom mst l m (At p)
+      → entrySoundBy offsetsFrom mst′ l m (At p) ≡ entrySoundBy from mst l m (At p)
   unfolding entrySoundBy
-  place-sound-same l m p low = rw (fine-same m p low) (go (fineBy oldOffsetsFrom mst m p) refl)
+  place-sound-same l m p low = rw (fine-same m p low) (go (fineBy from mst m p) refl)
     where
-      by : (k : Mark) → p .mark ≡ k → fineBy oldOffsetsFrom mst m p ≡ true
-          → implies (isChanged k) (settledFineBy offsetsFrom (migratedMst mst) m p && elem (backBy offsetsFrom (migratedMst mst) p) l)
-          ≡ implies (isChanged k) (settledFineBy oldOffsetsFrom mst m p && elem (backBy oldOffsetsFrom mst p) l)
+      by : (k : Mark) → p .mark ≡ k → fineBy from mst m p ≡ true
+          → implies (isChanged k) (settledFineBy offsetsFrom mst′ m p && elem (backBy offsetsFrom mst′ p) l)
+          ≡ implies (isChanged k) (settledFineBy from mst m p && elem (backBy from mst p) l)
       by Settled e f = refl
       by Changed e f = rw (settled-fine-same m p low (back-low m p low f e), back-same m p low)
       by New e f = refl
 
-      go : (b : Bool) → fineBy oldOffsetsFrom mst m p ≡ b
-          → (b && elem (placeAddress p) l && implies (isChanged (p .mark)) (settledFineBy offsetsFrom (migratedMst mst) m p && elem (backBy offsetsFrom (migratedMst mst) p) l))
-          ≡ (b && elem (placeAddress p) l && implies (isChanged (p .mark)) (settledFineBy oldOffsetsFrom mst m p && elem (backBy oldOffsetsFrom mst p) l))
+      go : (b : Bool) → fineBy from mst m p ≡ b
+          → (b && elem (placeAddress p) l && implies (isChanged (p .mark)) (settledFineBy offsetsFrom mst′ m p && elem (backBy offsetsFrom mst′ p) l))
+          ≡ (b && elem (placeAddress p) l && implies (isChanged (p .mark)) (settledFineBy from mst m p && elem (backBy from mst p) l))
       go false e = refl
       go true e = rw (by (p .mark) refl e)
 
   entry-sound-same : (l : List ℕ) (m : ℕ)
-      → entrySoundBy offsetsFrom (migratedMst mst) l m (entryAt xrf (oldEndOf mst) m) ≡ entrySoundBy oldOffsetsFrom mst l m (entryAt xrf (oldEndOf mst) m)
+      → entrySoundBy offsetsFrom mst′ l m (entryAt xrf (endFrom from mst) m) ≡ entrySoundBy from mst l m (entryAt xrf (endFrom from mst) m)
   unfolding entrySoundBy
-  entry-sound-same l m = go (entryAt xrf (oldEndOf mst) m) (entry-low m)
+  entry-sound-same l m = go (entryAt xrf (endFrom from mst) m) (entry-low m)
     where
-      go : (e : Entry) → ((p : Place) → e ≡ At p → 64 ≤ placeAddress p) → entrySoundBy offsetsFrom (migratedMst mst) l m e ≡ entrySoundBy oldOffsetsFrom mst l m e
+      go : (e : Entry) → ((p : Place) → e ≡ At p → 64 ≤ placeAddress p) → entrySoundBy offsetsFrom mst′ l m e ≡ entrySoundBy from mst l m e
       go Gone low = refl
       go Malformed low = refl
       go (At p) low = place-sound-same l m p (low p refl)
 
-  body-same : bodySoundBy offsetsFrom (store (migratedMst mst) xrf) ≡ bodySoundBy oldOffsetsFrom (store mst xrf)
-  unfolding bodySoundBy
+  body-same : bodyApartBy offsetsFrom (store mst′ xrf) ≡ bodyApartBy from (store mst xrf)
+  unfolding bodyApartBy
   body-same =
       rw (
         arrives-same,
         steps-are-same,
-        migrated-next mst (capacityOf (length xrf)) old,
+        behind .next,
         same-end,
         allTo-same (nextOf mst - 1)
-            (λ m. entrySoundBy offsetsFrom (migratedMst mst) (stepsBy oldOffsetsFrom mst) m (entryAt xrf (oldEndOf mst) m))
-            (λ m. entrySoundBy oldOffsetsFrom mst (stepsBy oldOffsetsFrom mst) m (entryAt xrf (oldEndOf mst) m))
-            (λ m low high. entry-sound-same (stepsBy oldOffsetsFrom mst) m),
+            (λ m. entrySoundBy offsetsFrom mst′ (stepsBy from mst) m (entryAt xrf (endFrom from mst) m))
+            (λ m. entrySoundBy from mst (stepsBy from mst) m (entryAt xrf (endFrom from mst) m))
+            (λ m low high. entry-sound-same (stepsBy from mst) m),
       )
 
-  pub sound-same : soundBy offsetsFrom (store (migratedMst mst) xrf) ≡ soundBy oldOffsetsFrom (store mst xrf)
-  unfolding soundBy
-  sound-same = rw (right-both .0, right-both .1, lengths-same, body-same)
+  pub apart-same : apartBy offsetsFrom (store mst′ xrf) ≡ apartBy from (store mst xrf)
+  unfolding apartBy
+  apart-same = rw (right-both .0, right-both .1, lengths-same, body-same)
+
+  pub live-same : liveCountBy offsetsFrom (store mst′ xrf) ≡ liveCountBy from (store mst xrf)
+  unfolding liveCountBy
+  live-same = rw (behind .next, behind .end)
+
+  -- and with it, where both hold the same
+  pub sound-same : countOf mst′ ≡ countOf mst → soundBy offsetsFrom (store mst′ xrf) ≡ soundBy from (store mst xrf)
+  unfolding soundBy bodySoundBy countIs
+  sound-same c = rw (right-both .0, right-both .1, lengths-same, body-same, live-same, c)

@@ -11,9 +11,9 @@ use Rattle.views.specs.Views.{viewAnswer, settledViewAnswer, viewOf, settledVie
 use Rattle.views.specs.Fields.{fieldAnswer, fieldOf, settledFieldAnswer, settledFieldOf}
 use Rattle.asking.specs.State.{stateAnswer, stateOf}
 use Rattle.asking.specs.Listing.{Lists, allFieldsAnswer, allFieldsOf, allFieldsLeaves, settledAllFieldsAnswer, settledAllFieldsOf, settledAllFieldsLeaves}
-use Rattle.soundness.specs.Sound.{stepRight, nextStep, stepsIn, arrivesIn, steps, arrives, placeSound, entrySound, entriesSound, bodySound, soundOf}
+use Rattle.soundness.specs.Sound.{stepRight, nextStep, stepsIn, arrivesIn, steps, arrives, placeSound, entrySound, entriesSound, liveCount, countRight, bodyApart, bodySound, soundOf, soundApart}
 use Rattle.soundness.proofs.Counting.{allTo-same}
-use Rattle.migrating.specs.Readings.{fineBy, settledFineBy, stateBy, viewBy, settledViewBy, fieldBy, settledFieldBy, allFieldsBy, settledAllFieldsBy, nextStepBy, stepsInBy, arrivesInBy, stepsBy, arrivesBy, entrySoundBy, bodySoundBy, soundBy}
+use Rattle.migrating.specs.Readings.{fineBy, settledFineBy, stateBy, viewBy, settledViewBy, fieldBy, settledFieldBy, allFieldsBy, settledAllFieldsBy, nextStepBy, stepsInBy, arrivesInBy, stepsBy, arrivesBy, entrySoundBy, bodyApartBy, apartBy, bodySoundBy, soundBy, liveCountBy}
 use Rattle.migrating.specs.Theorems.{AsToday, allFieldsIn, settledAllFieldsIn}
 
 module _ (mst : List ℕ) where
@@ -45,8 +45,8 @@ module _ (mst : List ℕ) where
   entry-today l m Malformed = refl
   entry-today l m (At p) = refl
 
-body-today : (s : Store) → bodySoundBy offsetsFrom s ≡ bodySound s
-unfolding bodySoundBy bodySound entriesSound
+body-today : (s : Store) → bodyApartBy offsetsFrom s ≡ bodyApart s
+unfolding bodyApartBy bodyApart entriesSound
 body-today s =
     rw (
       arrives-today (s .mst),
@@ -57,9 +57,17 @@ body-today s =
           (λ m low high. entry-today (s .mst) (steps (s .mst) 64) m (entryFor s m)),
     )
 
+apart-today : (s : Store) → apartBy offsetsFrom s ≡ soundApart s
+unfolding apartBy soundApart
+apart-today s = rw (body-today s)
+
+live-today : (s : Store) → liveCountBy offsetsFrom s ≡ liveCount s
+unfolding liveCountBy liveCount
+live-today s = refl
+
 sound-today : (s : Store) → soundBy offsetsFrom s ≡ soundOf s
-unfolding soundBy soundOf
-sound-today s = rw (body-today s)
+unfolding soundBy soundOf bodySoundBy bodySound countRight
+sound-today s = rw (body-today s, live-today s)
 
 module _ (s : Store) (m : ℕ) where
   state-today : stateOf s m ≡ stateBy offsetsFrom s m
@@ -96,13 +104,17 @@ module _ (s : Store) (m : ℕ) where
 pub as-today : (s : Store) → AsToday s
 as-today s =
     record {
-      state = state-today s;
-      view = view-today s;
-      settled = settled-today s;
-      field = field-today s;
-      settled-field = settled-field-today s;
-      all-fields = all-fields-today s;
-      settled-all-fields = settled-all-fields-today s;
-      steps-are = sym (steps-today (s .mst));
+      given = record {
+        state = state-today s;
+        view = view-today s;
+        settled = settled-today s;
+        field = field-today s;
+        settled-field = settled-field-today s;
+        all-fields = all-fields-today s;
+        settled-all-fields = settled-all-fields-today s;
+        steps-are = sym (steps-today (s .mst));
+        apart = sym (apart-today s);
+        live = sym (live-today s);
+      };
       sound = sym (sound-today s);
     }

@@ -15,7 +15,7 @@ use Rattle.layout.specs.declared.entry.Place.{Place}
 use Rattle.layout.specs.declared.entry.Entry.{Entry}
 use Rattle.layout.specs.declared.entry.Entry.the-variants.{Gone, Malformed, At}
 use Rattle.layout.specs.declared.leader.Leader.{Leader}
-use Rattle.files.specs.Control.{nextOf, endFrom, controlRightFrom}
+use Rattle.files.specs.Control.{nextOf, endFrom, controlRightFrom, countIs}
 use Rattle.files.specs.CrossReference.{entryAt}
 use Rattle.record.specs.Record.{wellFormed, backAddress}
 use Rattle.record.specs.Fields.{fieldsOf}
@@ -33,7 +33,7 @@ use Rattle.asking.specs.State.{stateShown}
 use Rattle.asking.specs.Listing.{Lists, shortFor, counted, leaves}
 use Rattle.asking.specs.declared.state.RecordState.{RecordState}
 use Rattle.asking.specs.declared.listing.Listed.{Listed}
-use Rattle.soundness.specs.Sound.{allTo, elem, implies, headsRight, restFree}
+use Rattle.soundness.specs.Sound.{bit, sumTo, isLive, allTo, elem, implies, headsRight, restFree}
 
 -- ---- entries and records
 
@@ -195,13 +195,24 @@ entrySoundBy from mst l m (At p) =
     && elem (placeAddress p) l
     && implies (isChanged (p .mark)) (settledFineBy from mst m p && elem (backBy from mst p) l)
 
--- A SOUND STORE, by the rule
-unfoldable pub bodySoundBy : ℕ → Store → Bool
-bodySoundBy from s =
+-- how many entries are neither deleted nor gone
+unfoldable pub liveCountBy : ℕ → Store → ℕ
+liveCountBy from s = sumTo (nextOf (s .mst) - 1) (λ m. bit (isLive (entryBy from s m)))
+
+-- A SOUND STORE, by the rule: the part apart from RECCNT, which older cards do not keep (request C-17)
+unfoldable pub bodyApartBy : ℕ → Store → Bool
+bodyApartBy from s =
     headsRight (s .xrf)
     && restFree (s .xrf) (nextOf (s .mst))
     && arrivesBy from (s .mst)
     && allTo (nextOf (s .mst) - 1) (λ m. entrySoundBy from (s .mst) (stepsBy from (s .mst)) m (entryBy from s m))
+
+unfoldable pub apartBy : ℕ → Store → Bool
+apartBy from s = lengthsPermitted s && controlRightFrom from (s .mst) (capacityOf (length (s .xrf))) && bodyApartBy from s
+
+-- and with it
+unfoldable pub bodySoundBy : ℕ → Store → Bool
+bodySoundBy from s = bodyApartBy from s && countIs (s .mst) (liveCountBy from s)
 
 unfoldable pub soundBy : ℕ → Store → Bool
 soundBy from s = lengthsPermitted s && controlRightFrom from (s .mst) (capacityOf (length (s .xrf))) && bodySoundBy from s

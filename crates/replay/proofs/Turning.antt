@@ -34,6 +34,7 @@ use Rattle.layout.specs.declared.sizes.Tag.{Tag}
 use Rattle.record.specs.Fields.{findOf}
 use Rattle.soundness.specs.Sound.{checkAnswer}
 use Rattle.migrating.specs.Migrate.{migrateAnswer, migrateLeaves}
+use Rattle.soundness.specs.Recount.{recountAnswer, recountLeaves}
 use Rattle.settling.specs.SettleList.{settleEachAnswers, listsRight, settleListAnswer, settleListLeaves, settleListTells}
 use Rattle.settling.proofs.Folding.{answers-count, lists-same, lists-short, lists-fine}
 use Rattle.store.specs.Store.{Store, store}
@@ -49,7 +50,7 @@ use Rattle.script.specs.declared.calls.Counts.{Counts}
 use Rattle.script.specs.declared.calls.Reading.{Reading}
 use Rattle.script.specs.declared.calls.Reading.the-variants.{View, Settled, Check}
 use Rattle.script.specs.declared.calls.Writing.{Writing}
-use Rattle.script.specs.declared.calls.Writing.the-variants.{Format, Create, Update, Delete, Settle, Revert, Migrate}
+use Rattle.script.specs.declared.calls.Writing.the-variants.{Format, Create, Update, Delete, Settle, Revert, Migrate, Recount}
 use Rattle.script.specs.declared.calls.Op.{Op}
 use Rattle.script.specs.declared.calls.Op.the-variants.{Asks, Writes, Settles}
 use Rattle.script.specs.declared.calls.Op.the-variants as op
@@ -139,7 +140,11 @@ module _ (s s′ : Store) (d : Draft) (w : Writing) (r : Created) where
     unfolding writingCall answerS nextS resultS
     migrate-writes k e f = record { outcome = rw (k, i, e); left = rw (k, f) }
 
-pub ruleset written-answers = (format-writes, create-writes, update-writes, delete-writes, settle-writes, revert-writes, migrate-writes)
+    pub recount-writes : w ≡ Recount → a ≡ recountAnswer s → s′ ≡ recountLeaves s → Wrote s (writingCall d w) r s′
+    unfolding writingCall answerS nextS resultS
+    recount-writes k e f = record { outcome = rw (k, i, e); left = rw (k, f) }
+
+pub ruleset written-answers = (format-writes, create-writes, update-writes, delete-writes, settle-writes, revert-writes, migrate-writes, recount-writes)
 
 -- the parts of three lists that are lent as a draft are the draft at the cursor
 pub written-at : (s s′ : Store) (tags lens bytes : List ℕ) (at : Cursor) (n : Counts) (w : Writing) (r : Created)

@@ -6,14 +6,14 @@ use mathlib.Core.Option.{Option, some, none}
 use lib.Dec.{leb}
 use lib.ListN.{length, take, drop}
 use Rattle.drafts.specs.Draft.{Draft, draft}
-use Rattle.ledger.specs.Call.{Call, format, view, viewSettled, create, update, delete, settle, revert, check, migrate, settleList}
+use Rattle.ledger.specs.Call.{Call, format, view, viewSettled, create, update, delete, settle, revert, check, migrate, settleList, recount}
 use Rattle.script.specs.Ops.{callSize, counts, takenBy, opIn}
 use Rattle.script.specs.declared.calls.Counts.{Counts}
 use Rattle.script.specs.declared.calls.Reading.{Reading}
 use Rattle.script.specs.declared.calls.Writing.{Writing}
 use Rattle.script.specs.declared.calls.Op.{Op}
 use Rattle.script.specs.declared.calls.Reading.the-variants.{View, Settled, Check}
-use Rattle.script.specs.declared.calls.Writing.the-variants.{Format, Create, Update, Delete, Settle, Revert, Migrate}
+use Rattle.script.specs.declared.calls.Writing.the-variants.{Format, Create, Update, Delete, Settle, Revert, Migrate, Recount}
 use Rattle.script.specs.declared.calls.Op.the-variants.{Asks, Writes, Settles, Malformed}
 
 -- what is left of a list of calls: the numbers, the MFNs that are settled as lists, and the drafts' tags, lengths and data
@@ -43,6 +43,7 @@ writingCall d (Delete m) = delete (m .0)
 writingCall d (Settle m) = settle (m .0)
 writingCall d (Revert m) = revert (m .0)
 writingCall d Migrate = migrate
+writingCall d Recount = recount
 
 -- so much from the front of the three lists
 abbrev pub frontDraft : List ℕ → List ℕ → List ℕ → Counts → Draft

@@ -90,6 +90,7 @@ fn write(
         Writing::Settle(m) => without_mfn(writing::settling::settle(mst, xrf, m)),
         Writing::Revert(m) => without_mfn(writing::settling::revert(mst, xrf, m)),
         Writing::Migrate => without_mfn(migrating::migrate::migrate(mst, xrf)),
+        Writing::Recount => without_mfn(soundness::check::recount(mst, xrf)),
     }
 }
 

@@ -13,6 +13,7 @@
 --   check              8
 --   migrate            9
 --   settle a list      10                number of MFNs   of answers
+--   recount            11
 use Prim.Native.Nat.{ℕ}
 use mathlib.Core.Bool.{Bool, true, false, _&&_, cond}
 use mathlib.Core.List.{List}
@@ -23,7 +24,7 @@ use Rattle.layout.specs.declared.sizes.Tag.{Tag}
 use Rattle.script.specs.declared.calls.Counts.{Counts}
 use Rattle.script.specs.declared.calls.Op.{Op}
 use Rattle.script.specs.declared.calls.Reading.the-variants.{View, Settled, Check}
-use Rattle.script.specs.declared.calls.Writing.the-variants.{Format, Create, Update, Delete, Settle, Revert, Migrate}
+use Rattle.script.specs.declared.calls.Writing.the-variants.{Format, Create, Update, Delete, Settle, Revert, Migrate, Recount}
 use Rattle.script.specs.declared.calls.Op.the-variants.{Asks, Writes, Settles, Malformed}
 
 -- the numbers of a call
@@ -73,7 +74,8 @@ opNamed call m x y z =
     (cond (eqb call 8) (Asks Check)
     (cond (eqb call 9) (Writes Migrate noDraft)
     (cond (eqb call 10) (Settles x y)
-    Malformed))))))))))
+    (cond (eqb call 11) (Writes Recount noDraft)
+    Malformed)))))))))))
 
 -- the MFNs or the draft that it takes
 abbrev pub takenBy : Op → Counts

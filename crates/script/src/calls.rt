@@ -33,6 +33,7 @@ pub enum Writing {
     Settle(Mfn),
     Revert(Mfn),
     Migrate,
+    Recount,
 }
 
 // The next call of a list. One that may write takes the next of each of the three lists of drafts, one that settles a list the next MFNs, and it
@@ -120,6 +121,7 @@ fn op_named(call: u32, m: u32, x: u32, y: u32, z: u32) -> Op
             mfns: x as usize,
             lent: y as usize,
         },
+        11 => Op::Writes(Writing::Recount, none),
         _ => Op::Malformed,
     }
 }

@@ -9,7 +9,8 @@ use lib.ListN.{length}
 use borrow.Author.Tests.{ltb-false}
 use Rattle.layout.specs.Sizes.{capacityOf}
 use Rattle.files.specs.CrossReference.{xrfBlock, headRight, slotFree}
-use Rattle.files.specs.Control.{nextOf, endOf}
+use Rattle.files.specs.Control.{nextOf, endOf, countNone}
+use Rattle.writing.proofs.Counted.{create-through, revert-through, roomRow, delete-late}
 use Rattle.layout.specs.declared.entry.Mark.the-variants.{Changed}
 use Rattle.layout.specs.declared.entry.Entry.the-variants.{At}
 use Rattle.drafts.specs.Bytes.{needFor}
@@ -18,7 +19,7 @@ use Rattle.drafts.specs.Draft.{Draft, isRight, fieldsIn}
 use Rattle.store.specs.Answer.{Refusal, refuse, lowest, numberOf}
 use Rattle.store.specs.Reading.{mfnInRange, entryFor, placeFor, isGone, isSettled, isNew, leaderAt, currentFields}
 use Rattle.store.specs.Refusals.{named, fine, bothFine}
-use Rattle.store.specs.declared.answer.Answer.the-variants.{Done, BadDraft, NoMfn, NoSlot, BadEntry, Gone as GoneAnswer, Deleted, NotPending, NeverSettled, NoRoom}
+use Rattle.store.specs.declared.answer.Answer.the-variants.{Done, BadControl, BadDraft, NoMfn, NoSlot, BadEntry, Gone as GoneAnswer, Deleted, NotPending, NeverSettled, NoRoom}
 use Rattle.store.proofs.Gates.{Refusing, passed, holds}
 use Rattle.writing.specs.Refusals.{exceeds, createAnswer, updateAnswer, deleteAnswer, settleAnswer, revertAnswer}
 use Rattle.versions.specs.Written.{updateAppends}
@@ -26,6 +27,10 @@ use Rattle.writing.proofs.Results.{only-changed}
 use Rattle.soundness.proofs.SoundEntries.{Sound, gated-sound, named-fine, named-both, entry-for-place, below-capacity}
 
 -- ---- the answers of the rows are refusals
+
+no-count : Refusing BadControl
+unfolding numberOf
+no-count z = omega arith
 
 no-draft : Refusing BadDraft
 unfolding numberOf
@@ -110,15 +115,15 @@ module _ {mst xrf : List ℕ} (s : Sound mst xrf) (m : ℕ) where
     pub room : isSettled (placeFor (store mst xrf) m .mark) ≡ true → endOf mst + needFor (currentFields mst (placeFor (store mst xrf) m)) ≤ length mst
 
   pub delete-asked : deleteAnswer (store mst xrf) m ≡ Done → DeleteAsked
-  unfolding deleteAnswer
   delete-asked e =
       let p = placeFor (store mst xrf) m in
       let need = needFor (currentFields mst p) in
-      let last : List Refusal = refuse NoRoom (isSettled (p .mark) && exceeds mst need) ∷ [] in
+      let last : List Refusal = refuse BadControl (countNone mst) ∷ refuse NoRoom (isSettled (p .mark) && exceeds mst need) ∷ [] in
       let rest : List Refusal = refuse Deleted (p .deleted) ∷ last in
-      let h = there-fine rest (sym (gated-sound s (named (store mst xrf) m (fine (store mst xrf) m) rest)) ∙ e) in
+      let h = there-fine rest (sym (gated-sound s (named (store mst xrf) m (fine (store mst xrf) m) rest)) ∙ (sym (delete-late (store mst xrf) m) ∙ e)) in
       let l = passed (p .deleted) Deleted (lowest last) no-live (h .1) in
-      let r = passed (isSettled (p .mark) && exceeds mst need) NoRoom Done no-room (l .1) in
+      let c = passed (countNone mst) BadControl (lowest (roomRow (store mst xrf) m ∷ [])) no-count (l .1) in
+      let r = passed (isSettled (p .mark) && exceeds mst need) NoRoom Done no-room (c .1) in
       record { here = h .0; live = l .0; room = λ a. room-for (isSettled (p .mark)) need (r .0) a }
 
   -- a settle that is done
@@ -140,12 +145,11 @@ module _ {mst xrf : List ℕ} (s : Sound mst xrf) (m : ℕ) where
     pub changed : placeFor (store mst xrf) m .mark ≡ Changed
 
   pub revert-asked : revertAnswer (store mst xrf) m ≡ Done → RevertAsked
-  unfolding revertAnswer
   revert-asked e =
       let p = placeFor (store mst xrf) m in
       let last : List Refusal = refuse NeverSettled (isNew (p .mark)) ∷ [] in
       let rest : List Refusal = refuse NotPending (isSettled (p .mark)) ∷ last in
-      let h = there (bothFine (store mst xrf) m) rest (named-both s m rest) (sym (gated-sound s (named (store mst xrf) m (bothFine (store mst xrf) m) rest)) ∙ e) in
+      let h = there (bothFine (store mst xrf) m) rest (named-both s m rest) (sym (gated-sound s (named (store mst xrf) m (bothFine (store mst xrf) m) rest)) ∙ revert-through (store mst xrf) m e) in
       let n = passed (isSettled (p .mark)) NotPending (lowest last) no-pending (h .1) in
       let w = passed (isNew (p .mark)) NeverSettled Done no-settled (n .1) in
       record { here = h .0; changed = only-changed (p .mark) (n .0) (w .0) }
@@ -166,9 +170,9 @@ pub record CreateAsked (mst xrf : List ℕ) (d : Draft) : Type 0 where
   pub room : endOf mst + needFor (fieldsIn d) ≤ length mst
 
 pub create-asked : {mst xrf : List ℕ} → Sound mst xrf → (d : Draft) → createAnswer (store mst xrf) d ≡ Done → CreateAsked mst xrf d
-unfolding createAnswer exceeds
+unfolding exceeds
 create-asked {mst} {xrf} s d e =
     let q =
     rows (isRight d) (eqb (nextOf mst) (capacityOf (length xrf) + 1)) (headRight xrf (xrfBlock (nextOf mst)) && slotFree xrf (nextOf mst))
-    (exceeds mst (needFor (fieldsIn d))) (rw (s .lengths, s .control) at e) in
+    (exceeds mst (needFor (fieldsIn d))) (rw (s .lengths, s .control) at (create-through (store mst xrf) d e)) in
     record { draft = q .0; below = below-capacity s (q .1); room = ltb-false (length mst) (endOf mst + needFor (fieldsIn d)) (q .2) }

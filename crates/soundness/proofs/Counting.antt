@@ -12,8 +12,8 @@ use lib.Dec.{eqb, eqb·suc-suc}
 use lib.ListN.{length}
 use borrow.Author.Tests.{eqb-true, eqb-false, eq-eqb, ne-eqb}
 use Rattle.word.proofs.Tests.{and-iff, false-true}
-use Rattle.soundness.specs.Sound.{allTo, elem}
-use Rattle.soundness.specs.Passes.{bit, count, sumTo}
+use Rattle.soundness.specs.Sound.{bit, sumTo, allTo, elem}
+use Rattle.soundness.specs.Passes.{count}
 use Rattle.soundness.proofs.Stepping.{Ascends}
 
 -- ---- each of 1 to n

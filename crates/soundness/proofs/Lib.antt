@@ -4,9 +4,12 @@ pub mod Counting
 pub mod Deciding
 pub mod Moves
 pub mod Leaving
+pub mod Recounting
 pub mod Writes
 pub mod Asked
 pub mod Touching
 pub mod PassAnswers
 pub mod CheckAnswers
+pub mod Live
+pub mod Recount
 pub mod Lowest

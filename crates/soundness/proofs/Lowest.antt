@@ -8,7 +8,12 @@ use Rattle.store.specs.Refusals.{gated}
 use Rattle.store.specs.declared.answer.Answer.the-variants.{NotSound}
 use Rattle.store.proofs.Lowest.{above, IsLowest, lowest-is-lowest}
 use Rattle.soundness.specs.Sound.{bodySound, checkAnswer}
+use Rattle.soundness.specs.Recount.{recountRefusals, recountAnswer}
 
 pub check-lowest : (s : Store) → IsLowest (gated s (refuse NotSound (not (bodySound s)) ∷ [])) (checkAnswer s)
 unfolding checkAnswer above numberOf
 check-lowest s = lowest-is-lowest (gated s (refuse NotSound (not (bodySound s)) ∷ [])) refl
+
+pub recount-lowest : (s : Store) → IsLowest (recountRefusals s) (recountAnswer s)
+unfolding recountAnswer above numberOf
+recount-lowest s = lowest-is-lowest (recountRefusals s) refl

@@ -39,8 +39,8 @@ use Rattle.store.specs.declared.gate.Gate.the-variants.{Open}
 use Rattle.store.specs.declared.gate.Known.{Known}
 use Rattle.store.specs.declared.gate.Known.the-variants.{Record, Refused}
 use Rattle.store.proofs.Gates.{gate-open, open-end, open-end-in, open-xrf, open-capacity, open-known, open-entry, fine-facts, back-changed}
-use Rattle.soundness.specs.Sound.{allTo, elem, implies, restFree, mfrlAt, stepRight, nextStep, steps, arrives}
-use Rattle.soundness.specs.Passes.{bit, count, sumTo, namesOf, entryFine, entriesFine, namedTotal, tallyOf, entryTally, namedUnder, refusedTally, mfnAt, hit, walkOf, Names}
+use Rattle.soundness.specs.Sound.{bit, sumTo, allTo, elem, implies, restFree, mfrlAt, stepRight, nextStep, steps, arrives, isLive, liveCount}
+use Rattle.soundness.specs.Passes.{count, namesOf, entryFine, entriesFine, namedTotal, tallyOf, entryTally, namedUnder, refusedTally, mfnAt, hit, walkOf, Names}
 use Rattle.soundness.specs.declared.passes.Tally.{Tally}
 use Rattle.soundness.specs.declared.passes.Tally.the-variants.{Named, Wrong}
 use Rattle.soundness.proofs.Stepping.{next-up, next-near, steps-more, steps-end, arrives-more, arrives-end}
@@ -130,7 +130,7 @@ module _ (mst xrf : List ℕ) (next : Mfn) (end : ℕ) (g : gateOf (store mst xr
 
 -- ---- the first pass
 
-pub refused-gone : (a : Answer) (n : ℕ) → n ≡ numberOf a → n ≡ 7 → Named 0 ≡ refusedTally a
+pub refused-gone : (a : Answer) (n : ℕ) → n ≡ numberOf a → n ≡ 7 → Named 0 0 ≡ refusedTally a
 refused-gone a n e h = rw (← e, h)
 
 pub refused-other : (a : Answer) (n : ℕ) → n ≡ numberOf a → (n ≡ 7 → ⊥) → Wrong ≡ refusedTally a
@@ -164,18 +164,18 @@ both-entry mst xrf m k = rw k (go (entryFor (store mst xrf) m))
 
 -- what is counted of it
 tallyKnown : Known → Tally
-tallyKnown (Record p l) = Named (namedUnder (p .mark))
+tallyKnown (Record p l) = Named (namedUnder (p .mark)) (bit (not (p .deleted)))
 tallyKnown (Refused a) = refusedTally a
 
 tally-entry : (mst : List ℕ) (m : ℕ) (e : Entry) → tallyKnown (knownEntry mst m e) ≡ entryTally mst m e
-unfolding tallyKnown knownEntry entryTally entryFine namesOf numberOf
+unfolding tallyKnown knownEntry entryTally entryFine namesOf numberOf bit
 tally-entry mst m Gone = refl
 tally-entry mst m Malformed = refl
 tally-entry mst m (At p) = go (recordFine mst m p && versionFine mst m p) (isChanged (p .mark)) refl
   where
     go : (b t : Bool) → isChanged (p .mark) ≡ t
         → tallyKnown (cond b (Record p (leaderAt mst p)) (Refused BadRecord))
-        ≡ cond b (Named (length (placeAddress p ∷ cond (isChanged (p .mark)) (backAddress (leaderAt mst p) ∷ []) []))) Wrong
+        ≡ cond b (Named (length (placeAddress p ∷ cond (isChanged (p .mark)) (backAddress (leaderAt mst p) ∷ []) [])) (bit (not (p .deleted)))) Wrong
     go true true c = rw c
     go true false c = rw c
     go false t c = refl
@@ -191,24 +191,26 @@ module _ (mst xrf : List ℕ) (next : Mfn) (end : ℕ) (g : gateOf (store mst xr
         let w : b ≡ a = u ∙ ap knownAnswer q in
         v ∙ ap refusedTally w ∙ sym (ap tallyKnown q) ∙ counted
 
-    pub tally-found : (p : Place) (l : Leader) (n : ℕ) → k ≡ Record p l → n ≡ namedUnder (p .mark) → Named n ≡ entryTally mst m (entryFor (store mst xrf) m)
+    pub tally-found : (p : Place) (l : Leader) (n v : ℕ) → k ≡ Record p l → n ≡ namedUnder (p .mark) → v ≡ bit (not (p .deleted)) → Named n v ≡ entryTally mst m (entryFor (store mst xrf) m)
     unfolding tallyKnown
-    tally-found p l n q u = ap Named u ∙ sym (ap tallyKnown q) ∙ counted
+    tally-found p l n v q u w = rw (u, w) (sym (ap tallyKnown q) ∙ counted)
 
 -- the tally of the entries before m
-pub record Tallied (mst xrf : List ℕ) (m named : ℕ) : Type 0 where
+pub record Tallied (mst xrf : List ℕ) (m named live : ℕ) : Type 0 where
   pub fine : Passed (λ (i : ℕ). entryFine mst i (entryFor (store mst xrf) i)) m
   pub named-is : named ≡ sumTo (m - 1) (λ (i : ℕ). length (namesOf mst (entryFor (store mst xrf) i)))
+  pub live-is : live ≡ sumTo (m - 1) (λ (i : ℕ). bit (isLive (entryFor (store mst xrf) i)))
   pub few : named ≤ 2 * (m - 1)
+  pub few-live : live ≤ m - 1
 
--- a tally tells both of its parts
-pub named-parts : (t : Bool) (n named : ℕ) → cond t (Named n) Wrong ≡ Named named → (t ≡ true) × (n ≡ named)
-named-parts true n named e = (refl, (cc))
-named-parts false n named e = let z : _≡_ {A = ℕ} 0 1 = cc in absurd (omega arith)
+-- a tally tells its parts
+pub named-parts : (t : Bool) (n v named live : ℕ) → cond t (Named n v) Wrong ≡ Named named live → (t ≡ true) × (n ≡ named) × (v ≡ live)
+named-parts true n v named live e = (refl, (cc), (cc))
+named-parts false n v named live e = let z : _≡_ {A = ℕ} 0 1 = cc in absurd (omega arith)
 
-pub wrong-part : (t : Bool) (n : ℕ) → cond t (Named n) Wrong ≡ Wrong → t ≡ false
-wrong-part true n e = let z : _≡_ {A = ℕ} 0 1 = cc in absurd (omega arith)
-wrong-part false n e = refl
+pub wrong-part : (t : Bool) (n v : ℕ) → cond t (Named n v) Wrong ≡ Wrong → t ≡ false
+wrong-part true n v e = let z : _≡_ {A = ℕ} 0 1 = cc in absurd (omega arith)
+wrong-part false n v e = refl
 
 names-few : (mst : List ℕ) (e : Entry) → length (namesOf mst e) ≤ 2
 unfolding namesOf
@@ -221,43 +223,62 @@ names-few mst (At p) = go (isChanged (p .mark))
     go false = omega arith
 
 module _ (mst xrf : List ℕ) where
-  pub tally-none : Tallied mst xrf 1 0
+  pub tally-none : Tallied mst xrf 1 0 0
   unfolding sumTo
-  tally-none = record { fine = passed-none (λ (i : ℕ). entryFine mst i (entryFor (store mst xrf) i)); named-is = refl; few = omega arith }
+  tally-none = record { fine = passed-none (λ (i : ℕ). entryFine mst i (entryFor (store mst xrf) i)); named-is = refl; live-is = refl; few = omega arith; few-live = omega arith }
 
   module _ (m : ℕ) (t : Tally) (e : t ≡ entryTally mst m (entryFor (store mst xrf) m)) where
-    module _ (n : ℕ) (h : t ≡ Named n) where
-      parts : (entryFine mst m (entryFor (store mst xrf) m) ≡ true) × (length (namesOf mst (entryFor (store mst xrf) m)) ≡ n)
+    module _ (n v : ℕ) (h : t ≡ Named n v) where
+      parts : (entryFine mst m (entryFor (store mst xrf) m) ≡ true) × (length (namesOf mst (entryFor (store mst xrf) m)) ≡ n) × (bit (isLive (entryFor (store mst xrf) m)) ≡ v)
       unfolding entryTally
-      parts = named-parts (entryFine mst m (entryFor (store mst xrf) m)) (length (namesOf mst (entryFor (store mst xrf) m))) n (sym e ∙ h)
+      parts = named-parts (entryFine mst m (entryFor (store mst xrf) m)) (length (namesOf mst (entryFor (store mst xrf) m)))
+          (bit (isLive (entryFor (store mst xrf) m))) n v (sym e ∙ h)
 
       pub tally-few : n ≤ 2
       tally-few = omega (arith, parts .1, names-few mst (entryFor (store mst xrf) m))
 
-      pub tally-more : (named : ℕ) → 1 ≤ m → Tallied mst xrf m named → Tallied mst xrf (m + 1) (named + n)
-      tally-more named lo w =
+      pub live-few : v ≤ 1
+      live-few = omega (arith, parts .2, bit-le (isLive (entryFor (store mst xrf) m)))
+
+      pub tally-more : (named live : ℕ) → 1 ≤ m → Tallied mst xrf m named live → Tallied mst xrf (m + 1) (named + n) (live + v)
+      tally-more named live lo w =
+          let t = sumTo-more m (λ (i : ℕ). bit (isLive (entryFor (store mst xrf) i))) lo in
           let s = sumTo-more m (λ (i : ℕ). length (namesOf mst (entryFor (store mst xrf) i))) lo in
           record {
             fine = passed-more (λ (i : ℕ). entryFine mst i (entryFor (store mst xrf) i)) m lo (w .fine) (parts .0);
             named-is = omega (arith, w .named-is, parts .1, s);
+            live-is = omega (arith, w .live-is, parts .2, t);
             few = omega (arith, w .few, tally-few);
+            few-live = omega (arith, w .few-live, live-few);
           }
 
     pub tally-wrong : (next : Mfn) (end : ℕ) → gateOf (store mst xrf) ≡ Open next end → t ≡ Wrong → 1 ≤ m → m < next .0 → Wrong ≡ tallyOf (store mst xrf)
     unfolding tallyOf entriesFine entryTally
     tally-wrong next end g h lo hi =
         let n = open-next mst xrf next end g in
-        let f = wrong-part (entryFine mst m (entryFor (store mst xrf) m)) (length (namesOf mst (entryFor (store mst xrf) m))) (sym e ∙ h) in
+        let f = wrong-part (entryFine mst m (entryFor (store mst xrf) m)) (length (namesOf mst (entryFor (store mst xrf) m)))
+        (bit (isLive (entryFor (store mst xrf) m))) (sym e ∙ h) in
         rw (sym (passed-fails (λ (i : ℕ). entryFine mst i (entryFor (store mst xrf) i)) m (nextOf mst - 1) lo (omega arith) f))
 
-  pub tally-done : (m named : ℕ) (next : Mfn) (end : ℕ) → gateOf (store mst xrf) ≡ Open next end → Tallied mst xrf m named → m ≤ next .0 → next .0 ≤ m
-      → Named named ≡ tallyOf (store mst xrf)
-  unfolding tallyOf entriesFine namedTotal
-  tally-done m named next end g w lo hi =
+  pub tally-done : (m named live : ℕ) (next : Mfn) (end : ℕ) → gateOf (store mst xrf) ≡ Open next end → Tallied mst xrf m named live → m ≤ next .0 → next .0 ≤ m
+      → Named named live ≡ tallyOf (store mst xrf)
+  unfolding tallyOf entriesFine namedTotal liveCount
+  tally-done m named live next end g w lo hi =
       let l = open-low mst xrf next end g in
       let h : m ≡ nextOf mst = omega (arith, open-next mst xrf next end g) in
       let f = passed-done (λ (i : ℕ). entryFine mst i (entryFor (store mst xrf) i)) m (nextOf mst - 1) (w .fine) (omega arith) (omega arith) in
-      rw (sym f) (ap Named (rw h at (w .named-is)))
+      let a : named ≡ sumTo (nextOf mst - 1) (λ (i : ℕ). length (namesOf mst (entryFor (store mst xrf) i))) = rw h at (w .named-is) in
+      let b : live ≡ sumTo (nextOf mst - 1) (λ (i : ℕ). bit (isLive (entryFor (store mst xrf) i))) = rw h at (w .live-is) in
+      rw (sym f, a, b)
+
+-- a place that is not deleted is live
+pub live-none : (p : Place) → p .deleted ≡ true → 0 ≡ bit (isLive (At p))
+unfolding bit
+live-none p h = rw h
+
+pub live-one : (p : Place) → p .deleted ≡ false → 1 ≡ bit (isLive (At p))
+unfolding bit
+live-one p h = rw h
 
 pub ruleset tally-answers =
     (refused-gone, refused-other, tally-refused, tally-found, tally-none, tally-more, tally-wrong, tally-done, open-low, arith)

@@ -14,7 +14,9 @@ use Rattle.word.proofs.Overwrite.{lt-or-ge}
 use Rattle.layout.specs.Sizes.{capacityOf}
 use Rattle.layout.specs.Entry.{placeAddress}
 use Rattle.files.specs.CrossReference.{xrfBlock, headRight, slotFree}
-use Rattle.files.specs.Control.{nextOf}
+use Rattle.files.specs.Control.{nextOf, countOf}
+use Rattle.files.proofs.Count.{is-number, count-is}
+use lib.IntN.{pos}
 use Rattle.layout.specs.declared.entry.Mark.{Mark}
 use Rattle.layout.specs.declared.entry.Mark.the-variants.{Settled, Changed, New}
 use Rattle.layout.specs.declared.entry.Place.{Place}
@@ -30,7 +32,7 @@ use Rattle.store.specs.declared.answer.Answer.{Answer}
 use Rattle.store.specs.declared.answer.Answer.the-variants.{NoMfn, BadEntry, Gone as GoneAnswer, BadRecord}
 use Rattle.store.proofs.Gates.{LengthsFacts, lengths-facts, mfn-facts}
 use Rattle.soundness.proofs.Counting.{allTo-at, allTo-all}
-use Rattle.soundness.specs.Sound.{allTo, elem, implies, headsRight, restFree, steps, arrives, placeSound, entrySound, entriesSound, bodySound, soundOf}
+use Rattle.soundness.specs.Sound.{allTo, elem, implies, headsRight, restFree, steps, arrives, placeSound, entrySound, entriesSound, liveCount, countRight, bodyApart, bodySound, soundApart, soundOf}
 use Rattle.store.specs.Store.{store}
 
 -- ---- the facts
@@ -51,7 +53,7 @@ pub data EntryStands (mst xrf : List ℕ) (m : ℕ) : Type 0 where
   is-gone : entryFor (store mst xrf) m ≡ Gone → EntryStands mst xrf m
   is-at : (p : Place) → entryFor (store mst xrf) m ≡ At p → PlaceStands mst m p → EntryStands mst xrf m
 
--- a sound store, fact by fact: what `soundOf` tests
+-- a store that is sound apart from RECCNT, fact by fact: what `soundApart` tests
 pub record Sound (mst xrf : List ℕ) : Type 0 where
   pub lengths : lengthsPermitted (store mst xrf) ≡ true
   pub control : controlFine (store mst xrf) ≡ true
@@ -133,8 +135,8 @@ module _ (mst xrf : List ℕ) (m : ℕ) where
 -- ---- THE LAWS
 
 module _ (mst xrf : List ℕ) where
-  pub body-stands : lengthsPermitted (store mst xrf) ≡ true → controlFine (store mst xrf) ≡ true → bodySound (store mst xrf) ≡ true → Sound mst xrf
-  unfolding bodySound headsRight restFree entriesSound
+  pub body-stands : lengthsPermitted (store mst xrf) ≡ true → controlFine (store mst xrf) ≡ true → bodyApart (store mst xrf) ≡ true → Sound mst xrf
+  unfolding bodyApart headsRight restFree entriesSound
   body-stands lengths control e =
       let q = simp tests at e in
       sound-from lengths control
@@ -154,12 +156,21 @@ module _ (mst xrf : List ℕ) where
           (le-leb (nextOf mst) m low)
 
   pub stands : soundOf (store mst xrf) ≡ true → Sound mst xrf
-  unfolding soundOf
-  stands e = let q = simp tests at e in body-stands (q .0 .0) (q .0 .1) (q .1)
+  unfolding soundOf bodySound
+  stands e = let q = simp tests at e in body-stands (q .0 .0) (q .0 .1) (q .1 .0)
 
-  pub body-sound : Sound mst xrf → bodySound (store mst xrf) ≡ true
-  unfolding bodySound headsRight restFree entriesSound
-  body-sound s =
+  pub apart-stands : soundApart (store mst xrf) ≡ true → Sound mst xrf
+  unfolding soundApart
+  apart-stands e = let q = simp tests at e in body-stands (q .0 .0) (q .0 .1) (q .1)
+
+  -- and RECCNT
+  pub stands-counted : soundOf (store mst xrf) ≡ true → countOf mst ≡ pos (liveCount (store mst xrf))
+  unfolding soundOf bodySound countRight
+  stands-counted e = let q = simp tests at e in count-is mst (liveCount (store mst xrf)) (q .1 .1)
+
+  pub body-apart : Sound mst xrf → bodyApart (store mst xrf) ≡ true
+  unfolding bodyApart headsRight restFree entriesSound
+  body-apart s =
       simp tests (
         (
           (
@@ -173,9 +184,17 @@ module _ (mst xrf : List ℕ) where
             (λ m low high. entry-sound mst xrf m (s .entries m low (omega arith))),
       )
 
-  pub sound : Sound mst xrf → soundOf (store mst xrf) ≡ true
+  pub sound-apart : Sound mst xrf → soundApart (store mst xrf) ≡ true
+  unfolding soundApart
+  sound-apart s = simp tests ((s .lengths, s .control), body-apart s)
+
+  pub body-sound : Sound mst xrf → countOf mst ≡ pos (liveCount (store mst xrf)) → bodySound (store mst xrf) ≡ true
+  unfolding bodySound countRight
+  body-sound s c = simp tests (body-apart s, is-number mst (liveCount (store mst xrf)) c)
+
+  pub sound : Sound mst xrf → countOf mst ≡ pos (liveCount (store mst xrf)) → soundOf (store mst xrf) ≡ true
   unfolding soundOf
-  sound s = simp tests ((s .lengths, s .control), body-sound s)
+  sound s c = simp tests ((s .lengths, s .control), body-sound s c)
 
 -- the place of an entry
 pub at-stands : {mst xrf : List ℕ} → Sound mst xrf → (m : ℕ) (p : Place) → 1 ≤ m → m < nextOf mst → entryFor (store mst xrf) m ≡ At p → PlaceStands mst m p

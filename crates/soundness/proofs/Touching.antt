@@ -8,8 +8,11 @@ use mathlib.Core.List.{List}
 use lib.ListN.{length, replicate}
 use Rattle.word.proofs.Overwrite.{overwrite-other}
 use Rattle.layout.specs.Entry.{placeAddress}
-use Rattle.files.specs.Control.{nextOf}
-use Rattle.files.specs.NamedBytes.{NoByte, BackByte}
+use lib.IntN.{ℤ, sucℤ}
+use Rattle.files.specs.Control.{nextOf, countOf, countedMore}
+use Rattle.files.proofs.Count.{count-length, count-kept}
+use Rattle.soundness.proofs.Recounting.{control-in}
+use Rattle.files.specs.NamedBytes.{NoByte, CountByte, BackByte}
 use Rattle.layout.specs.declared.entry.Place.{Place}
 use Rattle.files.proofs.ControlMoves.{out-of}
 use Rattle.drafts.specs.Bytes.{needFor}
@@ -20,7 +23,7 @@ use Rattle.store.specs.Reading.{placeFor, isSettled, leaderAt, currentFields}
 use Rattle.store.specs.declared.answer.Answer.the-variants.{Done}
 use Rattle.store.proofs.Gates.{MfnFacts, mfn-facts, after-done}
 use Rattle.writing.specs.Refusals.{createAnswer, updateAnswer, deleteAnswer, settleAnswer, revertAnswer}
-use Rattle.versions.specs.Written.{updateAppends, createdMst, createdXrf, updatedMst, updatedXrf, deletedMst, deletedXrf, settledMst, settledXrf, revertedXrf}
+use Rattle.versions.specs.Written.{updateAppends, createdMst, createdXrf, updatedMst, updatedXrf, deletedMst, deletedXrf, settledMst, settledXrf, revertedMst, revertedXrf}
 use Rattle.writing.specs.Calls.{createLeaves, updateLeaves, deleteLeaves, settleLeaves, revertLeaves}
 use Rattle.soundness.specs.Sound.{soundOf}
 use Rattle.soundness.specs.Touching.{Changes, TouchesOnly, CallsTouchOnly}
@@ -111,11 +114,11 @@ module _ {mst xrf : List ℕ} (s : Sound mst xrf) where
 
     -- a revert
     module _ (e : revertAnswer whole m ≡ Done) where
-      revert-is : revertLeaves whole m ≡ store mst (revertedXrf mst xrf m p)
+      revert-is : revertLeaves whole m ≡ store (revertedMst mst p) (revertedXrf mst xrf m p)
       unfolding revertLeaves
-      revert-is = after-done (revertAnswer whole m) (store mst (revertedXrf mst xrf m p)) whole e
+      revert-is = after-done (revertAnswer whole m) (store (revertedMst mst p) (revertedXrf mst xrf m p)) whole e
 
-      reverted : TouchesOnly whole (store mst (revertedXrf mst xrf m p)) m
+      reverted : TouchesOnly whole (store (revertedMst mst p) (revertedXrf mst xrf m p)) m
       reverted =
           let a : RevertAsked s m = revert-asked s m e in
           let r : MfnFacts mst m = mfn-facts mst m (a .here .known) in
@@ -124,10 +127,24 @@ module _ {mst xrf : List ℕ} (s : Sound mst xrf) where
       revert-touches : TouchesOnly whole (revertLeaves whole m) m
       revert-touches = rw revert-is reverted
 
-      entry-only : Changes whole (revertLeaves whole m) m NoByte
-      entry-only =
-          rw revert-is
+      entry-only : p .deleted ≡ false → Changes whole (revertLeaves whole m) m NoByte
+      unfolding revertedMst
+      entry-only live =
+          rw (revert-is, live)
           (record { mst-length = refl; xrf-length = reverted .xrf-length; mst-kept = λ i off. refl; xrf-kept = reverted .xrf-kept })
+
+      count-only : p .deleted ≡ true → Changes whole (revertLeaves whole m) m CountByte
+      unfolding revertedMst countedMore
+      count-only gone =
+          let z : ℤ = sucℤ (countOf mst) in
+          let long = control-in s z in
+          rw (revert-is, gone)
+          (record {
+            mst-length = count-length mst z long;
+            xrf-length = reverted .xrf-length;
+            mst-kept = count-kept mst z long;
+            xrf-kept = reverted .xrf-kept;
+          })
 
 pub calls-touch-only : (s : Store) → soundOf s ≡ true → CallsTouchOnly s
 calls-touch-only s e =
@@ -139,6 +156,7 @@ calls-touch-only s e =
       settle = settle-touches f;
       revert = revert-touches f;
       settle-pointer = pointer-only f;
+      revert-deleted = count-only f;
       revert-nothing = entry-only f;
     }
 

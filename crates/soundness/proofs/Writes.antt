@@ -4,7 +4,7 @@
 use Prim.Native.Nat.{ℕ, _+_, _-_, _≤_, _<_}
 use native.Mathlib.Omega.{arith}
 use mathlib.Core.Path.{_≡_, refl, sym, ap, _∙_}
-use mathlib.Core.Bool.{Bool, true, false}
+use mathlib.Core.Bool.{Bool, true, false, cond}
 use mathlib.Core.List.{List, []}
 use lib.Dec.{ltb}
 use lib.ListN.{length, replicate}
@@ -13,7 +13,9 @@ use Rattle.word.specs.Overwrite.{overwrite, part}
 use Rattle.layout.specs.Sizes.{mstPermitted, xrfPermitted, capacityOf, addressOf, endMoved}
 use Rattle.layout.specs.Entry.{wellPlaced, placed, placeAddress}
 use Rattle.files.specs.CrossReference.{withEntry, formattedXrf}
-use Rattle.files.specs.Control.{nextOf, endOf, formattedMst}
+use lib.IntN.{sucℤ, predℤ}
+use Rattle.files.specs.Control.{nextOf, endOf, formattedMst, countOf, withNext, withEnd, countedMore, countedLess}
+use Rattle.files.proofs.Count.{count-moved}
 use Rattle.layout.specs.Leader.{leaderOf}
 use Rattle.files.specs.NamedBytes.{ControlByte}
 use Rattle.layout.specs.declared.entry.Mark.{Mark}
@@ -24,7 +26,7 @@ use Rattle.layout.specs.declared.leader.Leader.{Leader}
 use Rattle.word.proofs.Tests.{false-true, or-false}
 use Rattle.layout.proofs.Facts.{well-placed-facts, well-placed-later, encodable}
 use Rattle.files.proofs.ControlRecord.{formatted-length, formatted-next, formatted-end, formatted-right}
-use Rattle.files.proofs.ControlMoves.{ControlMoved, both-moved}
+use Rattle.files.proofs.ControlMoves.{EndPlace, ControlMoved, both-moved}
 use Rattle.files.proofs.CrossReference.{entry-well-placed, formatted-xrf-length, formatted-head, formatted-free}
 use Rattle.record.specs.Fields.{Field, fieldsOf}
 use Rattle.drafts.specs.Bytes.{needFor, recordBytes, leaderFor}
@@ -33,12 +35,13 @@ use Rattle.drafts.proofs.Draftable.{Draftable, reads-draftable, reads-need}
 use Rattle.record.proofs.Local.{ReadsAs, reads-leader, reads-settled, withBack}
 use Rattle.drafts.proofs.Trip.{Writable, need-writable, written-length, written-placed}
 use Rattle.store.specs.Reading.{lengthsPermitted, entryFor, isSettled, recordAt, leaderAt, backAddress, backFine, settledRecord, shownSettled, currentFields}
-use Rattle.versions.specs.Written.{withRecord, appended, placeAtEnd, createdMst, createdXrf, newBackBlock, newBackOffset, pendingMark, versionLeader, versionAppended, versionInPlace, updatedMst, updatedXrf, deletedMst, deletedXrf, settledMst, settledXrf, revertedXrf, updateAppends}
+use Rattle.versions.specs.Written.{withRecord, appended, placeAtEnd, createdMst, createdXrf, newBackBlock, newBackOffset, pendingMark, versionLeader, versionAppended, versionInPlace, updatedMst, updatedXrf, deletedMst, deletedXrf, settledMst, settledXrf, revertedMst, revertedXrf, updateAppends}
 use Rattle.store.proofs.Gates.{lengths-both, fine-facts, back-changed, back-settled, back-new, settled-facts}
 use Rattle.soundness.proofs.Stepping.{arrives-end, member-facts}
 use Rattle.soundness.proofs.SoundEntries.{PlaceStands, Sound, sound-from, at-stands}
 use Rattle.soundness.proofs.Moves.{MstMoved, stays, goes-up, place-reads, settled-reads, reads-kept, step-before, settled-kept, xrf-entry, mst-same}
 use Rattle.soundness.proofs.Leaving.{Leaves, SettledAt, leaves, mfn-small, known-in, entry-written, back-fine-changed, back-fine-none, back-fine-same, end-address, over-right, over-end, end-written, end-moves, end-leaves, within-moves, within-leaves, within-written}
+use Rattle.soundness.proofs.Recounting.{counted-leaves}
 use Rattle.store.specs.Store.{store}
 
 -- ---- marks
@@ -56,17 +59,20 @@ module _ {mst xrf : List ℕ} (s : Sound mst xrf) (fs : List Field) (d : Draftab
   created-writable : Writable (nextOf mst) (needFor fs) 0 0 fs
   created-writable = need-writable (nextOf mst) 0 0 fs (mfn-small s (nextOf mst) below) (omega arith) (omega arith) d
 
-  -- the end and NXTMFN
+  -- the end, NXTMFN and RECCNT
   created-control : ControlMoved (withRecord mst (endOf mst) (leaderFor (nextOf mst) (needFor fs) 0 0 false (length fs)) fs) (createdMst mst fs) ControlByte
       (capacityOf (length xrf)) (nextOf mst + 1) (endMoved (endOf mst + needFor fs))
-  unfolding createdMst appended
+  unfolding createdMst appended countedMore
   created-control =
       let f = s .sizes in
-      both-moved (withRecord mst (endOf mst) (leaderFor (nextOf mst) (needFor fs) 0 0 false (length fs)) fs) (capacityOf (length xrf))
-      (endMoved (endOf mst + needFor fs))
+      let over : List ℕ = withRecord mst (endOf mst) (leaderFor (nextOf mst) (needFor fs) 0 0 false (length fs)) fs in
+      let end : EndPlace (length over) (endMoved (endOf mst + needFor fs)) = over-end s (nextOf mst) (needFor fs) 0 0 false fs created-writable room in
+      let moved : List ℕ = withNext (withEnd over (endMoved (endOf mst + needFor fs))) (nextOf mst + 1) in
+      count-moved over moved (sucℤ (countOf moved)) (omega (arith, end .low, end .high))
+      (both-moved over (capacityOf (length xrf)) (endMoved (endOf mst + needFor fs))
       (over-right s (nextOf mst) (needFor fs) 0 0 false fs created-writable room)
-      (over-end s (nextOf mst) (needFor fs) 0 0 false fs created-writable room)
-      (nextOf mst + 1) (omega arith) (omega arith) (omega arith)
+      end
+      (nextOf mst + 1) (omega arith) (omega arith) (omega arith))
 
   pub created-leaves : Leaves mst xrf (createdMst mst fs) (createdXrf mst xrf) (nextOf mst) (endMoved (endOf mst + needFor fs)) (nextOf mst + 1)
       (placeAtEnd mst false New) (needFor fs) fs []
@@ -254,11 +260,11 @@ module _ {mst xrf : List ℕ} (s : Sound mst xrf) (m : ℕ) (p : Place) (low : 1
       (back-fine-none (endOf mst) (placed (p .block .0) (p .offset) (p .deleted) Settled) l refl (no-back-from l refl refl))
       (λ c. absurd (settled-not-changed c))
 
-  -- the settled version becomes current, and no MST byte changes
-  pub reverted-leaves : p .mark ≡ Changed → Leaves mst xrf mst (revertedXrf mst xrf m p) m (endOf mst) (nextOf mst)
+  -- the settled version becomes current
+  entry-reverted : p .mark ≡ Changed → Leaves mst xrf mst (revertedXrf mst xrf m p) m (endOf mst) (nextOf mst)
       (placed (leaderAt mst p .mfbwb .0) (leaderAt mst p .mfbwp) false Settled) (leaderOf (settledRecord mst p) .mfrl) (fieldsOf (settledRecord mst p)) []
   unfolding revertedXrf
-  reverted-leaves changed =
+  entry-reverted changed =
       let q : Place = placed (leaderAt mst p .mfbwb .0) (leaderAt mst p .mfbwp) false Settled in
       let l : Leader = leaderOf (settledRecord mst p) in
       let b = settled-facts mst m p (there .fine) changed (there .settled changed .fine) in
@@ -269,6 +275,17 @@ module _ {mst xrf : List ℕ} (s : Sound mst xrf) (m : ℕ) (p : Place) (low : 1
       (back-fine-none (endOf mst) q l refl (b .no-back))
       (λ c. absurd (settled-not-changed c))
       (endOf mst) (nextOf mst) refl refl
+
+  -- with RECCNT, where it was deleted
+  pub reverted-leaves : p .mark ≡ Changed → Leaves mst xrf (revertedMst mst p) (revertedXrf mst xrf m p) m (endOf mst) (nextOf mst)
+      (placed (leaderAt mst p .mfbwb .0) (leaderAt mst p .mfbwp) false Settled) (leaderOf (settledRecord mst p) .mfrl) (fieldsOf (settledRecord mst p)) []
+  unfolding revertedMst countedMore
+  reverted-leaves changed = go (p .deleted)
+    where
+      go : (b : Bool) → Leaves mst xrf (cond b (countedMore mst) mst) (revertedXrf mst xrf m p) m (endOf mst) (nextOf mst)
+          (placed (leaderAt mst p .mfbwb .0) (leaderAt mst p .mfbwp) false Settled) (leaderOf (settledRecord mst p) .mfrl) (fieldsOf (settledRecord mst p)) []
+      go true = counted-leaves (sucℤ (countOf mst)) low high (omega arith) (entry-reverted changed)
+      go false = entry-reverted changed
 
 -- ---- update and delete, as the calls have them
 
@@ -303,20 +320,23 @@ module _ {mst xrf : List ℕ} (s : Sound mst xrf) (m : ℕ) (p : Place) (low : 1
   pub delete-appends : isSettled (p .mark) ≡ true → endOf mst + needFor (currentFields mst p) ≤ length mst
       → Leaves mst xrf (deletedMst mst m p (currentFields mst p)) (deletedXrf mst xrf m p) m (endMoved (endOf mst + needFor (currentFields mst p))) (nextOf mst)
       (placeAtEnd mst true Changed) (needFor (currentFields mst p)) (currentFields mst p) (currentFields mst p)
-  unfolding deletedMst deletedXrf
+  unfolding deletedMst deletedXrf countedLess
   delete-appends h room =
       let c : p .mark ≡ Settled = settled-is (p .mark) h in
       let mark : pendingMark (p .mark) ≡ Changed = rw c in
       let shown : fieldsOf (shownSettled mst p) ≡ currentFields mst p = rw c in
-      rw h (rw (mark, shown) at (version-leaves s m p low high e true (currentFields mst p) own-fields live room))
+      rw h
+      (counted-leaves (predℤ (countOf (versionAppended mst m p (leaderAt mst p) true (currentFields mst p)))) low high (omega arith)
+      (rw (mark, shown) at (version-leaves s m p low high e true (currentFields mst p) own-fields live room)))
 
   pub delete-stays : isSettled (p .mark) ≡ false
       → Leaves mst xrf (deletedMst mst m p (currentFields mst p)) (deletedXrf mst xrf m p) m (endOf mst) (nextOf mst)
       (placed (p .block .0) (p .offset) true (p .mark)) (leaderAt mst p .mfrl) (currentFields mst p) (fieldsOf (settledRecord mst p))
-  unfolding deletedMst deletedXrf
+  unfolding deletedMst deletedXrf countedLess
   delete-stays h =
       rw h
-      (delete-in-place-leaves s m p low high e true (currentFields mst p) own-fields h (reads-need (place-reads (at-stands s m p low high e))))
+      (counted-leaves (predℤ (countOf (versionInPlace mst m p (leaderAt mst p) true (currentFields mst p)))) low high (omega arith)
+      (delete-in-place-leaves s m p low high e true (currentFields mst p) own-fields h (reads-need (place-reads (at-stands s m p low high e)))))
 
 -- ---- format
 

@@ -1,3 +1,4 @@
 pub mod Sound
 pub mod Passes
 pub mod Touching
+pub mod Recount

@@ -1,7 +1,7 @@
--- Inner: serves the functions of the check, no part of what is promised. What the passes of the check find. Each entry names a place, and under the changed mark a back place. The first pass over the MFNs asks all of
--- an entry but whether these are steps, and counts them; the second walks the steps, and counts those that the entry of the MFN written there
--- names. That the two counts agree exactly if every entry names steps only is a law (proofs/Deciding.antt), and no part of what is promised.
-use Prim.Native.Nat.{ℕ, zero, suc, _+_, _-_, _≤_}
+-- Inner: serves the functions of the check, no part of what is promised. What the passes of the check find. Each entry names a place, and under
+-- the changed mark a back place. The first pass over the MFNs asks all of an entry but whether these are steps, and counts them; the second walks
+-- the steps, and counts those that the entry of the MFN written there names. That the two counts agree exactly if every entry names steps only is a law (proofs/Deciding.antt), and no part of what is promised.
+use Prim.Native.Nat.{ℕ, _+_, _-_, _≤_}
 use mathlib.Core.Path.{_≡_}
 use mathlib.Core.Bool.{Bool, true, false, _&&_, cond}
 use mathlib.Core.List.{List, [], _∷_}
@@ -16,29 +16,25 @@ use Rattle.layout.specs.declared.entry.Place.{Place}
 use Rattle.layout.specs.declared.entry.Entry.{Entry}
 use Rattle.layout.specs.declared.entry.Entry.the-variants.{Gone, Malformed, At}
 use Rattle.store.specs.Store.{Store}
-use Rattle.store.specs.Answer.{numberOf}
+use Rattle.store.specs.Answer.{numberOf, after}
 use Rattle.store.specs.Reading.{mfnInRange, entryFor, isChanged, recordFrom, leaderAt, backAddress, recordFine, versionFine}
 use Rattle.store.specs.declared.answer.Answer.{Answer}
-use Rattle.soundness.specs.Sound.{allTo, elem, steps, arrives}
+use Rattle.store.specs.declared.answer.Answer.the-variants.{Done}
+use Rattle.soundness.specs.Sound.{bit, sumTo, allTo, elem, steps, arrives, isLive, liveCount, bodyApart}
+use Rattle.soundness.specs.Recount.{recountAnswer}
 use Rattle.soundness.specs.declared.passes.Tally.{Tally}
 use Rattle.soundness.specs.declared.passes.Tally.the-variants.{Named, Wrong}
+use Rattle.soundness.specs.declared.check.Apart.{Apart}
+use Rattle.soundness.specs.declared.check.Apart.the-variants.{Sound, Unsound}
+use Rattle.soundness.specs.declared.check.Counted.{Counted}
+use Rattle.soundness.specs.declared.check.Counted.the-variants.{Live, Refused}
 
 -- ---- counting
-
--- 1 where the test holds, else 0
-unfoldable pub bit : Bool → ℕ
-bit true = 1
-bit false = 0
 
 -- how many of a list pass
 unfoldable pub count : (ℕ → Bool) → List ℕ → ℕ
 count p [] = 0
 count p (x ∷ xs) = bit (p x) + count p xs
-
--- the sum over 1 to n
-unfoldable pub sumTo : ℕ → (ℕ → ℕ) → ℕ
-sumTo zero f = 0
-sumTo (suc k) f = sumTo k f + f (suc k)
 
 -- ---- the first pass
 
@@ -63,11 +59,11 @@ unfoldable pub namedTotal : Store → ℕ
 namedTotal s = sumTo (nextOf (s .mst) - 1) (λ m. length (namesOf (s .mst) (entryFor s m)))
 
 unfoldable pub tallyOf : Store → Tally
-tallyOf s = cond (entriesFine s) (Named (namedTotal s)) Wrong
+tallyOf s = cond (entriesFine s) (Named (namedTotal s) (liveCount s)) Wrong
 
 -- the same for one entry
 unfoldable pub entryTally : List ℕ → ℕ → Entry → Tally
-entryTally mst m e = cond (entryFine mst m e) (Named (length (namesOf mst e))) Wrong
+entryTally mst m e = cond (entryFine mst m e) (Named (length (namesOf mst e)) (bit (isLive e))) Wrong
 
 -- how many addresses a place names, by its mark
 abbrev pub namedUnder : Mark → ℕ
@@ -75,7 +71,19 @@ namedUnder mark = cond (isChanged mark) 2 1
 
 -- the tally of an entry whose record is refused: 7, physically deleted, is right and names nothing
 abbrev pub refusedTally : Answer → Tally
-refusedTally a = cond (eqb (numberOf a) 7) (Named 0) Wrong
+refusedTally a = cond (eqb (numberOf a) 7) (Named 0 0) Wrong
+
+-- what the check finds of a store apart from RECCNT: that it is sound, and how many entries are live
+unfoldable pub apartOf : Store → Apart
+apartOf s = cond (bodyApart s) (Sound (liveCount s)) Unsound
+
+-- what the check and the recount ask alike: how many entries are live, where 1, 2, and 14 apart from RECCNT, do not apply
+unfoldable pub countedOf : Store → Counted
+countedOf s = after (recountAnswer s) (Live (liveCount s)) (Refused (recountAnswer s))
+
+abbrev pub countedAnswer : Counted → Answer
+countedAnswer (Live n) = Done
+countedAnswer (Refused a) = a
 
 -- ---- the second pass
 

@@ -1,4 +1,4 @@
--- A sound store, and the whole-store check. Document 01, "A sound store".
+-- A sound store, and the whole-store check. Document 01, "A sound store"; request C-17 for RECCNT.
 use Prim.Native.Nat.{ℕ, zero, suc, _+_, _-_, _/_}
 use mathlib.Core.Bool.{Bool, true, false, not, _&&_, _||_, cond}
 use mathlib.Core.List.{List, [], _∷_}
@@ -7,7 +7,7 @@ use lib.ListN.{length}
 use Rattle.layout.specs.Sizes.{capacityOf, endMoved, recordLength}
 use Rattle.layout.specs.Entry.{placeAddress}
 use Rattle.files.specs.CrossReference.{headRight, slotFree}
-use Rattle.files.specs.Control.{nextOf, endOf}
+use Rattle.files.specs.Control.{nextOf, endOf, countIs}
 use Rattle.layout.specs.Leader.{leaderOf}
 use Rattle.layout.specs.declared.entry.Place.{Place}
 use Rattle.layout.specs.declared.entry.Entry.{Entry}
@@ -23,6 +23,16 @@ use Rattle.store.specs.declared.answer.Answer.the-variants.{NotSound}
 unfoldable pub allTo : ℕ → (ℕ → Bool) → Bool
 allTo zero p = true
 allTo (suc k) p = allTo k p && p (suc k)
+
+-- 1 where the test holds, else 0
+unfoldable pub bit : Bool → ℕ
+bit true = 1
+bit false = 0
+
+-- the sum over 1 to n
+unfoldable pub sumTo : ℕ → (ℕ → ℕ) → ℕ
+sumTo zero f = 0
+sumTo (suc k) f = sumTo k f + f (suc k)
 
 -- a is in the list
 unfoldable pub elem : ℕ → List ℕ → Bool
@@ -88,17 +98,39 @@ entrySound mst l m (At p) = placeSound mst l m p
 unfoldable pub entriesSound : Store → List ℕ → Bool
 entriesSound s l = allTo (nextOf (s .mst) - 1) (λ m. entrySound (s .mst) l m (entryFor s m))
 
+-- an entry is neither deleted nor gone
+abbrev pub isLive : Entry → Bool
+isLive Gone = false
+isLive Malformed = false
+isLive (At p) = not (p .deleted)
+
+-- how many records have such an entry
+unfoldable pub liveCount : Store → ℕ
+liveCount s = sumTo (nextOf (s .mst) - 1) (λ m. bit (isLive (entryFor s m)))
+
+-- RECCNT is their number
+unfoldable pub countRight : Store → Bool
+countRight s = countIs (s .mst) (liveCount s)
+
 -- A SOUND STORE, its lengths and control record right: every XRF block's first integer is right, slots from NXTMFN on are 0; from address 64
--- one arrives exactly at the end; every entry below NXTMFN is sound
-unfoldable pub bodySound : Store → Bool
-bodySound s =
+-- one arrives exactly at the end; every entry below NXTMFN is sound. This is the part apart from RECCNT
+unfoldable pub bodyApart : Store → Bool
+bodyApart s =
     headsRight (s .xrf)
     && restFree (s .xrf) (nextOf (s .mst))
     && arrives (s .mst) 64
     && entriesSound s (steps (s .mst) 64)
 
+-- and RECCNT is right
+unfoldable pub bodySound : Store → Bool
+bodySound s = bodyApart s && countRight s
+
 unfoldable pub soundOf : Store → Bool
 soundOf s = lengthsPermitted s && controlFine s && bodySound s
+
+-- a store is sound apart from RECCNT
+unfoldable pub soundApart : Store → Bool
+soundApart s = lengthsPermitted s && controlFine s && bodyApart s
 
 -- check: 1, 2, 14 or 0
 unfoldable pub checkAnswer : Store → Answer

@@ -2,11 +2,12 @@
 -- at the end and the control integers named above.
 use Prim.Native.Nat.{ℕ, _≤_, _<_}
 use mathlib.Core.Path.{_≡_}
+use mathlib.Core.Bool.{true, false}
 use lib.ListN.{length, getD}
 use Rattle.layout.specs.Entry.{placeAddress}
 use Rattle.files.specs.CrossReference.{slotAt}
 use Rattle.files.specs.Control.{nextOf, endOf}
-use Rattle.files.specs.NamedBytes.{Within, NoByte, ControlByte, BackByte}
+use Rattle.files.specs.NamedBytes.{Within, NoByte, CountByte, ControlByte, BackByte}
 use Rattle.layout.specs.declared.entry.Place.{Place}
 use Rattle.layout.specs.declared.entry.Entry.the-variants.{At}
 use Rattle.store.specs.Store.{Store}
@@ -25,7 +26,7 @@ pub record Changes (s s′ : Store) (m : ℕ) (May : ℕ → Type 0) : Type 0 wh
 
 -- the bytes of the MST that a call on MFN m may change
 pub data MayChange (s s′ : Store) (m i : ℕ) : Type 0 where
-  -- the control integers NXTMFN and the end
+  -- the control integers NXTMFN, the end and RECCNT
   control-integer : ControlByte i → MayChange s s′ m i
   -- MFN m's record: MFRL bytes from its place on
   own-record : (p : Place) → entryFor s m ≡ At p → Within (placeAddress p) (leaderAt (s .mst) p .mfrl) i → MayChange s s′ m i
@@ -36,7 +37,8 @@ pub data MayChange (s s′ : Store) (m i : ℕ) : Type 0 where
 abbrev pub TouchesOnly : Store → Store → ℕ → Type 0
 TouchesOnly s s′ m = Changes s s′ m (MayChange s s′ m)
 
--- THE CLAIM: every call but format that is done. A settle changes no byte of the MST but its record's back pointer, a revert none
+-- THE CLAIM: every call but format that is done. A settle changes no byte of the MST but its record's back pointer, a revert
+-- none but RECCNT where it brings a deleted record back (request C-17), else none
 pub record CallsTouchOnly (s : Store) : Type 0 where
   pub create : (d : Draft) → createAnswer s d ≡ Done → TouchesOnly s (createLeaves s d) (nextOf (s .mst))
   pub update : (m : ℕ) (d : Draft) → updateAnswer s m d ≡ Done → TouchesOnly s (updateLeaves s m d) m
@@ -44,4 +46,5 @@ pub record CallsTouchOnly (s : Store) : Type 0 where
   pub settle : (m : ℕ) → settleAnswer s m ≡ Done → TouchesOnly s (settleLeaves s m) m
   pub revert : (m : ℕ) → revertAnswer s m ≡ Done → TouchesOnly s (revertLeaves s m) m
   pub settle-pointer : (m : ℕ) → settleAnswer s m ≡ Done → Changes s (settleLeaves s m) m (BackByte (placeAddress (placeFor s m)))
-  pub revert-nothing : (m : ℕ) → revertAnswer s m ≡ Done → Changes s (revertLeaves s m) m NoByte
+  pub revert-deleted : (m : ℕ) → revertAnswer s m ≡ Done → placeFor s m .deleted ≡ true → Changes s (revertLeaves s m) m CountByte
+  pub revert-nothing : (m : ℕ) → revertAnswer s m ≡ Done → placeFor s m .deleted ≡ false → Changes s (revertLeaves s m) m NoByte

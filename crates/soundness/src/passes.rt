@@ -1,6 +1,6 @@
 // The passes of the whole-store check. Two over the XRF look at the first integers and at the free slots. Then the first over the MFNs tests
-// each entry but for the steps, and counts the steps that the entries name; the second walks the steps, and counts those that the entry of
-// the MFN written there names. Each entry names steps only exactly if the two counts agree.
+// each entry but for the steps, and counts the steps that the entries name and the entries that are live; the second walks the steps, and counts
+// those that the entry of the MFN written there names. Each entry names steps only exactly if the two counts agree.
 use layout::entry::Entry;
 use layout::entry::Mark;
 use layout::entry::Place;
@@ -15,13 +15,13 @@ ghost use lib.ListN.{length};
 ghost use Rattle.layout.specs.Sizes.{xrfMost, capacityOf};
 ghost use Rattle.store.specs.Reading.{entryFor};
 ghost use Rattle.store.specs.Gate.{gateOf};
-ghost use Rattle.soundness.specs.Sound.{elem, headsRight, restFree};
-ghost use Rattle.soundness.specs.Passes.{bit, namesOf, namedUnder, refusedTally, entryTally, entriesFine, tallyOf, hit, walkOf, Names};
+ghost use Rattle.soundness.specs.Sound.{bit, elem, headsRight, restFree, isLive};
+ghost use Rattle.soundness.specs.Passes.{namesOf, namedUnder, refusedTally, entryTally, entriesFine, tallyOf, hit, walkOf, Names};
 ghost use Rattle.store.specs.Store.{store};
 
-// What the first pass finds: how many steps the entries name, or that one of them is wrong.
+// What the first pass finds: how many steps the entries name and how many of them are live, or that one of them is wrong.
 pub(crate) enum Tally {
-    Named(usize),
+    Named { named: usize, live: usize },
     Wrong,
 }
 
@@ -68,12 +68,19 @@ fn named_under(mark: Mark) -> usize
     }
 }
 
+// 1 for a record that is not deleted, else 0.
+fn live_of(p: Place) -> usize
+    ensures { λ r. ⌜ r ≡ bit (isLive (Entry.At p)) ⌝ }
+{
+    if p.deleted { 0 } else { 1 }
+}
+
 // The tally of an entry with no record: only 7, physically deleted, is right.
 fn refused_tally(a: Answer) -> Tally
     ensures { λ r. ⌜ r ≡ refusedTally a ⌝ }
 {
     if store::answer::number(a) == 7 {
-        Tally::Named(0)
+        Tally::Named { named: 0, live: 0 }
     } else {
         Tally::Wrong
     }
@@ -90,7 +97,10 @@ fn tally_entry(mst: &[u8], xrf: &[u8], next: Mfn, end: usize, m: Mfn) -> Tally
         return refused_tally(store::gate::known_answer(k));
     };
     let mark = place.mark;
-    Tally::Named(named_under(mark))
+    Tally::Named {
+        named: named_under(mark),
+        live: live_of(place),
+    }
 }
 
 // The first pass: every entry below NXTMFN.
@@ -99,16 +109,18 @@ pub(crate) fn tally_entries(mst: &[u8], xrf: &[u8], next: Mfn, end: usize) -> Ta
     ensures { λ r. ⌜ r ≡ tallyOf (store (now (mst .entry)) (now (xrf .entry))) ⌝ }
 {
     let mut named: usize = 0;
+    let mut live: usize = 0;
     let mut m: u32 = 1;
     while m < next.0 {
         let t = tally_entry(mst, xrf, next, end, Mfn(m));
-        let Tally::Named(n) = t else {
+        let Tally::Named { named: n, live: l } = t else {
             return Tally::Wrong;
         };
         named += n;
+        live += l;
         m += 1;
     }
-    Tally::Named(named)
+    Tally::Named { named, live }
 }
 
 // 1 where the place `p`, or its back place, is the step `s`, else 0.

@@ -17,7 +17,7 @@ use Rattle.layout.specs.declared.leader.Leader.{Leader}
 use Rattle.word.proofs.Tests.{tests}
 use Rattle.store.specs.Store.{Store, store}
 use Rattle.store.specs.Answer.{numberOf, Refusal, lowest, after}
-use Rattle.store.specs.Reading.{lengthsPermitted, controlFine, mfnInRange, entryFor, placeFor, leaderAt, versionFine}
+use Rattle.store.specs.Reading.{lengthsPermitted, controlFine, mfnInRange, entryFor, placeFor, leaderAt}
 use Rattle.store.specs.Refusals.{gated, named, fine, bothFine}
 use Rattle.store.specs.Gate.{gateOf, gateAnswer, knownOf, knownBoth, knownAnswer, reachedIf, reachedOf, reachedBoth}
 use Rattle.store.specs.declared.answer.Answer.{Answer}
@@ -26,7 +26,6 @@ use Rattle.store.specs.declared.gate.Gate.{Gate}
 use Rattle.store.specs.declared.gate.Gate.the-variants.{Open, Shut}
 use Rattle.store.specs.declared.gate.Known.{Known}
 use Rattle.store.specs.declared.gate.Known.the-variants.{Record, Refused}
-use Rattle.store.specs.declared.gate.Reached.{Reached}
 use Rattle.store.specs.declared.gate.Reached.the-variants.{There, Refused as Unreached}
 use Rattle.store.proofs.Gates.{Refusing, after-refused, after-cases, refused-is, done-is, gated-passes, gate-done, named-done, gate-shut, gate-is, opened, RefusedFacts, known-refused, both-refused, KnownFacts, known-facts, BothFacts, both-facts, both-from, OpenFacts, Planned, planned-at}
 use Rattle.store.proofs.Lowest.{above, lowest-append}
@@ -45,6 +44,11 @@ lent mst xrf = store (take (length mst) mst) (take (length xrf) xrf)
 lent-whole : (mst xrf : List ℕ) → lent mst xrf ≡ store mst xrf
 unfolding lent
 lent-whole mst xrf = rw (whole mst, whole xrf)
+
+-- what is found in what is lent so
+pub lent-both : (mst xrf : List ℕ) (m : ℕ) (k : Known) → k ≡ knownBoth (store (take (length mst) mst) (take (length xrf) xrf)) m → k ≡ knownBoth (store mst xrf) m
+unfolding lent
+lent-both mst xrf m k w = w ∙ ap (λ (s : Store). knownBoth s m) (lent-whole mst xrf)
 
 -- ---- what is returned
 
@@ -103,8 +107,7 @@ module _ (mst xrf : List ℕ) (m : ℕ) (g : Gate) (p : g ≡ gateOf (store mst 
 
     module _ (w : k ≡ knownBoth (store (take (length mst) mst) (take (length xrf) xrf)) m) where
       v : k ≡ knownBoth (store mst xrf) m
-      unfolding lent
-      v = w ∙ ap (λ (s : Store). knownBoth s m) (lent-whole mst xrf)
+      v = lent-both mst xrf m k w
 
       pub both-unknown : (a b : Answer) → k ≡ Refused b → a ≡ knownAnswer k → Unreached a ≡ reachedBoth (store mst xrf) m
       unfolding reachedBoth

@@ -10,7 +10,7 @@ use borrow.Author.Tests.{lt-ltb, le-ltb, not-false}
 use denote.Enum.Declared.{tagOf}
 use types.Run.{OneOf}
 use Rattle.layout.specs.Sizes.{mstMost, recordMost}
-use Rattle.files.specs.Control.{endOf}
+use Rattle.files.specs.Control.{endOf, countNone}
 use Rattle.layout.specs.declared.sizes.Mfn.{Mfn}
 use Rattle.layout.specs.declared.entry.Mark.{Mark}
 use Rattle.layout.specs.declared.entry.Mark.the-variants.{Settled}
@@ -29,7 +29,7 @@ use Rattle.store.specs.Gate.{gateOf, gateAnswer, knownOf, knownAnswer, reachedO
 use Rattle.updating.specs.Plans.{planIf, updatePlan, deletePlan, roomPlan}
 use Rattle.versions.specs.Asked.{RecordRead}
 use Rattle.store.specs.declared.answer.Answer.{Answer}
-use Rattle.store.specs.declared.answer.Answer.the-variants.{Done, BadDraft, NoMfn, BadEntry, Gone as GoneAnswer, BadRecord, Deleted, NoRoom}
+use Rattle.store.specs.declared.answer.Answer.the-variants.{Done, BadControl, BadDraft, NoMfn, BadEntry, Gone as GoneAnswer, BadRecord, Deleted, NoRoom}
 use Rattle.store.specs.declared.gate.Gate.{Gate}
 use Rattle.store.specs.declared.gate.Gate.the-variants.{Open, Shut}
 use Rattle.store.specs.declared.gate.Known.{Known}
@@ -44,6 +44,7 @@ use Rattle.store.proofs.Gates.{Refusing, refused-is, done-is, gate-shut, known-
 use Rattle.store.proofs.Reaching.{reach-refused, reached-facts}
 use Rattle.store.specs.Store.{store}
 use Rattle.writing.proofs.Plans.{shut-answer}
+use Rattle.writing.proofs.Counted.{roomRow, delete-late}
 
 -- what is asked behind an open gate
 module _ (mst xrf : List ℕ) (g : Gate) (p : g ≡ gateOf (store mst xrf)) (next : Mfn) (end : ℕ) (q : g ≡ Open next end) where
@@ -166,16 +167,14 @@ module _ (mst xrf : List ℕ) (m : ℕ) (r : Reached) (p : r ≡ reachedOf (stor
   delete-refused a e h = refused-is (deleteAnswer (store mst xrf) m) _ Refuse a e h
 
   pub delete-unreached : (a b : Answer) → r ≡ Unreached a → b ≡ reachedAnswer r → Refuse b ≡ deletePlan (store mst xrf) m
-  unfolding deleteAnswer
   delete-unreached a b q s =
       let f = reach-refused mst xrf m a (sym p ∙ q) in
       let t : b ≡ a = rw q at s in
       rw t
       (delete-refused a
-      (f .answers
-      (refuse Deleted (placeFor (store mst xrf) m .deleted)
-      ∷ refuse NoRoom (isSettled (placeFor (store mst xrf) m .mark) && exceeds mst (needFor (currentFields mst (placeFor (store mst xrf) m))))
-      ∷ []))
+      (delete-late (store mst xrf) m
+      ∙ f .answers
+      (refuse Deleted (placeFor (store mst xrf) m .deleted) ∷ refuse BadControl (countNone mst) ∷ roomRow (store mst xrf) m ∷ []))
       (f .refusing))
 
   module _ (end : ℕ) (pl : Place) (l : Leader) (q : r ≡ There end pl l) where
@@ -183,13 +182,25 @@ module _ (mst xrf : List ℕ) (m : ℕ) (r : Reached) (p : r ≡ reachedOf (stor
     reached = reached-facts mst xrf m end pl l (sym p ∙ q)
 
     pub delete-deleted : pl .deleted ≡ true → Refuse Deleted ≡ deletePlan (store mst xrf) m
-    unfolding deleteAnswer numberOf
+    unfolding numberOf
     delete-deleted w =
         let o = reached .1 .gate in
         let f = reached .1 .found in
-        delete-refused Deleted (rw (o .lengths, o .control, f .known, f .entry, f .record-fine, w)) (λ z. omega arith)
+        delete-refused Deleted (delete-late (store mst xrf) m ∙ rw (o .lengths, o .control, f .known, f .entry, f .record-fine, w)) (λ z. omega arith)
 
-    module _ (w : pl .deleted ≡ false) where
+    pub count-asked : 64 ≤ length mst
+    count-asked = let o = reached .1 .gate in omega arith
+
+    module _ (w : pl .deleted ≡ false) (none : Bool) (n : none ≡ countNone mst) where
+      pub delete-none : none ≡ true → Refuse BadControl ≡ deletePlan (store mst xrf) m
+      unfolding numberOf
+      delete-none h =
+          let o = reached .1 .gate in
+          let f = reached .1 .found in
+          delete-refused BadControl
+          (delete-late (store mst xrf) m ∙ rw (o .lengths, o .control, f .known, f .entry, f .record-fine, w, ← n, h)) (λ z. omega arith)
+
+    module _ (w : pl .deleted ≡ false) (none : Bool) (n : none ≡ countNone mst) (some : none ≡ false) where
       pub own-need-asked : RecordRead mst end pl l
       own-need-asked = rw (reached .0) (read-known mst xrf m _ (endOf mst) (reached .1 .gate) pl l (reached .1 .found))
 
@@ -197,25 +208,26 @@ module _ (mst xrf : List ℕ) (m : ℕ) (r : Reached) (p : r ≡ reachedOf (stor
       own-room-asked need h = let o = reached .1 .gate in let e = reached .0 in let k = h .2 in (omega arith, omega arith)
 
       pub delete-in-place : OneOf (1 ∷ 2 ∷ []) (tagOf mark.the-type (pl .mark)) → NewVersion end pl l false ≡ deletePlan (store mst xrf) m
-      unfolding deletePlan deleteAnswer planIf
+      unfolding deletePlan planIf
       delete-in-place x =
           let o = reached .1 .gate in
           let f = reached .1 .found in
           let y : isSettled (pl .mark) ≡ false = not-settled (pl .mark) x in
           let a : deleteAnswer (store mst xrf) m ≡ Done =
-          rw (o .lengths, o .control, f .known, f .entry, f .record-fine, w, y) in
+          delete-late (store mst xrf) m ∙ rw (o .lengths, o .control, f .known, f .entry, f .record-fine, w, ← n, some, y) in
           done-is (deleteAnswer (store mst xrf) m) _ Refuse (NewVersion end pl l false) a (rw (reached .0, f .place-is, y, ← f .leader-is))
 
       pub delete-planned : (need : ℕ) (d : Plan) → pl .mark ≡ Settled → need ≡ needFor (currentFields mst pl) → d ≡ roomPlan (length mst) end need true pl l
           → d ≡ deletePlan (store mst xrf) m
-      unfolding deletePlan deleteAnswer
-      delete-planned need d x n s =
+      unfolding deletePlan
+      delete-planned need d x k s =
           let o = reached .1 .gate in
           let f = reached .1 .found in
           let y : isSettled (placeFor (store mst xrf) m .mark) ≡ true = rw (f .place-is, x) in
           let a : deleteAnswer (store mst xrf) m ≡ cond (true && exceeds mst need) NoRoom Done =
-          rw (o .lengths, o .control, f .known, y, n, f .place-is, f .entry, f .record-fine, w) in
+          delete-late (store mst xrf) m
+          ∙ rw (o .lengths, o .control, f .known, y, k, f .place-is, f .entry, f .record-fine, w, ← n, some) in
           s ∙ room-planned mst xrf m end need pl l (f .place-is) (f .leader-is) (reached .0) (deleteAnswer (store mst xrf) m) true (exceeds mst need) refl a
           ∙ ap (λ (b : Bool). planIf (deleteAnswer (store mst xrf) m) b (store mst xrf) m) (sym y)
 
-pub ruleset delete-plans = (delete-unreached, delete-deleted, own-need-asked, own-room-asked, delete-in-place, delete-planned)
+pub ruleset delete-plans = (delete-unreached, delete-deleted, count-asked, delete-none, own-need-asked, own-room-asked, delete-in-place, delete-planned)

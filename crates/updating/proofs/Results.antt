@@ -8,7 +8,7 @@ use mathlib.Core.List.{List}
 use lib.ListN.{length}
 use borrow.Author.Tests.{ltb-false, not-false}
 use Rattle.layout.specs.Entry.{placed, placeAddress}
-use Rattle.files.specs.Control.{endOf}
+use Rattle.files.specs.Control.{endOf, countNone, countedLess}
 use Rattle.files.specs.CrossReference.{withEntry}
 use Rattle.layout.specs.declared.entry.Mark.the-variants.{Changed}
 use Rattle.layout.specs.declared.entry.Place.{Place}
@@ -27,9 +27,10 @@ use Rattle.writing.specs.Calls.{updateLeaves, deleteLeaves}
 use Rattle.updating.specs.Plans.{planIf, planAnswer, updatePlan, deletePlan}
 use Rattle.versions.specs.Asked.{HasSlot, AtEnd, DraftFits, RecordRead}
 use Rattle.store.specs.declared.answer.Answer.{Answer}
-use Rattle.store.specs.declared.answer.Answer.the-variants.{Done, BadDraft, Deleted, NoRoom}
+use Rattle.store.specs.declared.answer.Answer.the-variants.{Done, BadControl, BadDraft, Deleted, NoRoom}
 use Rattle.updating.specs.declared.changes.Plan.{Plan}
 use Rattle.updating.specs.declared.changes.Plan.the-variants.{NewVersion, Refuse}
+use Rattle.writing.proofs.Counted.{delete-late}
 use Rattle.store.proofs.Gates.{Refusing, after-refused, after-cases, passed, gate-done, named-done, Planned, planned-at}
 use Rattle.versions.proofs.Told.{need-low, draft-fits, at-end, slot-known, read-known}
 use Rattle.store.specs.Store.{store}
@@ -156,13 +157,14 @@ module _ (mst xrf : List ℕ) (m : ℕ) where
   delete-passed : (p : Place) (l : Leader) → deleteAnswer (store mst xrf) m ≡ Done → placeFor (store mst xrf) m ≡ p → leaderAt mst (placeFor (store mst xrf) m) ≡ l
       → Planned mst xrf m p l
       × (isSettled (placeFor (store mst xrf) m .mark) && exceeds mst (needFor (currentFields mst (placeFor (store mst xrf) m))) ≡ false)
-  unfolding deleteAnswer numberOf
+  unfolding numberOf
   delete-passed p l e f h =
-      let g = gate-done mst xrf _ e in
+      let g = gate-done mst xrf _ (sym (delete-late (store mst xrf) m) ∙ e) in
       let k = named-done mst xrf m (fine (store mst xrf) m) _ (g .2) in
       let x = passed (placeFor (store mst xrf) m .deleted) Deleted _ (λ z. omega arith) (k .3) in
+      let c = passed (countNone mst) BadControl _ (λ z. omega arith) (x .1) in
       let y =
-      passed (isSettled (placeFor (store mst xrf) m .mark) && exceeds mst (needFor (currentFields mst (placeFor (store mst xrf) m)))) NoRoom Done (λ z. omega arith) (x .1) in
+      passed (isSettled (placeFor (store mst xrf) m .mark) && exceeds mst (needFor (currentFields mst (placeFor (store mst xrf) m)))) NoRoom Done (λ z. omega arith) (c .1) in
       (planned-at mst xrf m p l (g .0) (g .1) (k .0) (k .1) (k .2) f h, y .0)
 
   module _ (plan : Plan) (u : plan ≡ deletePlan (store mst xrf) m) where
@@ -201,7 +203,7 @@ module _ (mst xrf : List ℕ) (m : ℕ) where
               ),
             )
 
-        pub delete-copied : (last lastX : List ℕ) → last ≡ versionAppended mst m p l true (currentFields mst p)
+        pub delete-copied : (last lastX : List ℕ) → last ≡ countedLess (versionAppended mst m p l true (currentFields mst p))
             → lastX ≡ withEntry xrf m (placeAtEnd mst true Changed)
             → (Done ≡ deleteAnswer (store mst xrf) m) × (store last lastX ≡ deleteLeaves (store mst xrf) m)
         unfolding deleteLeaves deletedMst deletedXrf after numberOf
@@ -215,7 +217,7 @@ module _ (mst xrf : List ℕ) (m : ℕ) where
             let k = c .0 .found in
             (slot-known mst xrf m _ (endOf mst) o p l k, read-known mst xrf m _ (endOf mst) o p l k)
 
-        pub delete-marked : (last lastX : List ℕ) → last ≡ versionInPlace mst m p l true (currentFields mst p)
+        pub delete-marked : (last lastX : List ℕ) → last ≡ countedLess (versionInPlace mst m p l true (currentFields mst p))
             → lastX ≡ withEntry xrf m (placed (p .block .0) (p .offset) true (p .mark))
             → (Done ≡ deleteAnswer (store mst xrf) m) × (store last lastX ≡ deleteLeaves (store mst xrf) m)
         unfolding deleteLeaves deletedMst deletedXrf after numberOf

@@ -112,6 +112,9 @@ fn plan_delete(mst: &[u8], xrf: &[u8], m: Mfn) -> Plan
     if place.deleted {
         return Plan::Refuse(Answer::Deleted);
     }
+    if files::control::count_none(mst) {
+        return Plan::Refuse(Answer::BadControl);
+    }
     let mark = place.mark;
     let Mark::Settled = mark else {
         return Plan::NewVersion {

@@ -72,6 +72,7 @@ module _ (mst xrf : List ℕ) (m : ℕ) (next : Mfn) (end : ℕ) (o : OpenFacts 
     read-known =
         record {
           end-is = o .end-is;
+          end-low = omega arith;
           end-in = omega arith;
           block = k .place .block;
           block-fits = omega arith;

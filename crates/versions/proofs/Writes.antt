@@ -12,7 +12,7 @@ use Rattle.word.specs.Overwrite.{overwrite}
 use Rattle.word.proofs.Overwrite.{returned-front, returned-tail, tail-back}
 use Rattle.layout.specs.Sizes.{addressLimit, recordMost, mstMost, mstBlocks, capacityOf, blockAt, offsetAt, endMoved}
 use Rattle.layout.specs.Entry.{placed, placeAddress}
-use Rattle.files.specs.Control.{nextOf, endOf, withNext, withEnd}
+use Rattle.files.specs.Control.{nextOf, endOf, withNext, withEnd, countedMore, countedLess}
 use Rattle.files.specs.CrossReference.{withEntry}
 use Rattle.layout.specs.Leader.{leaderOf}
 use Rattle.layout.specs.declared.sizes.Block.{Block}
@@ -152,12 +152,16 @@ module _ (mst : List ℕ) (end : ℕ) (p : Place) (l : Leader) (r : RecordRead m
     pub same-mfrl : (k : Leader) → k .mfrl ≡ l .mfrl → k .mfrl ≡ leaderOf (midOf at (length mst - at) mst) .mfrl
     same-mfrl k h = rw tail-leader h
 
-    pub rewritten : (m : ℕ) (k : Leader) (tail : List ℕ) → k ≡ versionLeader m p l (l .mfrl) true (l .nvf)
+    -- the control record is in the MST still
+    pub rewrite-long : (tail : List ℕ) → length tail ≡ length (midOf at (length mst - at) mst) → 64 ≤ length (putMid at (length mst - at) mst tail)
+    rewrite-long tail h = omega (arith, tail-kept mst at tail (omega arith) h)
+
+    pub rewritten : (m : ℕ) (k : Leader) (tail last : List ℕ) → k ≡ versionLeader m p l (l .mfrl) true (l .nvf)
         → tail ≡ overwrite (midOf at (length mst - at) mst) 0 (recordBytes k (fieldsOf (midOf at (length mst - at) mst)))
-        → putMid at (length mst - at) mst tail ≡ versionInPlace mst m p l true (currentFields mst p)
+        → last ≡ countedLess (putMid at (length mst - at) mst tail) → last ≡ countedLess (versionInPlace mst m p l true (currentFields mst p))
     unfolding versionInPlace
-    rewritten m k tail v t =
-        returned-front mst at (recordBytes k (fieldsOf (midOf at (length mst - at) mst))) t ∙ rw (tail-fields, v, own-count, e)
+    rewritten m k tail last v t w =
+        w ∙ ap countedLess (returned-front mst at (recordBytes k (fieldsOf (midOf at (length mst - at) mst))) t ∙ rw (tail-fields, v, own-count, e))
 
     pub back-cleared : (tail : List ℕ) → tail ≡ overwrite (midOf at (length mst - at) mst) 6 (replicate 6 0)
         → putMid at (length mst - at) mst tail ≡ settledMst mst p
@@ -177,12 +181,12 @@ module _ (mst : List ℕ) (m : ℕ) (p : Place) (l : Leader) (deleted : Bool) (k
   draft-versioned tags lens bytes last d n v w =
       w ∙ rw (v, n, ← draft-need tags lens bytes (d .right), ← draft-count tags lens bytes (d .right))
 
-  -- at the end, with its own
-  pub copy-versioned : (end : ℕ) (last : List ℕ) → RecordRead mst end p l → need ≡ needFor (currentFields mst p)
-      → k ≡ versionLeader m p l need deleted (l .nvf) → last ≡ appended mst k (currentFields mst p)
-      → last ≡ versionAppended mst m p l deleted (currentFields mst p)
+  -- at the end, with its own, and RECCNT minus 1
+  pub copy-versioned : (end : ℕ) (middle last : List ℕ) → RecordRead mst end p l → need ≡ needFor (currentFields mst p)
+      → k ≡ versionLeader m p l need deleted (l .nvf) → middle ≡ appended mst k (currentFields mst p) → last ≡ countedLess middle
+      → last ≡ countedLess (versionAppended mst m p l deleted (currentFields mst p))
   unfolding versionAppended
-  copy-versioned end last r n v w = w ∙ rw (v, n, own-count mst end p l r)
+  copy-versioned end middle last r n v w x = x ∙ ap countedLess (w ∙ rw (v, n, own-count mst end p l r))
 
 -- over the old one
 module _ (mst : List ℕ) (p : Place) (l k : Leader) (tags lens bytes : List ℕ) (at : ℕ) (d : DraftFits tags lens bytes) (e : at ≡ placeAddress p) where
@@ -231,12 +235,15 @@ module _ (mst xrf : List ℕ) (m end : ℕ) (q : Place) where
 
 -- ---- create
 
-pub record-created : (mst tags lens bytes middle last : List ℕ) (next need : ℕ) (l : Leader) → DraftFits tags lens bytes → next ≡ nextOf mst
+pub created-long : (mst middle last : List ℕ) (end size : ℕ) → AtEnd mst end size → length middle ≡ length mst → length last ≡ length middle → 64 ≤ length last
+created-long mst middle last end size a h k = omega arith
+
+pub record-created : (mst tags lens bytes middle counted last : List ℕ) (next need : ℕ) (l : Leader) → DraftFits tags lens bytes → next ≡ nextOf mst
     → need ≡ needOf (length tags) (length bytes) → l ≡ leaderFor next need 0 0 false (length tags) → middle ≡ appended mst l (draftFields tags lens bytes)
-    → last ≡ withNext middle (next + 1) → last ≡ createdMst mst (draftFields tags lens bytes)
+    → counted ≡ withNext middle (next + 1) → last ≡ countedMore counted → last ≡ createdMst mst (draftFields tags lens bytes)
 unfolding createdMst
-record-created mst tags lens bytes middle last next need l d n s v w x =
-    x ∙ rw (w, v, s, n, ← draft-need tags lens bytes (d .right), ← draft-count tags lens bytes (d .right))
+record-created mst tags lens bytes middle counted last next need l d n s v w x y =
+    y ∙ ap countedMore (x ∙ rw (w, v, s, n, ← draft-need tags lens bytes (d .right), ← draft-count tags lens bytes (d .right)))
 
 pub entry-created : (mst xrf last : List ℕ) (next end size : ℕ) (q : Place) → AtEnd mst end size → next ≡ nextOf mst
     → q ≡ placed (blockAt end) (offsetAt end) false New → last ≡ withEntry xrf next q → last ≡ createdXrf mst xrf

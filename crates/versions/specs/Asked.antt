@@ -39,6 +39,7 @@ pub record DraftFits (tags lens bytes : List ℕ) : Type 0 where
 -- the record at a place, before the end, has a leader and is right
 pub record RecordRead (mst : List ℕ) (end : ℕ) (p : Place) (l : Leader) : Type 0 where
   pub end-is : end ≡ endOf mst
+  pub end-low : 64 ≤ end
   pub end-in : end ≤ length mst
   pub block : 1 ≤ p .block .0
   pub block-fits : p .block .0 ≤ mstBlocks

@@ -1,4 +1,4 @@
--- What is written where a call is done. Document 01, "What the calls do".
+-- What is written where a call is done. Document 01, "What the calls do"; request C-17 for RECCNT.
 use Prim.Native.Nat.{ℕ, _+_}
 use mathlib.Core.Bool.{Bool, true, false, cond, _||_}
 use mathlib.Core.List.{List}
@@ -7,7 +7,7 @@ use Rattle.word.specs.Overwrite.{overwrite}
 use Rattle.layout.specs.Sizes.{blockAt, offsetAt, endMoved}
 use Rattle.layout.specs.Entry.{placed, placeAddress}
 use Rattle.files.specs.CrossReference.{withEntry}
-use Rattle.files.specs.Control.{nextOf, endOf, withNext, withEnd}
+use Rattle.files.specs.Control.{nextOf, endOf, withNext, withEnd, countedMore, countedLess}
 use Rattle.layout.specs.declared.entry.Mark.{Mark}
 use Rattle.layout.specs.declared.entry.Mark.the-variants.{Settled, Changed, New}
 use Rattle.layout.specs.declared.entry.Place.{Place}
@@ -31,10 +31,12 @@ appended mst l fs = withEnd (withRecord mst (endOf mst) l fs) (endMoved (endOf m
 abbrev pub placeAtEnd : List ℕ → Bool → Mark → Place
 placeAtEnd mst deleted mark = placed (blockAt (endOf mst)) (offsetAt (endOf mst)) deleted mark
 
--- ---- create: at the end, MFRL = need, back pointer 0/0, STATUS 0, mark new; NXTMFN + 1; returns the MFN, 0 where it is refused
+-- ---- create: at the end, MFRL = need, back pointer 0/0, STATUS 0, mark new; NXTMFN + 1, RECCNT + 1; returns the MFN, 0 where it
+-- is refused
 
 unfoldable pub createdMst : List ℕ → List Field → List ℕ
-createdMst mst fs = withNext (appended mst (leaderFor (nextOf mst) (needFor fs) 0 0 false (length fs)) fs) (nextOf mst + 1)
+createdMst mst fs =
+    countedMore (withNext (appended mst (leaderFor (nextOf mst) (needFor fs) 0 0 false (length fs)) fs) (nextOf mst + 1))
 
 unfoldable pub createdXrf : List ℕ → List ℕ → List ℕ
 createdXrf mst xrf = withEntry xrf (nextOf mst) (placeAtEnd mst false New)
@@ -81,13 +83,14 @@ updatedXrf mst xrf m p fs =
     cond (updateAppends p (leaderAt mst p) (needFor fs)) (withEntry xrf m (placeAtEnd mst false (pendingMark (p .mark)))) xrf
 
 -- ---- delete: an update with the same fields, STATUS 1, block negated. A settled record is copied to the end with MFRL = need; a pending
--- one stays in place, its MFRL kept and bytes after the data zero
+-- one stays in place, its MFRL kept and bytes after the data zero. RECCNT - 1
 
 unfoldable pub deletedMst : List ℕ → ℕ → Place → List Field → List ℕ
 deletedMst mst m p fs =
-    cond (isSettled (p .mark))
+    countedLess
+    (cond (isSettled (p .mark))
     (versionAppended mst m p (leaderAt mst p) true fs)
-    (versionInPlace mst m p (leaderAt mst p) true fs)
+    (versionInPlace mst m p (leaderAt mst p) true fs))
 
 unfoldable pub deletedXrf : List ℕ → List ℕ → ℕ → Place → List ℕ
 deletedXrf mst xrf m p =
@@ -101,7 +104,10 @@ settledMst mst p = overwrite mst (placeAddress p + 6) (replicate 6 0)
 unfoldable pub settledXrf : List ℕ → ℕ → Place → List ℕ
 settledXrf xrf m p = withEntry xrf m (placed (p .block .0) (p .offset) (p .deleted) Settled)
 
--- ---- revert: the entry becomes the back place, positive, no mark. No MST byte changes
+-- ---- revert: the entry becomes the back place, positive, no mark. RECCNT + 1 where it brings a deleted record back; no other MST byte changes
+
+unfoldable pub revertedMst : List ℕ → Place → List ℕ
+revertedMst mst p = cond (p .deleted) (countedMore mst) mst
 
 unfoldable pub revertedXrf : List ℕ → List ℕ → ℕ → Place → List ℕ
 revertedXrf mst xrf m p = withEntry xrf m (placed (leaderAt mst p .mfbwb .0) (leaderAt mst p .mfbwp) false Settled)

@@ -7,7 +7,7 @@ ghost use mathlib.Core.Path.{_≡_};
 ghost use mathlib.Core.Bool.{true, false};
 ghost use Prim.Native.Nat.{_+_, _≤_};
 ghost use lib.ListN.{length};
-ghost use Rattle.files.specs.Control.{endOf};
+ghost use Rattle.files.specs.Control.{endOf, countedLess};
 ghost use Rattle.files.specs.CrossReference.{withEntry};
 ghost use Rattle.layout.specs.Entry.{placed, placeAddress};
 ghost use Rattle.drafts.specs.Draft.{needOf, draftFields};
@@ -119,7 +119,7 @@ fn append_copy(mst: &mut [u8], end: usize, place: Place, l: Leader)
     files::control::put_end(mst, layout::sizes::end_moved(stop));
 }
 
-// Copies a settled record to the end as deleted, and writes its entry.
+// Copies a settled record to the end as deleted, and writes RECCNT and its entry.
 pub fn delete_at_end(
     mst: &mut [u8],
     xrf: &mut [u8],
@@ -131,26 +131,28 @@ pub fn delete_at_end(
     requires { ⌜ HasSlot (now xrf) (m .0) ⌝ }
     requires { ⌜ RecordRead (now mst) end place leader ⌝ }
     requires { ⌜ AtEnd (now mst) end (needFor (currentFields (now mst) place)) ⌝ }
-    ensures master { λ _. ⌜ now (mst .exit) ≡ versionAppended (now (mst .entry)) (m .0) place leader true (currentFields (now (mst .entry)) place) ⌝ }
+    ensures master { λ _. ⌜ now (mst .exit) ≡ countedLess (versionAppended (now (mst .entry)) (m .0) place leader true (currentFields (now (mst .entry)) place)) ⌝ }
     ensures cross { λ _. ⌜ now (xrf .exit) ≡ withEntry (now (xrf .entry)) (m .0) (placeAtEnd (now (mst .entry)) true Mark.Changed) ⌝ }
 {
     let need = own_need(mst, end, place, leader);
     let l = version_leader(m, place, leader, need as u16, true, leader.nvf);
     append_copy(mst, end, place, l);
+    files::control::count_less(mst);
     let p = crate::create::end_place(end, true, Mark::Changed);
     files::cross_reference::put_entry(xrf, m, p);
 }
 
-// Rewrites a pending record as deleted, and its entry.
+// Rewrites a pending record as deleted, RECCNT and its entry.
 pub fn delete_in_place(mst: &mut [u8], xrf: &mut [u8], m: Mfn, place: Place, leader: Leader)
     requires { ⌜ HasSlot (now xrf) (m .0) ⌝ }
     requires { ⌜ RecordRead (now mst) (endOf (now mst)) place leader ⌝ }
-    ensures master { λ _. ⌜ now (mst .exit) ≡ versionInPlace (now (mst .entry)) (m .0) place leader true (currentFields (now (mst .entry)) place) ⌝ }
+    ensures master { λ _. ⌜ now (mst .exit) ≡ countedLess (versionInPlace (now (mst .entry)) (m .0) place leader true (currentFields (now (mst .entry)) place)) ⌝ }
     ensures cross { λ _. ⌜ now (xrf .exit) ≡ withEntry (now (xrf .entry)) (m .0) (placed (place .block .0) (place .offset) true (place .mark)) ⌝ }
 {
     let l = version_leader(m, place, leader, leader.mfrl, true, leader.nvf);
     let at = layout::entry::place_address(place);
     drafts::writer::rewrite_record(&mut mst[at..], l);
+    files::control::count_less(mst);
     let block = place.block;
     let mark = place.mark;
     let p = Place {

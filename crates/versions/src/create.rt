@@ -47,7 +47,7 @@ pub(crate) fn append_draft(
     files::control::put_end(mst, layout::sizes::end_moved(stop));
 }
 
-// Writes a draft's record at the end under the next MFN, NXTMFN and the entry.
+// Writes a draft's record at the end under the next MFN, NXTMFN, RECCNT and the entry.
 pub fn create_at_end(
     mst: &mut [u8],
     xrf: &mut [u8],
@@ -67,5 +67,6 @@ pub fn create_at_end(
     let l = drafts::writer::leader_for(next, need as u16, Block(0), 0, false, tags.len() as u16);
     append_draft(mst, end, l, tags, lens, data);
     files::control::put_next(mst, Mfn(next.0 + 1));
+    files::control::count_more(mst, true);
     files::cross_reference::put_entry(xrf, next, end_place(end, false, Mark::New));
 }

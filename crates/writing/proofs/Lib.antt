@@ -1,3 +1,4 @@
+pub mod Counted
 pub mod Lowest
 pub mod Plans
 pub mod Results

@@ -4,14 +4,14 @@ use Prim.Native.Nat.{ℕ, _+_, _≤_}
 use native.Mathlib.Omega.{arith}
 use mathlib.Core.Path.{_≡_, refl, sym, ap, _∙_}
 use mathlib.Core.Logic.{⊎-elim}
-use mathlib.Core.Bool.{Bool, true, false, not, _&&_}
+use mathlib.Core.Bool.{Bool, true, false, not, _&&_, cond}
 use mathlib.Core.List.{List}
 use lib.Dec.{eqb}
 use lib.ListN.{length}
 use borrow.Author.Tests.{eqb-false, ltb-false, not-false}
 use Rattle.layout.specs.Sizes.{mfnMost, mstBlocks, mstPermitted, xrfPermitted, capacityOf}
 use Rattle.layout.specs.Entry.{placed}
-use Rattle.files.specs.Control.{nextOf, endOf, formattedMst}
+use Rattle.files.specs.Control.{nextOf, endOf, formattedMst, countedMore}
 use Rattle.files.specs.CrossReference.{xrfBlock, headRight, slotFree, withEntry, formattedXrf}
 use Rattle.layout.specs.declared.sizes.Mfn.{Mfn}
 use Rattle.layout.specs.declared.entry.Mark.{Mark}
@@ -26,7 +26,8 @@ use Rattle.store.specs.Answer.{numberOf, after}
 use Rattle.store.specs.Reading.{lengthsPermitted, placeFor, isSettled, isNew, leaderAt}
 use Rattle.store.specs.Refusals.{fine, bothFine}
 use Rattle.writing.specs.Refusals.{exceeds, formatAnswer, createAnswer, settleAnswer, revertAnswer}
-use Rattle.versions.specs.Written.{createdMst, createdXrf, settledMst, settledXrf, revertedXrf}
+use Rattle.versions.specs.Written.{createdMst, createdXrf, settledMst, settledXrf, revertedMst, revertedXrf}
+use Rattle.writing.proofs.Counted.{create-through, revert-through}
 use Rattle.writing.specs.Calls.{formatLeaves, createOf, createLeaves, settleLeaves, revertLeaves}
 use Rattle.store.specs.Gate.{reachedIf, reachedAnswer}
 use Rattle.writing.specs.Plans.{settlePlan, revertPlan, createPlan, creatingAnswer}
@@ -93,10 +94,10 @@ module _ (mst xrf tags lens bytes : List ℕ) (plan : Creating) (p : plan ≡ cr
 
     create-passed : OpenFacts mst xrf next end × (draftRight tags lens bytes ≡ true) × (eqb (nextOf mst) (capacityOf (length xrf) + 1) ≡ false)
         × (exceeds mst (needFor (draftFields tags lens bytes)) ≡ false)
-    unfolding createAnswer numberOf
+    unfolding numberOf
     create-passed =
         let w = written in
-        let g = gate-done mst xrf _ (w .0) in
+        let g = gate-done mst xrf _ (create-through (store mst xrf) (draft tags lens bytes) (w .0)) in
         let d = passed (not (draftRight tags lens bytes)) BadDraft _ (λ z. omega arith) (g .2) in
         let f = passed (eqb (nextOf mst) (capacityOf (length xrf) + 1)) NoSlot _ (λ z. omega arith) (d .1) in
         let s = passed (not (headRight xrf (xrfBlock (nextOf mst)) && slotFree xrf (nextOf mst))) BadEntry _ (λ z. omega arith) (f .1) in
@@ -179,10 +180,10 @@ module _ (mst xrf : List ℕ) (m : ℕ) (k : Reached) (u : k ≡ revertPlan (sto
     reverting = of-record (revertAnswer (store mst xrf) m) _ _ _ end p l (sym u ∙ q)
 
     revert-passed : Planned mst xrf m p l × (p .mark ≡ Changed)
-    unfolding revertAnswer numberOf
+    unfolding numberOf
     revert-passed =
         let a = reverting in
-        let g = gate-done mst xrf _ (a .0) in
+        let g = gate-done mst xrf _ (revert-through (store mst xrf) m (a .0)) in
         let n = named-done mst xrf m (bothFine (store mst xrf) m) _ (g .2) in
         let x = passed (isSettled (placeFor (store mst xrf) m .mark)) NotPending _ (λ z. omega arith) (n .3) in
         let y = passed (isNew (placeFor (store mst xrf) m .mark)) NeverSettled Done (λ z. omega arith) (x .1) in (
@@ -199,7 +200,11 @@ module _ (mst xrf : List ℕ) (m : ℕ) (k : Reached) (u : k ≡ revertPlan (sto
         let b = back-changed (endOf mst) p l (k .facts .back) (c .1) in
         ((s .low, s .high), (b .facts .block, omega arith, b .facts .offset))
 
-    pub revert-done : (last : List ℕ) → last ≡ withEntry xrf m (placed (l .mfbwb .0) (l .mfbwp) false Settled)
-        → (Done ≡ revertAnswer (store mst xrf) m) × (store mst last ≡ revertLeaves (store mst xrf) m)
-    unfolding revertLeaves revertedXrf after numberOf
-    revert-done last s = let a = reverting in (sym (a .0), rw (a .0, a .3, s))
+    -- what the count asks, of the MST as it is lent again
+    pub revert-long : 64 ≤ length mst
+    revert-long = let o = revert-passed .0 .gate in omega arith
+
+    pub revert-done : (master last : List ℕ) → master ≡ cond (p .deleted) (countedMore mst) mst → last ≡ withEntry xrf m (placed (l .mfbwb .0) (l .mfbwp) false Settled)
+        → (Done ≡ revertAnswer (store mst xrf) m) × (store master last ≡ revertLeaves (store mst xrf) m)
+    unfolding revertLeaves revertedMst revertedXrf after numberOf
+    revert-done master last w s = let a = reverting in (sym (a .0), rw (a .0, a .3, a .2, w, s))

@@ -8,7 +8,7 @@ use Rattle.store.specs.Store.{Store, store}
 use Rattle.drafts.specs.Draft.{Draft, fieldsIn}
 use Rattle.store.specs.Answer.{after}
 use Rattle.store.specs.Reading.{placeFor, currentFields}
-use Rattle.versions.specs.Written.{createdMst, createdXrf, updatedMst, updatedXrf, deletedMst, deletedXrf, settledMst, settledXrf, revertedXrf}
+use Rattle.versions.specs.Written.{createdMst, createdXrf, updatedMst, updatedXrf, deletedMst, deletedXrf, settledMst, settledXrf, revertedMst, revertedXrf}
 use Rattle.writing.specs.Refusals.{formatAnswer, createAnswer, updateAnswer, deleteAnswer, settleAnswer, revertAnswer}
 use Rattle.writing.specs.declared.create.Created.{Created}
 
@@ -38,4 +38,5 @@ unfoldable pub settleLeaves : Store → ℕ → Store
 settleLeaves s m = after (settleAnswer s m) (store (settledMst (s .mst) (placeFor s m)) (settledXrf (s .xrf) m (placeFor s m))) s
 
 unfoldable pub revertLeaves : Store → ℕ → Store
-revertLeaves s m = after (revertAnswer s m) (store (s .mst) (revertedXrf (s .mst) (s .xrf) m (placeFor s m))) s
+revertLeaves s m =
+    after (revertAnswer s m) (store (revertedMst (s .mst) (placeFor s m)) (revertedXrf (s .mst) (s .xrf) m (placeFor s m))) s

@@ -48,6 +48,9 @@ fn plan_create(mst: &[u8], xrf: &[u8], tags: &[u16], lens: &[u16], data: &[u8]) 
     let Gate::Open { next, end } = g else {
         return Creating::Unwritten(store::gate::gate_answer(g));
     };
+    if files::control::count_full(mst) {
+        return Creating::Unwritten(Answer::BadControl);
+    }
     if !drafts::draft::draft_right(tags, lens, data) {
         return Creating::Unwritten(Answer::BadDraft);
     }

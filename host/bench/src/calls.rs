@@ -7,6 +7,7 @@ use crate::rows::{ROUNDS, Row, Task, afresh, both_ways, number};
 use isis::{Card, raw};
 use model::OwnedDraft;
 use model::ask::Lists;
+use model::layout::put_reccnt;
 use std::cell::RefCell;
 use std::hint::black_box;
 
@@ -37,6 +38,7 @@ pub fn run(task: &Task) {
     let new = card(records, &eight, Kind::New);
     let settled = card(records, &eight, Kind::Settled);
     let changed = card(records, &eight, Kind::Changed);
+    let deleted = card(records, &eight, Kind::Deleted);
     formats(task);
     views(task, records, &settled, &changed);
     fields(task, records, &settled, &changed);
@@ -45,8 +47,10 @@ pub fn run(task: &Task) {
     drafts(task, records, &new, &settled, &eight);
     deletes(task, records, &new, &settled);
     settling(task, records, &new, &changed);
+    reverts(task, records, &changed, &deleted);
     whole_lists(task, &eight);
     migrations(task, records, &settled);
+    recounts(task, &eight);
     forty_fields(task);
 }
 
@@ -231,11 +235,17 @@ fn settling(task: &Task, records: usize, new: &Buffers, changed: &Buffers) {
             both_ways!(|mst, xrf, mfn| plain::settle(mst, xrf, mfn)),
         );
     }
-    task.measure(
-        &done("revert", "revert", changed, records),
-        |card, mfn| number(card.revert(mfn)),
-        both_ways!(|mst, xrf, mfn| plain::revert(mst, xrf, mfn)),
-    );
+}
+
+/// A revert of a live record, and one that brings a deleted record back.
+fn reverts(task: &Task, records: usize, changed: &Buffers, deleted: &Buffers) {
+    for (name, base) in [("revert", changed), ("revert a deletion", deleted)] {
+        task.measure(
+            &done(name, "revert", base, records),
+            |card, mfn| number(card.revert(mfn)),
+            both_ways!(|mst, xrf, mfn| plain::revert(mst, xrf, mfn)),
+        );
+    }
 }
 
 /// 4,096 MFNs in one call, and in as many single calls.
@@ -276,6 +286,17 @@ fn migrations(task: &Task, records: usize, settled: &Buffers) {
             mst[12] = 64;
             plain::migrate(mst, xrf)
         }),
+    );
+}
+
+/// A card that did not count its records is recounted.
+fn recounts(task: &Task, draft: &OwnedDraft) {
+    let mut base = card(1_000, draft, Kind::Changed);
+    put_reccnt(&mut base.mst, 0);
+    task.measure(
+        &done("recount, 1000 records of 8 fields", "recount", &base, 1),
+        |card, _| number(card.recount()),
+        both_ways!(|mst, xrf, _| plain::recount(mst, xrf)),
     );
 }
 

@@ -51,6 +51,8 @@ pub enum Kind {
     Settled,
     /// Created, settled and updated.
     Changed,
+    /// Created, settled and deleted.
+    Deleted,
 }
 
 /// A card of equal records, with room for one more version of each.
@@ -65,6 +67,9 @@ pub fn card(records: usize, draft: &OwnedDraft, kind: Kind) -> Buffers {
         }
         if kind == Kind::Changed {
             store::update(mst, xrf, mfn, &draft.lent()).expect("a settled record");
+        }
+        if kind == Kind::Deleted {
+            store::delete(mst, xrf, mfn).expect("a settled record");
         }
     }
     card

@@ -235,7 +235,7 @@ fn drafts() {
 /// A function that names an MFN and may write.
 type Act = unsafe extern "C" fn(*mut u8, usize, *mut u8, usize, u32) -> u32;
 
-/// Calls that name an MFN, format, and a migration.
+/// Calls that name an MFN, format, a migration and a recount.
 fn acts() {
     let (new, settled, changed) = (
         arguments(Kind::New),
@@ -295,6 +295,14 @@ fn acts() {
         });
     };
     report("migrate", &mut [&mut migrate]);
+    let mut recount = || {
+        // SAFETY: as in `reading`; a number that is not right is put there first.
+        black_box(unsafe {
+            *changed.0.add(16) = 0xFF;
+            raw::isis_recount(changed.0, changed.1, changed.2, changed.3)
+        });
+    };
+    report("recount", &mut [&mut recount]);
 }
 
 /// The calls on an index whose ways have as many nodes as they may have.

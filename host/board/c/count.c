@@ -72,6 +72,7 @@ static void settle(void) { answer = isis_settle(CARD, 7); }
 static void settle_list(void) { answer = isis_settle_list(CARD, mfns, RECORDS, answers, RECORDS); }
 static void revert(void) { answer = isis_revert(CARD, 7); }
 static void migrate(void) { answer = isis_migrate(CARD); }
+static void recount(void) { answer = isis_recount(CARD); }
 static void check(void) { answer = isis_check(CARD); }
 static void record_test(void) { answer = isis_record_test(RECORD, 1, 0, &entry); }
 static void lookup_short(void) { answer = isis_lookup(INDEX, SLICE(SHORT_TERM), &block, &word); }
@@ -81,8 +82,9 @@ static void read_list(void) { answer = isis_postings(SLICE(IFP), FIRST, postings
 static void common(void) { answer = isis_common(SLICE(IFP), FIRST, SECOND, MERGED); }
 static void joined(void) { answer = isis_joined(SLICE(IFP), FIRST, SECOND, MERGED); }
 
-/* A card of RECORDS records of FIELDS fields, in one of three states, or settled and as it was written before isis.h 2.0. */
-enum kind { NEW, SETTLED, CHANGED, OLD };
+/* A card of RECORDS records of FIELDS fields: new, settled, one of them changed, one of them deleted; or settled and as it was
+   written before isis.h 2.0, or before 4.0. */
+enum kind { NEW, SETTLED, CHANGED, DELETED, OLD, UNCOUNTED };
 
 static void make_card(enum kind kind)
 {
@@ -95,8 +97,12 @@ static void make_card(enum kind kind)
     }
     if (kind == CHANGED)
         update();
+    if (kind == DELETED)
+        delete();
     if (kind == OLD)
         mst[12]--;
+    if (kind == UNCOUNTED)
+        mst[ISIS_RECCNT_AT] = 0;
 }
 
 static const struct {
@@ -122,9 +128,11 @@ static const struct {
     { "settle, a changed record", CHANGED, settle },
     { "settle 50 new records in one call", NEW, settle_list },
     { "revert", CHANGED, revert },
+    { "revert a deletion", DELETED, revert },
     { "migrate an old card", OLD, migrate },
     { "format, 32 KB", NEW, format },
     { "check, 50 records", SETTLED, check },
+    { "recount, 50 records", UNCOUNTED, recount },
     { "record test, 8 fields", SETTLED, record_test },
     { "lookup, 9 bytes, in 1000 terms", NEW, lookup_short },
     { "lookup, 17 bytes, in 1000 terms", NEW, lookup_long },

@@ -23,7 +23,7 @@
 
 extern const uint32_t list[];
 
-enum { MST_MAX = 128 * 1024, XRF_MAX = 8 * 1024, STACK = 512, KINDS = 26 };
+enum { MST_MAX = 128 * 1024, XRF_MAX = 8 * 1024, STACK = 512, KINDS = 27 };
 enum { MST_LAST, XRF_LAST, MIDDLE, ON_AN_INDEX, ON_POSTINGS, ON_A_RECORD };
 
 /* The list, and how much of it is done. */
@@ -216,16 +216,18 @@ __attribute__((noinline)) static uint32_t answer(void)
     case SETTLE_LIST:
         return isis_settle_list(CARD, call.mfns, call.mfns_len, answers, call.index);
     case 11:
-        return isis_field(CARD, call.mfn, call.index, &out.tag, &out.start, &out.len);
+        return isis_recount(CARD);
     case 12:
-        return isis_field_settled(CARD, call.mfn, call.index, &out.tag, &out.start, &out.len);
+        return isis_field(CARD, call.mfn, call.index, &out.tag, &out.start, &out.len);
     case 13:
-        return isis_next(CARD, &out.next, &out.end);
+        return isis_field_settled(CARD, call.mfn, call.index, &out.tag, &out.start, &out.len);
     case 14:
-        return isis_state(CARD, call.mfn, &out.mark, &out.deleted);
+        return isis_next(CARD, &out.next, &out.end);
     case 15:
-        return isis_fields(CARD, call.mfn, LISTS);
+        return isis_state(CARD, call.mfn, &out.mark, &out.deleted);
     case 16:
+        return isis_fields(CARD, call.mfn, LISTS);
+    case 17:
         return isis_fields_settled(CARD, call.mfn, LISTS);
     }
     differs("the call", call.kind, 0);

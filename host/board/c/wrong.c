@@ -1,15 +1,18 @@
 /*
  * wrong.c: a library that is wrong in one way, so that a test sees the runner say so.
  *
- * The linker puts these in the place of isis_check, isis_create, isis_view, isis_field,
- * isis_lookup, isis_postings and isis_record_test (--wrap). Each makes the call and then does
- * what WRONG names.
+ * The linker puts these in the place of isis_check, isis_create, isis_delete, isis_revert,
+ * isis_recount, isis_view, isis_field, isis_lookup, isis_postings and isis_record_test (--wrap).
+ * Each makes the call and then does what WRONG names.
  */
 #include "isis.h"
 
 uint32_t __real_isis_check(const uint8_t *, isis_size, const uint8_t *, isis_size);
 uint32_t __real_isis_create(uint8_t *, isis_size, uint8_t *, isis_size, const uint16_t *, isis_size,
                             const uint16_t *, isis_size, const uint8_t *, isis_size, uint32_t *);
+uint32_t __real_isis_delete(uint8_t *, isis_size, uint8_t *, isis_size, uint32_t);
+uint32_t __real_isis_revert(uint8_t *, isis_size, uint8_t *, isis_size, uint32_t);
+uint32_t __real_isis_recount(uint8_t *, isis_size, uint8_t *, isis_size);
 uint32_t __real_isis_view(const uint8_t *, isis_size, const uint8_t *, isis_size, uint32_t, uint16_t, uint32_t,
                           isis_size *, isis_size *, uint32_t *);
 uint32_t __real_isis_field(const uint8_t *, isis_size, const uint8_t *, isis_size, uint32_t, isis_size, uint16_t *,
@@ -60,6 +63,14 @@ enum way {
     TELL_AN_ENTRY_OF_A_LEADER,
     LEAVE_THE_ENTRY,
     WRITE_BEHIND_THE_ENTRY,
+    CREATE_FORGETS,
+    ADD_FOR_A_LIVE_RECORD,
+    TAKE_FOR_NO_ROOM,
+    REFUSE_BEFORE_NO_MFN,
+    CHECK_WITHOUT_RECCNT,
+    COUNT_THE_DELETED,
+    REFUSE_FOR_RECCNT,
+    WRITE_BEHIND_RECCNT,
 };
 
 static void read_at(const uint8_t *at)
@@ -94,9 +105,18 @@ uint32_t __wrap_isis_check(const uint8_t *mst, isis_size mst_len, const uint8_t 
     case CHANGE_A_BYTE: write_at(mst + 4); break;
     case ANSWER_ONE_MORE: answer++; break;
     case READ_AN_ODD_WORD: read_word((const uint8_t *)((uintptr_t)mst | 1)); break;
+    case CHECK_WITHOUT_RECCNT: answer = answer == ISIS_NOT_SOUND ? ISIS_DONE : answer; break;
     default: break;
     }
     return answer;
+}
+
+/* RECCNT, at any address. */
+static int32_t count_at(const uint8_t *mst)
+{
+    const uint8_t *at = mst + ISIS_RECCNT_AT;
+
+    return (int32_t)(at[0] | (uint32_t)at[1] << 8 | (uint32_t)at[2] << 16 | (uint32_t)at[3] << 24);
 }
 
 uint32_t __wrap_isis_create(uint8_t *mst, isis_size mst_len, uint8_t *xrf, isis_size xrf_len, const uint16_t *tags,
@@ -109,6 +129,45 @@ uint32_t __wrap_isis_create(uint8_t *mst, isis_size mst_len, uint8_t *xrf, isis_
 
     if (WRONG == READ_BEHIND_DATA)
         read_at(data + data_len);
+    if (WRONG == CREATE_FORGETS && answer == ISIS_DONE)
+        mst[ISIS_RECCNT_AT]--;
+    return answer;
+}
+
+uint32_t __wrap_isis_delete(uint8_t *mst, isis_size mst_len, uint8_t *xrf, isis_size xrf_len, uint32_t mfn)
+{
+    uint32_t answer = __real_isis_delete(mst, mst_len, xrf, xrf_len, mfn);
+
+    if (WRONG == TAKE_FOR_NO_ROOM && answer == ISIS_NO_ROOM)
+        mst[ISIS_RECCNT_AT]--;
+    if (WRONG == REFUSE_BEFORE_NO_MFN && answer == ISIS_NO_MFN && count_at(mst) <= 0)
+        answer = ISIS_BAD_CONTROL;
+    return answer;
+}
+
+uint32_t __wrap_isis_revert(uint8_t *mst, isis_size mst_len, uint8_t *xrf, isis_size xrf_len, uint32_t mfn)
+{
+    int32_t before = count_at(mst);
+    uint32_t answer = __real_isis_revert(mst, mst_len, xrf, xrf_len, mfn);
+
+    if (WRONG == ADD_FOR_A_LIVE_RECORD && answer == ISIS_DONE && count_at(mst) == before)
+        mst[ISIS_RECCNT_AT]++;
+    return answer;
+}
+
+uint32_t __wrap_isis_recount(uint8_t *mst, isis_size mst_len, uint8_t *xrf, isis_size xrf_len)
+{
+    int32_t before = count_at(mst);
+    uint32_t answer;
+
+    if (WRONG == REFUSE_FOR_RECCNT && before < 0)
+        return ISIS_BAD_CONTROL;
+    answer = __real_isis_recount(mst, mst_len, xrf, xrf_len);
+    if (WRONG == COUNT_THE_DELETED) /* the highest byte of a deleted record's entry is that of a negative number */
+        for (uint32_t i = 1; i < mst[4]; i++)
+            mst[ISIS_RECCNT_AT] += xrf[ISIS_ENTRY_AT(i) + 3] >> 7;
+    if (WRONG == WRITE_BEHIND_RECCNT)
+        write_at(mst + ISIS_RECCNT_AT + 4);
     return answer;
 }
 

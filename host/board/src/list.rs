@@ -59,7 +59,7 @@ impl Arguments {
             ..Arguments::default()
         };
         match call {
-            Call::Format | Call::Check | Call::Migrate | Call::Next => {}
+            Call::Format | Call::Check | Call::Migrate | Call::Recount | Call::Next => {}
             Call::Create(draft) => of.draft = draft.clone(),
             Call::Update(mfn, draft) => (of.mfn, of.draft) = (*mfn, draft.clone()),
             Call::Delete(mfn) | Call::Settle(mfn) | Call::Revert(mfn) | Call::State(mfn) => {

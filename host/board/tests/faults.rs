@@ -48,6 +48,36 @@ fn views() -> Recorder {
     recorder
 }
 
+/// Two records; the first is settled, changed and taken back, then deleted, and counted; in a
+/// store without room for a copy of the second; with RECCNT below 0 at last.
+fn counts() -> Recorder {
+    let mut recorder = Recorder::default();
+    let (mut mst, mut xrf) = (vec![255; 512], vec![255; 512]);
+    let long = vec![b'k'; 200];
+    let mut run = |mst: &mut Vec<u8>, call: &Call| {
+        recorder.run(mst, &mut xrf, call, Side::Back);
+    };
+    for call in [
+        Call::Format,
+        Call::Create(OwnedDraft::of(&[(24, b"Kite")])),
+        Call::Create(OwnedDraft::of(&[(24, &long)])),
+        Call::Settle(1),
+        Call::Settle(2),
+        Call::Update(1, OwnedDraft::of(&[(24, b"Kites")])),
+        Call::Revert(1),
+        Call::Delete(2),
+        Call::Delete(1),
+        Call::Recount,
+    ] {
+        run(&mut mst, &call);
+    }
+    mst[16..24].fill(255);
+    for call in [Call::Delete(3), Call::Check, Call::Recount] {
+        run(&mut mst, &call);
+    }
+    recorder
+}
+
 /// A term that an index holds and one that it does not, in turn; each slice stands once at
 /// the last byte, and CNT stands at the first from step 1 on.
 fn searches() -> Recorder {
@@ -105,6 +135,7 @@ fn caught(core: &Core, way: &str, list: &Recorder) -> String {
         &format!("-DWRONG={way}"),
         "-Wl,--wrap=isis_check,--wrap=isis_create,--wrap=isis_view,--wrap=isis_field",
         "-Wl,--wrap=isis_lookup,--wrap=isis_postings,--wrap=isis_record_test",
+        "-Wl,--wrap=isis_delete,--wrap=isis_revert,--wrap=isis_recount",
     ];
     let name = format!("wrong-{way}");
     run_with(core, &name, list, &["host/board/c/wrong.c"], &flags).expect_err("nothing was noticed")
@@ -304,4 +335,44 @@ fn a_wrong_test_of_a_record_is_said() {
 fn a_word_read_at_an_odd_address_is_a_fault_on_cortex_m0() {
     let said = caught(&M0, "READ_AN_ODD_WORD", &list());
     assert!(said.ends_with("\nin step 2\n"), "{said}");
+}
+
+#[test]
+fn a_wrong_count_is_said() {
+    for (way, words) in [
+        (
+            "CREATE_FORGETS",
+            "byte 16 of the MST is 0, wanted 1, in step 1\n",
+        ),
+        (
+            "ADD_FOR_A_LIVE_RECORD",
+            "byte 16 of the MST is 3, wanted 2, in step 6\n",
+        ),
+        (
+            "TAKE_FOR_NO_ROOM",
+            "byte 16 of the MST is 1, wanted 2, in step 7\n",
+        ),
+        (
+            "COUNT_THE_DELETED",
+            "byte 16 of the MST is 2, wanted 1, in step 9\n",
+        ),
+        (
+            "REFUSE_BEFORE_NO_MFN",
+            "the answer is 2, wanted 4, in step 10\n",
+        ),
+        (
+            "CHECK_WITHOUT_RECCNT",
+            "the answer is 0, wanted 14, in step 11\n",
+        ),
+        (
+            "REFUSE_FOR_RECCNT",
+            "the answer is 2, wanted 0, in step 12\n",
+        ),
+        (
+            "WRITE_BEHIND_RECCNT",
+            "byte 20 of the MST is 0, wanted 255, in step 12\n",
+        ),
+    ] {
+        assert_eq!(caught(&M0, way, &counts()), words);
+    }
 }

@@ -59,6 +59,7 @@ fn sentences() -> Vec<String> {
             "ISIS_FIELDS_MAX",
             (layout::LONGEST - layout::LEADER) / layout::ITEM,
         ),
+        ("ISIS_RECCNT_AT", layout::RECCNT),
         ("ISIS_CNT", 2 * index::PART),
         ("ISIS_SHORT_TERM_MAX", index::WIDTHS[0]),
         ("ISIS_TERM_MAX", index::LONGEST),

@@ -125,6 +125,11 @@ fn other_records() {
     holds(17);
 }
 
+#[test]
+fn planted_counts() {
+    holds(18);
+}
+
 /// A list that never meets an answer says nothing about it, nor one that never meets the
 /// breach of a rule of an index, of postings or of a record.
 #[test]

@@ -16,6 +16,9 @@ use std::ops::Range;
 /// Parts of a file.
 type Parts = Vec<Range<usize>>;
 
+/// RECCNT.
+const COUNT: Range<usize> = 16..20;
+
 /// One part.
 fn only(part: Range<usize>) -> Parts {
     std::iter::once(part).collect()
@@ -44,7 +47,8 @@ fn may_touch(mst: &[u8], xrf: &[u8], call: &Call) -> (Parts, Parts) {
         Call::Format => (only(0..mst.len()), only(0..xrf.len())),
         Call::Create(draft) => {
             let length = need(draft.tags.len(), draft.data.len());
-            (vec![4..14, at_end(length)], only(entry(control().next_mfn)))
+            let mst = vec![4..14, COUNT, at_end(length)];
+            (mst, only(entry(control().next_mfn)))
         }
         Call::Update(mfn, draft) => {
             let (mark, record) = found(mst, xrf, *mfn);
@@ -58,11 +62,11 @@ fn may_touch(mst: &[u8], xrf: &[u8], call: &Call) -> (Parts, Parts) {
             let (mark, record) = found(mst, xrf, *mfn);
             let entry = only(entry(*mfn as usize));
             if mark != Mark::Settled {
-                return (only(own(&record)), entry);
+                return (vec![COUNT, own(&record)], entry);
             }
             let fields: usize = record.fields(mst).map(|(_, part)| part.len()).sum();
             let length = need(usize::from(record.leader.fields), fields);
-            (vec![8..14, at_end(length)], entry)
+            (vec![8..14, COUNT, at_end(length)], entry)
         }
         Call::Settle(mfn) => {
             let at = found(mst, xrf, *mfn).1.at;
@@ -78,8 +82,13 @@ fn may_touch(mst: &[u8], xrf: &[u8], call: &Call) -> (Parts, Parts) {
             };
             mfns.iter().filter(settled).map(places).unzip()
         }
-        Call::Revert(mfn) => (Vec::new(), only(entry(*mfn as usize))),
+        Call::Revert(mfn) => {
+            let value = i32_at(xrf, slot_at(*mfn as usize));
+            let mst = if value < 0 { only(COUNT) } else { Vec::new() };
+            (mst, only(entry(*mfn as usize)))
+        }
         Call::Migrate => (only(12..14), Vec::new()),
+        Call::Recount => (only(COUNT), Vec::new()),
         _ => (Vec::new(), Vec::new()),
     }
 }
@@ -124,7 +133,7 @@ fn a_call_changes_only_the_bytes_that_the_header_names() {
         drive_subject(&mut watched, family, 20_000, first_seed()).unwrap();
     }
     for (kind, name) in Call::NAMES.iter().enumerate() {
-        let writes = matches!(kind, 0 | 3..=7 | 9..=10);
+        let writes = matches!(kind, 0 | 3..=7 | 9..=11);
         assert_eq!(watched.changed[kind] > 0, writes, "{name}");
     }
 }

@@ -11,7 +11,7 @@ use isis::{Answer, Card, Refusal};
 use std::path::PathBuf;
 
 /// Makes a call on the card and, if it was accepted, writes the files back.
-fn call<T>(
+pub fn call<T>(
     files: Files,
     about: About,
     call: impl FnOnce(&mut Card) -> Answer<T>,

@@ -2,6 +2,7 @@
 //! second reading of the same bytes says what is wrong and where.
 
 use crate::arguments::Arguments;
+use crate::count;
 use crate::faults;
 use crate::fields::Given;
 use crate::files::Files;
@@ -82,9 +83,11 @@ pub fn not_migrated(refusal: Refusal, files: &Files) -> Trouble {
 fn reason(refusal: Refusal, files: &Files, about: About) -> String {
     match (refusal, files.store()) {
         (Refusal::BadLength, _) => lengths(files),
-        (Refusal::BadControl, _) => {
+        (Refusal::BadControl, store) => {
             let path = files.mst_path.display();
-            control(files, COUNT_FROM).map_or(String::new(), |words| format!("{path}: {words}"))
+            let at_an_end = || store.ok().map(|store| count::at_an_end(&store));
+            let words = control(files, COUNT_FROM).or_else(at_an_end);
+            words.map_or(String::new(), |words| format!("{path}: {words}"))
         }
         (Refusal::BadDraft, _) => about.given.map(draft).unwrap_or_default(),
         (_, Ok(store)) => in_store(refusal, &store, about),

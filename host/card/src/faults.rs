@@ -2,15 +2,26 @@
 //! follows from one. The library has answered before that the store is not sound; here the
 //! bytes are read a second time to say why.
 
+use crate::count;
 use crate::layout::{BLOCK, Entry, Place, Store, long, slot_at, slots};
 use crate::record::{About, Flaw};
 use crate::steps::{Anchors, wrong_steps};
 use isis::Mark;
 use std::collections::BTreeMap;
 
-/// Every cause: of the XRF's blocks and free slots, of the MST by address, of the entries
-/// by MFN.
+/// Every cause; RECCNT is one where there is no other, since only then it is known what it
+/// should be.
 pub fn causes(store: &Store) -> Vec<String> {
+    let mut found = apart(store);
+    if found.is_empty() {
+        found.extend(count::fault(store));
+    }
+    found
+}
+
+/// Every cause apart from RECCNT: of the XRF's blocks and free slots, of the MST by address, of
+/// the entries by MFN.
+fn apart(store: &Store) -> Vec<String> {
     let blocks = 1..=store.xrf.len() / BLOCK;
     let mut found: Vec<String> = blocks
         .filter_map(|block| block_fault(store, block))
@@ -192,14 +203,15 @@ impl Versions {
 mod tests {
     use super::*;
     use crate::trials::{Dice, damaged};
-    use isis::{CardRef, Refusal};
+    use isis::{Card, CardRef, Refusal};
 
-    /// A cause is named exactly where the library finds the store not sound, and a fault of
-    /// an MFN exactly where it answers 6 or 8.
+    /// A cause is named exactly where the library finds the store not sound, one apart from
+    /// RECCNT exactly where it refuses to recount, and a fault of an MFN exactly where it
+    /// answers 6 or 8.
     #[test]
     fn words_agree_with_the_answers() {
         let mut dice = Dice(12);
-        let (mut sound, mut not_sound, mut refused) = (0, 0, 0);
+        let (mut sound, mut not_sound, mut uncounted, mut refused) = (0, 0, 0, 0);
         for _ in 0..20_000 {
             let (mst, xrf) = damaged(&mut dice);
             let card = CardRef::over(&mst, &xrf);
@@ -211,6 +223,10 @@ mod tests {
             let store = Store::open(card).unwrap();
             let causes = causes(&store);
             assert_eq!(causes.is_empty(), card.check().is_ok(), "{causes:?}");
+            let (mut counted, mut same) = (mst.clone(), xrf.clone());
+            let recounted = Card::over(&mut counted, &mut same).recount();
+            assert_eq!(apart(&store).is_empty(), recounted.is_ok(), "{causes:?}");
+            uncounted += usize::from(recounted.is_ok() && counted != mst);
             for mfn in 1..store.next {
                 let answer = card.fields_settled(mfn as u32).map(|_| ());
                 let wrong = matches!(answer, Err(Refusal::BadEntry | Refusal::BadRecord));
@@ -218,6 +234,6 @@ mod tests {
                 refused += usize::from(wrong);
             }
         }
-        assert!(sound > 1_000 && not_sound > 1_000 && refused > 1_000);
+        assert!(sound > 1_000 && not_sound > 1_000 && uncounted > 300 && refused > 1_000);
     }
 }

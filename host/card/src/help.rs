@@ -4,7 +4,7 @@
 use crate::arguments::{Arguments, quoted};
 use crate::say::print;
 use crate::trouble::{STATUSES, Trouble};
-use crate::{calls, check, draw, lookup, search, settle, show, stat};
+use crate::{calls, check, count, draw, lookup, search, settle, show, stat};
 use isis::Refusal;
 use std::ffi::OsStr;
 
@@ -73,7 +73,7 @@ in place of the fields makes a record without any.
 ";
 
 /// Every command.
-pub const VERBS: [Verb; 15] = [
+pub const VERBS: [Verb; 16] = [
     Verb {
         name: "format",
         run: calls::format,
@@ -162,7 +162,8 @@ pub const VERBS: [Verb; 15] = [
         forms: &[("", "check the whole store and say what is wrong")],
         more: "The first cause is named, and then what is independent of it. Of a record it is told whether its\n\
                leader is broken, or which entry of its directory is the first that is, counted from 1:\n    \
-               MFN 7: directory entry 3: POS is 40, 38 was expected (record at MST byte 530)\n",
+               MFN 7: directory entry 3: POS is 40, 38 was expected (record at MST byte 530)\n\
+               Of a card on which nothing but RECCNT is wrong, that is told; see 'card help recount'.\n",
         refusals: &[1, 2, 14],
     },
     Verb {
@@ -170,7 +171,7 @@ pub const VERBS: [Verb; 15] = [
         run: stat::stat,
         on: CARD,
         forms: &[("", "count the records and draw the space")],
-        more: "",
+        more: "Where RECCNT is not the number of live records, it stands beside that; see 'card help recount'.\n",
         refusals: &[1, 2, 14],
     },
     Verb {
@@ -193,6 +194,19 @@ pub const VERBS: [Verb; 15] = [
                An old card is refused by every other command but format, with a word about this one; a card\n\
                that is no old one is refused here.\n",
         refusals: &[1, 2],
+    },
+    Verb {
+        name: "recount",
+        run: count::recount,
+        on: CARD,
+        forms: &[("", "write how many records there are")],
+        more: "RECCNT, MST bytes 16 to 19, is how many records are neither deleted nor gone, as the statistics of\n\
+               desktop programs read it. Every command keeps it; cards of earlier versions have anything there,\n\
+               and 'card check' says so. A recount writes it, tells the number before and after, and changes\n\
+               nothing else. It is refused (14) where something else keeps the card from being sound. Until then\n\
+               all other commands work, but that 'card create' and 'card revert' are refused (2) at 2147483647,\n\
+               and 'card delete' at 0 or below.\n",
+        refusals: &[1, 2, 14],
     },
     Verb {
         name: "lookup",

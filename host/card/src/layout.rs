@@ -18,6 +18,8 @@ pub const FIRST: usize = 64;
 pub const LAST: usize = 498;
 /// What NXTMFP holds of an end at offset 0.
 pub const COUNT_FROM: usize = 1;
+/// The MST byte of RECCNT, how many records are neither deleted nor gone.
+pub const RECCNT: usize = 16;
 /// Bytes of a leader, the shortest record.
 pub const LEADER: usize = 18;
 /// Bytes of a field's part of the directory.

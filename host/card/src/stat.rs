@@ -2,6 +2,7 @@
 
 use crate::arguments::Arguments;
 use crate::check::opened;
+use crate::count;
 use crate::files::Files;
 use crate::layout::{Store, slots};
 use crate::progress::with_progress;
@@ -39,7 +40,7 @@ fn records(counts: Counts, store: &Store) -> String {
         store.next - 1,
         slots(store.xrf)
     );
-    text += &format!("  live    {}\n", counts.live);
+    text += &format!("  live    {}{}\n", counts.live, reccnt(counts, store));
     text += &format!("  deleted {}\n", counts.deleted);
     text += &format!("  gone    {}\n", counts.gone);
     text += &format!(
@@ -50,6 +51,14 @@ fn records(counts: Counts, store: &Store) -> String {
         text += &format!("  malformed {}\n", counts.malformed);
     }
     text
+}
+
+/// RECCNT, where it is not the number of live records.
+fn reccnt(counts: Counts, store: &Store) -> String {
+    match count::of(store) {
+        found if i64::from(found) == counts.live as i64 => String::new(),
+        found => format!(", and RECCNT is {found}"),
+    }
 }
 
 /// The space in words and as a bar.

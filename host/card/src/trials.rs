@@ -65,7 +65,7 @@ fn damage(dice: &mut Dice, mst: &mut [u8], xrf: &mut [u8]) {
         } else {
             &mut *mst
         };
-        let near = [16, 128, bytes.len()][dice.below(3)];
+        let near = [20, 128, bytes.len()][dice.below(3)];
         let at = dice.below(near.min(bytes.len()));
         bytes[at] = match dice.below(3) {
             0 => dice.below(256) as u8,

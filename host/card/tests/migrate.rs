@@ -17,7 +17,7 @@ fn old(name: &str) -> (Folder, Vec<u8>) {
 }
 
 /// Every other command on a card, but format.
-const OTHERS: [&str; 10] = [
+const OTHERS: [&str; 11] = [
     "show a.mst a.xrf",
     "show a.mst a.xrf 1",
     "create a.mst a.xrf 24=Wind",
@@ -28,6 +28,7 @@ const OTHERS: [&str; 10] = [
     "check a.mst a.xrf",
     "stat a.mst a.xrf",
     "draw a.mst a.xrf",
+    "recount a.mst a.xrf",
 ];
 
 #[test]

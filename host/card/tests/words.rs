@@ -10,7 +10,7 @@ use std::process::Command;
 use std::thread::JoinHandle;
 
 /// Every command, and what it works on.
-const VERBS: [(&str, &str); 15] = [
+const VERBS: [(&str, &str); 16] = [
     ("format", "MST XRF"),
     ("show", "MST XRF"),
     ("create", "MST XRF"),
@@ -19,6 +19,7 @@ const VERBS: [(&str, &str); 15] = [
     ("settle", "MST XRF"),
     ("revert", "MST XRF"),
     ("migrate", "MST XRF"),
+    ("recount", "MST XRF"),
     ("check", "MST XRF"),
     ("stat", "MST XRF"),
     ("draw", "MST XRF"),

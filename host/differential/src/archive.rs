@@ -88,6 +88,7 @@ impl Subject for Archive {
                 Call::Check => plain(raw::isis_check(b.0, b.1, b.2, b.3)),
                 Call::Migrate => plain(raw::isis_migrate(b.0, b.1, b.2, b.3)),
                 Call::SettleList { mfns, room } => self.settle_list(b, mfns, *room, side),
+                Call::Recount => plain(raw::isis_recount(b.0, b.1, b.2, b.3)),
                 Call::Create(draft) => self.create(b, draft, side),
                 Call::Update(mfn, draft) => self.update(b, *mfn, draft, side),
                 Call::View { .. } | Call::ViewSettled { .. } => self.view(b, call, side),

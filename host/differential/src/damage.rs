@@ -1,12 +1,17 @@
 //! Damaged cards: made by a list from format, then changed in one number at a time, with
-//! the numbers that are most likely to be believed: entries, leaders, directories.
+//! the numbers that are most likely to be believed: entries, leaders, directories; and RECCNT,
+//! which is planted where something changes, or made right for the entries as they are.
 
 use crate::families::{Family, any_call, rubbish};
 use crate::trial::{Run, Step};
 use model::call::Call;
-use model::layout::{BLOCK, Control, Entry, PER_BLOCK, Place, lengths_permitted, slot_at};
+use model::layout::{BLOCK, Control, Entry, PER_BLOCK, Place, RECCNT, lengths_permitted, slot_at};
 use model::lists::Taste;
 use model::random::Random;
+use model::sound;
+
+/// The numbers at which RECCNT makes a difference, and those beside them.
+pub const PLANTED: [i32; 6] = [-1, 0, 1, i32::MAX - 1, i32::MAX, i32::MIN];
 
 /// Cards made by a list from format and then damaged again and again; most damage is
 /// repaired after some calls, so that the next one is met on a card that is else sound.
@@ -54,8 +59,9 @@ impl Family for Damaged {
 /// A poke, and the poke that takes it back.
 fn damage(random: &mut Random, run: &Run) -> (Step, Option<Step>) {
     let (mst, xrf) = run.card();
-    let (in_xrf, at, bytes) = match random.below(13) {
+    let (in_xrf, at, bytes) = match random.below(16) {
         0 => control_damage(random, mst),
+        13..=15 => planted(random, run),
         1 => first_integer_damage(random, xrf),
         2..=5 => entry_damage(random, run),
         6..=9 => leader_damage(random, run),
@@ -78,7 +84,7 @@ fn damage(random: &mut Random, run: &Run) -> (Step, Option<Step>) {
 }
 
 /// A place in a file and the bytes to put there.
-type Poke = (bool, usize, Vec<u8>);
+pub type Poke = (bool, usize, Vec<u8>);
 
 /// A 2-byte number near an old one, or at some edge.
 pub fn near(random: &mut Random, old: u16) -> u16 {
@@ -124,6 +130,26 @@ fn control_damage(random: &mut Random, mst: &[u8]) -> Poke {
             (false, at, value.to_le_bytes().to_vec())
         }
     }
+}
+
+/// RECCNT at one of its edges, off by a little, or right for the entries as they are now, so
+/// that a card with an entry that somebody has made gone may be sound.
+pub fn planted(random: &mut Random, run: &Run) -> Poke {
+    let (mst, xrf) = run.card();
+    let value = match random.below(4) {
+        0..=1 => random.pick(&PLANTED),
+        2 => near_long(random, long_at(mst, RECCNT)),
+        _ => live(mst, xrf),
+    };
+    (false, RECCNT, value.to_le_bytes().to_vec())
+}
+
+/// The number that RECCNT should hold; 0 if the control record is not right.
+pub fn live(mst: &[u8], xrf: &[u8]) -> i32 {
+    if !lengths_permitted(mst.len(), xrf.len()) {
+        return 0;
+    }
+    Control::read(mst, xrf.len()).map_or(0, |control| sound::live(xrf, control) as i32)
 }
 
 /// No damage: the card as the old rule has it, NXTMFP one less.

@@ -1,8 +1,9 @@
 //! Families of random trials, and the driver that runs one until enough calls were
-//! made. Here are lists from format and hostile arguments; [`damage`](crate::damage)
-//! and [`random_cards`](crate::random_cards) have the others.
+//! made. Here are lists from format, hostile arguments, and cards with any RECCNT;
+//! [`damage`](crate::damage) and [`random_cards`](crate::random_cards) have the others.
 
 use crate::archive::{Archive, Subject};
+use crate::damage::planted;
 use crate::guarded::{Side, report_hits};
 use crate::shrink::{report, shrink};
 use crate::tally::Tally;
@@ -187,8 +188,8 @@ impl Family for FromFormat {
             (3, 2, Taste::SHORT, 150),
             (6, 1, Taste::SHORT, 250),
             (12, 1, Taste::SHORT, 400),
-            (9, 1, TINY, 1_050),
-            (24, 2, TINY, 1_850),
+            (9, 1, TINY, 1_150),
+            (24, 2, TINY, 2_000),
             (20, 1, Taste::LONG, 150),
             (100, 3, Taste::LONG, 200),
         ]);
@@ -244,6 +245,45 @@ impl Family for Hostile {
             8 => lists::telling(random, Taste::SHORT, mfn as usize),
             9 => view_around(random, run),
             _ => lists::call(random, Taste::SHORT, run.next_mfn()),
+        }))
+    }
+}
+
+/// Cards that are sound apart from RECCNT, which somebody plants again and again: from format
+/// on the calls that keep it, read it or write it come most often.
+#[derive(Debug, Default)]
+pub struct Planted {
+    building: usize,
+}
+
+impl Family for Planted {
+    fn card(&mut self, random: &mut Random) -> (Vec<u8>, Vec<u8>) {
+        self.building = random.between(2, 40);
+        let (mst, xrf) = random.pick(&[(1, 1), (1, 1), (2, 1), (12, 2)]);
+        rubbish(random, mst, xrf)
+    }
+
+    fn next(&mut self, random: &mut Random, run: &Run, done: usize) -> Option<Step> {
+        if done == 0 {
+            return Some(Step::Call(Call::Format));
+        }
+        if done == self.building + 60 {
+            return None;
+        }
+        if done > self.building && random.one_in(3) {
+            let (xrf, at, bytes) = planted(random, run);
+            return Some(Step::Poke { xrf, at, bytes });
+        }
+        let (mfn, taste) = (lists::mfn(random, run.next_mfn()), Taste::SHORT);
+        Some(Step::Call(match random.below(16) {
+            0..=2 => Call::Create(lists::draft(random, taste)),
+            3..=5 => Call::Delete(mfn),
+            6..=8 => Call::Revert(mfn),
+            9 => Call::Check,
+            10..=11 => Call::Recount,
+            12..=13 => Call::Settle(mfn),
+            14 => Call::Update(mfn, lists::draft(random, taste)),
+            _ => any_call(random, taste, run),
         }))
     }
 }

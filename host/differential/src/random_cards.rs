@@ -1,10 +1,10 @@
 //! Random cards: any bytes, any length, and often just enough order in them that a call
 //! goes on to the record.
 
-use crate::damage::near;
+use crate::damage::{PLANTED, live, near};
 use crate::families::Family;
 use crate::trial::{Run, Step};
-use model::layout::{BLOCK, Control, PER_BLOCK, lengths_permitted, slot_at};
+use model::layout::{BLOCK, Control, PER_BLOCK, lengths_permitted, put_reccnt, slot_at};
 use model::lists::{self, Taste};
 use model::random::Random;
 
@@ -43,7 +43,8 @@ impl Family for RandomCards {
 }
 
 /// Gives random bytes a right control record, right block numbers and entries that
-/// name places, over leaders of which most numbers are nearly right.
+/// name places, over leaders of which most numbers are nearly right. RECCNT is right for them,
+/// at an edge, or any number.
 fn plausible(random: &mut Random, mst: &mut [u8], xrf: &mut [u8]) {
     mst[..16].fill(0);
     let next = random.between(1, 9);
@@ -74,6 +75,11 @@ fn plausible(random: &mut Random, mst: &mut [u8], xrf: &mut [u8]) {
     }
     for mfn in next..=xrf.len() / BLOCK * PER_BLOCK {
         xrf[slot_at(mfn)..][..4].fill(0);
+    }
+    match random.below(4) {
+        0 => put_reccnt(mst, random.pick(&PLANTED)),
+        1..=2 => put_reccnt(mst, live(mst, xrf)),
+        _ => {}
     }
 }
 

@@ -5,7 +5,8 @@ use crate::archive::{Given, Subject};
 use crate::guarded::{Area, Side, at_work};
 use crate::tally::Tally;
 use model::call::{Call, on_bytes, on_ledger};
-use model::layout::Control;
+use model::history::History;
+use model::layout::{Control, reccnt};
 use model::{Ledger, Outcome};
 use std::fmt;
 
@@ -72,7 +73,8 @@ pub struct Difference {
     pub what: String,
 }
 
-/// A trial as it runs: the subject's buffers, the model's, and the ledger.
+/// A trial as it runs: the subject's buffers, the model's, and from a format on the ledger and
+/// the history.
 pub struct Run<'s> {
     subject: &'s mut dyn Subject,
     seed: u64,
@@ -80,7 +82,7 @@ pub struct Run<'s> {
     areas: (Area, Area),
     mst: Vec<u8>,
     xrf: Vec<u8>,
-    ledger: Option<Ledger>,
+    ledger: Option<(Ledger, History)>,
     step: usize,
 }
 
@@ -201,13 +203,14 @@ impl<'s> Run<'s> {
         Ok(())
     }
 
-    /// From a format on, the ledger gives the same, and its end and next MFN are the
-    /// control record's.
+    /// From a format on, the ledger gives the same, its end and next MFN are the control
+    /// record's, and RECCNT is what the history counts.
     fn same_ledger(&mut self, call: &Call, outcome: &Outcome) -> Result<(), String> {
         if *call == Call::Format {
-            self.ledger = Ledger::new(self.mst.len(), self.xrf.len());
+            let ledger = Ledger::new(self.mst.len(), self.xrf.len());
+            self.ledger = ledger.map(|ledger| (ledger, History::default()));
         }
-        let Some(ledger) = &mut self.ledger else {
+        let Some((ledger, history)) = &mut self.ledger else {
             return Ok(());
         };
         let wanted = on_ledger(ledger, call);
@@ -218,6 +221,11 @@ impl<'s> Run<'s> {
         let kept = control.map(|control| (control.next_mfn, control.end));
         if kept != Ok((ledger.next_mfn(), ledger.end())) {
             return Err(format!("control record {kept:?} is not the ledger's"));
+        }
+        history.add(call, outcome);
+        let (count, counted) = (i64::from(reccnt(&self.mst)), history.count());
+        if count != counted {
+            return Err(format!("RECCNT is {count}, the history counts {counted}"));
         }
         Ok(())
     }

@@ -63,6 +63,7 @@ fn make(card: &mut Card, call: &Call) -> Answer<()> {
         Call::Settle(mfn) => card.settle(*mfn),
         Call::Revert(mfn) => card.revert(*mfn),
         Call::Migrate => card.migrate(),
+        Call::Recount => card.recount(),
         Call::SettleList { mfns, room } => card.settle_list(mfns, &mut vec![0; *room]),
         _ => Ok(()),
     }

@@ -86,7 +86,7 @@ impl Desktop {
     fn calls(&self) -> Vec<Call> {
         let draft = OwnedDraft::of(&[(24, b"Kite")]);
         let mut calls = vec![Call::Check, Call::Next, Call::Create(draft.clone())];
-        calls.push(Call::Migrate);
+        calls.extend([Call::Migrate, Call::Recount]);
         for mfn in 1..=self.records + 1 {
             calls.extend((0..4).map(|index| Call::Field { mfn, index }));
             calls.extend((0..4).map(|index| Call::FieldSettled { mfn, index }));

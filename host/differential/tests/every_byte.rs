@@ -1,6 +1,6 @@
 //! Every byte of a small card set to several values, one at a time, and then every
 //! call made on every MFN: the archive and the model must agree on each. The card has
-//! a record of every kind: settled, new, changed, deleted under each mark, gone.
+//! a record of every kind: settled, new, changed, deleted under each mark, gone; and is sound.
 
 use differential::archive::Archive;
 use differential::families::said;
@@ -32,6 +32,9 @@ fn card() -> (Vec<u8>, Vec<u8>) {
         assert_eq!(outcome.number, 0, "{call:?}");
     }
     xrf[28..32].copy_from_slice(&(-2048i32).to_le_bytes());
+    mst[16] -= 1;
+    let (outcome, _) = on_bytes(&mut mst, &mut xrf, &Call::Check);
+    assert_eq!((outcome.number, mst[16]), (0, 3));
     (mst, xrf)
 }
 
@@ -40,6 +43,7 @@ fn calls() -> Vec<Call> {
     let mut calls = vec![
         Call::Check,
         Call::Migrate,
+        Call::Recount,
         Call::settle_list([8, 2, 1, 3, 2, 4, 7, 5, 6]),
         Call::Next,
         Call::Create(draft("c")),

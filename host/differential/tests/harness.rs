@@ -4,9 +4,11 @@
 
 use differential::archive::{Given, Subject};
 use differential::damage::Damaged;
-use differential::families::{Family, FromFormat, Hostile, drive_subject};
+use differential::families::{Family, FromFormat, Hostile, Planted, drive_subject};
 use differential::guarded::{Area, Side, at_work, report_hits};
 use model::call::{Call, on_bytes};
+use model::layout::{Control, put_reccnt, reccnt};
+use model::sound;
 use std::process::Command;
 
 /// A wrong library: it sees a card, a call and what the model gave before and after,
@@ -208,9 +210,10 @@ fn a_tag_left_standing_by_a_refusal() {
     });
 }
 
+/// The damage stands where the record is, so the records before it stay in the list.
 #[test]
 fn a_field_of_a_damaged_record() {
-    found(&mut Damaged::default(), 8, |_, seen| {
+    found(&mut Damaged::default(), 16, |_, seen| {
         if matches!(seen.call, Call::Field { .. }) && seen.given.number == 8 {
             seen.given.number = 12;
         }
@@ -582,6 +585,416 @@ fn a_migration_that_is_made_twice() {
         if *seen.call == Call::Migrate {
             add_at(seen.mst, 12, 1);
             seen.given.number = 0;
+        }
+    });
+}
+
+/// Puts RECCNT back to what it was before the call.
+fn forget(seen: &mut Seen) {
+    put_reccnt(seen.mst, reccnt(&seen.before.0));
+}
+
+/// RECCNT changed by a little.
+fn count_on(seen: &mut Seen, more: i32) {
+    let count = reccnt(seen.mst);
+    put_reccnt(seen.mst, count.wrapping_add(more));
+}
+
+/// The same call as if RECCNT were another number, which is put back where it is refused.
+fn as_if(seen: &mut Seen, count: i32) {
+    seen.put_back();
+    put_reccnt(seen.mst, count);
+    let (outcome, shown) = on_bytes(seen.mst, seen.xrf, seen.call);
+    seen.given = Given::wanted(&outcome, shown);
+    if seen.given.number != 0 {
+        seen.put_back();
+    }
+}
+
+#[test]
+fn a_create_that_forgets_to_count() {
+    found(&mut FromFormat::new(), 2, |_, seen| {
+        if matches!(seen.call, Call::Create(_)) {
+            forget(seen);
+        }
+    });
+}
+
+#[test]
+fn a_delete_that_forgets_to_count() {
+    found(&mut FromFormat::new(), 3, |_, seen| {
+        if matches!(seen.call, Call::Delete(_)) {
+            forget(seen);
+        }
+    });
+}
+
+/// Only the copy of a settled record is counted, not a deletion in place.
+#[test]
+fn a_delete_in_place_that_forgets_to_count() {
+    found(&mut FromFormat::new(), 3, |_, seen| {
+        if matches!(seen.call, Call::Delete(_)) && seen.before.0[8..14] == seen.mst[8..14] {
+            forget(seen);
+        }
+    });
+}
+
+#[test]
+fn a_revert_of_a_deletion_that_forgets_to_count() {
+    found(&mut FromFormat::new(), 5, |_, seen| {
+        if matches!(seen.call, Call::Revert(_)) {
+            forget(seen);
+        }
+    });
+}
+
+#[test]
+fn a_revert_of_a_live_record_that_adds_one() {
+    found(&mut FromFormat::new(), 5, |_, seen| {
+        let same = reccnt(seen.mst) == reccnt(&seen.before.0);
+        if matches!(seen.call, Call::Revert(_)) && seen.given.number == 0 && same {
+            count_on(seen, 1);
+        }
+    });
+}
+
+#[test]
+fn a_delete_refused_for_room_that_takes_one() {
+    found(&mut FromFormat::new(), 40, |_, seen| {
+        if matches!(seen.call, Call::Delete(_)) && seen.given.number == 13 {
+            count_on(seen, -1);
+        }
+    });
+}
+
+#[test]
+fn a_refused_create_that_adds_one() {
+    found(&mut FromFormat::new(), 2, |_, seen| {
+        if matches!(seen.call, Call::Create(_)) && seen.given.number != 0 {
+            count_on(seen, 1);
+        }
+    });
+}
+
+#[test]
+fn a_settled_deletion_that_takes_one_more() {
+    found(&mut FromFormat::new(), 4, |_, seen| {
+        if let Call::Settle(mfn) = *seen.call
+            && seen.given.number == 0
+            && model::ask::state(seen.mst, seen.xrf, mfn).is_ok_and(|(_, deleted)| deleted == 1)
+        {
+            count_on(seen, -1);
+        }
+    });
+}
+
+#[test]
+fn an_update_that_counts() {
+    found(&mut FromFormat::new(), 4, |_, seen| {
+        let appended = seen.before.0[8..14] != seen.mst[8..14];
+        if matches!(seen.call, Call::Update(..)) && appended {
+            count_on(seen, 1);
+        }
+    });
+}
+
+#[test]
+fn a_format_that_keeps_reccnt() {
+    found(&mut FromFormat::new(), 1, |_, seen| {
+        if *seen.call == Call::Format {
+            forget(seen);
+        }
+    });
+}
+
+/// Sound apart from RECCNT.
+fn apart(seen: &Seen) -> bool {
+    sound::is_sound_apart(seen.mst, seen.xrf)
+}
+
+#[test]
+fn a_check_that_does_not_ask_for_reccnt() {
+    found(&mut Planted::default(), 3, |_, seen| {
+        if *seen.call == Call::Check && seen.given.number == 14 && apart(seen) {
+            seen.given.number = 0;
+        }
+    });
+}
+
+#[test]
+fn a_check_that_asks_only_for_enough() {
+    found(&mut Planted::default(), 3, |_, seen| {
+        if *seen.call == Call::Check && seen.given.number == 14 && apart(seen) {
+            let control = Control::read(seen.mst, seen.xrf.len()).unwrap();
+            let live = sound::live(seen.xrf, control) as i32;
+            seen.given.number = if reccnt(seen.mst) >= live { 0 } else { 14 };
+        }
+    });
+}
+
+#[test]
+fn a_check_that_compares_two_bytes_of_reccnt() {
+    found(&mut Planted::default(), 3, |_, seen| {
+        if *seen.call == Call::Check && seen.given.number == 14 && apart(seen) {
+            let mut low = seen.mst.to_vec();
+            low[18..20].fill(0);
+            seen.given.number = on_bytes(&mut low, seen.xrf, seen.call).0.number;
+        }
+    });
+}
+
+/// What a recount writes if some entries count besides.
+fn recounted_with(seen: &mut Seen, counts: fn(i32) -> bool) {
+    if *seen.call == Call::Recount && seen.given.number == 0 {
+        let next = Control::read(seen.mst, seen.xrf.len()).unwrap().next_mfn;
+        let entry = |mfn: &usize| {
+            let at = model::layout::slot_at(*mfn);
+            i32::from_le_bytes(seen.xrf[at..at + 4].try_into().unwrap())
+        };
+        let more = (1..next).filter(|mfn| counts(entry(mfn))).count();
+        count_on(seen, more as i32);
+    }
+}
+
+#[test]
+fn a_recount_that_counts_deleted_records() {
+    found(&mut FromFormat::new(), 4, |_, seen| {
+        recounted_with(seen, |entry| entry < 0 && entry != -2048);
+    });
+}
+
+#[test]
+fn a_recount_that_counts_gone_records() {
+    found(&mut Damaged::default(), 6, |_, seen| {
+        recounted_with(seen, |entry| entry == -2048);
+    });
+}
+
+#[test]
+fn a_recount_that_counts_settled_deletions_only_as_deleted() {
+    found(&mut FromFormat::new(), 4, |_, seen| {
+        recounted_with(seen, |entry| entry < 0 && entry.rem_euclid(2048) >= 512);
+    });
+}
+
+#[test]
+fn a_recount_that_only_answers() {
+    found(&mut Planted::default(), 3, |_, seen| {
+        if *seen.call == Call::Recount {
+            seen.put_back();
+        }
+    });
+}
+
+#[test]
+fn a_recount_that_is_refused_for_a_number_below_0() {
+    found(&mut Planted::default(), 3, |_, seen| {
+        if *seen.call == Call::Recount && reccnt(&seen.before.0) < 0 {
+            seen.put_back();
+            seen.given.number = 2;
+        }
+    });
+}
+
+#[test]
+fn a_recount_that_is_refused_at_the_greatest_number() {
+    found(&mut Planted::default(), 3, |_, seen| {
+        if *seen.call == Call::Recount && reccnt(&seen.before.0) == i32::MAX {
+            seen.put_back();
+            seen.given.number = 2;
+        }
+    });
+}
+
+#[test]
+fn a_recount_that_is_refused_where_the_check_is() {
+    found(&mut Planted::default(), 3, |_, seen| {
+        if *seen.call == Call::Recount && seen.before.0 != seen.mst {
+            seen.put_back();
+            seen.given.number = 14;
+        }
+    });
+}
+
+#[test]
+fn a_recount_of_a_store_that_is_not_sound() {
+    found(&mut Damaged::default(), 8, |_, seen| {
+        if *seen.call == Call::Recount && seen.given.number == 14 {
+            let control = Control::read(seen.mst, seen.xrf.len()).unwrap();
+            put_reccnt(seen.mst, sound::live(seen.xrf, control) as i32);
+            seen.given.number = 0;
+        }
+    });
+}
+
+#[test]
+fn a_recount_that_writes_eight_bytes() {
+    found(&mut FromFormat::new(), 2, |_, seen| {
+        if *seen.call == Call::Recount {
+            seen.mst[20] = 1;
+        }
+    });
+}
+
+#[test]
+fn a_recount_of_an_old_card() {
+    found(&mut Damaged::default(), 4, |_, seen| {
+        if *seen.call == Call::Recount
+            && seen.given.number == 2
+            && Control::read_old(seen.mst, seen.xrf.len()).is_ok()
+        {
+            seen.given.number = 0;
+        }
+    });
+}
+
+#[test]
+fn a_migration_that_is_refused_for_reccnt() {
+    found(&mut Damaged::default(), 6, |_, seen| {
+        if *seen.call == Call::Migrate && seen.given.number == 0 && reccnt(seen.mst) < 0 {
+            seen.put_back();
+            seen.given.number = 2;
+        }
+    });
+}
+
+#[test]
+fn a_migration_that_recounts() {
+    found(&mut Damaged::default(), 6, |_, seen| {
+        if *seen.call == Call::Migrate && seen.given.number == 0 {
+            on_bytes(seen.mst, seen.xrf, &Call::Recount);
+        }
+    });
+}
+
+/// Not a number of the table: the lowest one that applies is 4 to 9.
+#[test]
+fn a_delete_whose_2_comes_before_4_to_9() {
+    found(&mut Planted::default(), 3, |_, seen| {
+        if matches!(seen.call, Call::Delete(_))
+            && (4..=9).contains(&seen.given.number)
+            && reccnt(seen.mst) <= 0
+        {
+            seen.given.number = 2;
+        }
+    });
+}
+
+#[test]
+fn a_delete_whose_2_comes_behind_13() {
+    found(&mut Planted::default(), 40, |_, seen| {
+        let count = reccnt(&seen.before.0);
+        if matches!(seen.call, Call::Delete(_)) && seen.given.number == 2 && count <= 0 {
+            as_if(seen, 1);
+            seen.put_back();
+            if seen.given.number != 13 {
+                seen.given.number = 2;
+            }
+        }
+    });
+}
+
+#[test]
+fn a_delete_that_goes_below_0() {
+    found(&mut Planted::default(), 4, |_, seen| {
+        let count = reccnt(&seen.before.0);
+        if matches!(seen.call, Call::Delete(_)) && seen.given.number == 2 && count == 0 {
+            as_if(seen, 1);
+            count_on(seen, if seen.given.number == 0 { -1 } else { 0 });
+        }
+    });
+}
+
+/// RECCNT taken for a number without a sign.
+#[test]
+fn a_delete_that_takes_one_from_a_number_below_0() {
+    found(&mut Planted::default(), 4, |_, seen| {
+        let count = reccnt(&seen.before.0);
+        if matches!(seen.call, Call::Delete(_)) && seen.given.number == 2 && count < 0 {
+            as_if(seen, 1);
+            if seen.given.number == 0 {
+                put_reccnt(seen.mst, count.wrapping_sub(1));
+            }
+        }
+    });
+}
+
+#[test]
+fn a_create_that_wraps() {
+    found(&mut Planted::default(), 4, |_, seen| {
+        let full = reccnt(&seen.before.0) == i32::MAX;
+        if matches!(seen.call, Call::Create(_)) && full {
+            as_if(seen, i32::MAX - 1);
+            count_on(seen, i32::from(seen.given.number == 0));
+        }
+    });
+}
+
+#[test]
+fn a_create_whose_2_comes_behind_3() {
+    found(&mut Planted::default(), 4, |_, seen| {
+        let full = reccnt(&seen.before.0) == i32::MAX;
+        if let Call::Create(draft) = seen.call
+            && seen.given.number == 2
+            && full
+            && draft.lent().need_if_right().is_none()
+        {
+            seen.given.number = 3;
+        }
+    });
+}
+
+#[test]
+fn a_create_that_is_refused_one_too_early() {
+    found(&mut Planted::default(), 3, |_, seen| {
+        if matches!(seen.call, Call::Create(_)) && reccnt(&seen.before.0) == i32::MAX - 1 {
+            seen.put_back();
+            (seen.given.number, seen.given.mfn) = (2, 0);
+        }
+    });
+}
+
+#[test]
+fn a_revert_whose_2_comes_behind_4_to_11() {
+    found(&mut Planted::default(), 3, |_, seen| {
+        let full = reccnt(&seen.before.0) == i32::MAX;
+        if matches!(seen.call, Call::Revert(_)) && seen.given.number == 2 && full {
+            as_if(seen, 1);
+            seen.put_back();
+            if seen.given.number == 0 {
+                seen.given.number = 2;
+            }
+        }
+    });
+}
+
+/// A revert of a live record leaves RECCNT as it is, and is 2 all the same.
+#[test]
+fn a_revert_that_is_2_only_where_it_would_count() {
+    found(&mut Planted::default(), 6, |_, seen| {
+        let full = reccnt(&seen.before.0) == i32::MAX;
+        if matches!(seen.call, Call::Revert(_)) && seen.given.number == 2 && full {
+            as_if(seen, 1);
+            if seen.given.number == 0 && reccnt(seen.mst) == 1 {
+                put_reccnt(seen.mst, i32::MAX);
+            } else {
+                seen.put_back();
+                seen.given.number = 2;
+            }
+        }
+    });
+}
+
+#[test]
+fn a_count_in_one_byte() {
+    found(&mut Planted::default(), 4, |_, seen| {
+        let (before, after) = (reccnt(&seen.before.0), reccnt(seen.mst));
+        let counts = matches!(
+            seen.call,
+            Call::Create(_) | Call::Delete(_) | Call::Revert(_)
+        );
+        if counts && before & !0xFF != after & !0xFF {
+            put_reccnt(seen.mst, before & !0xFF | after & 0xFF);
         }
     });
 }

@@ -29,8 +29,15 @@ fn the_largest_xrf_is_filled_up() {
     assert_eq!(store::settle(&mut model_mst, &mut model_xrf, MFNS), Ok(()));
     assert_eq!(card.settle(MFNS + 1), Err(Refusal::NoMfn));
     assert_eq!(card.check(), Ok(()));
+    assert_eq!(card.mst()[16..20], MFNS.to_le_bytes());
+    assert_eq!(card.recount(), Ok(()));
     assert!(card.mst() == model_mst, "the MSTs differ");
     assert!(card.xrf() == model_xrf, "the XRFs differ");
+    mst[16..20].fill(0xFF);
+    let mut card = Card::over(&mut mst, &mut xrf);
+    assert_eq!(card.check(), Err(Refusal::NotSound));
+    assert_eq!(card.recount(), Ok(()));
+    assert!(card.mst() == model_mst, "the MSTs differ once recounted");
 }
 
 #[test]
@@ -50,6 +57,7 @@ fn one_block_too_many_is_refused_by_every_call() {
         assert_eq!(card.settle(1), refused);
         assert_eq!(card.revert(1), refused);
         assert_eq!(card.check(), refused);
+        assert_eq!(card.recount(), refused);
         assert!(card.xrf().iter().all(|&byte| byte == 0));
         assert!(card.mst()[..512].iter().all(|&byte| byte == 0));
     }

@@ -94,8 +94,17 @@ fn lists_of_every_length_about_the_number_of_fields() {
     ));
     // Of each version, each list at its number of fields or up to two more.
     let done = 2 * SETTLED.len() * 27;
-    for call in [15, 16] {
-        assert_eq!(tally.count(call, 0), done);
-        assert!(tally.count(call, 17) > done);
+    for call in [
+        Call::Fields {
+            mfn: 1,
+            room: [0; 3],
+        },
+        Call::FieldsSettled {
+            mfn: 1,
+            room: [0; 3],
+        },
+    ] {
+        assert_eq!(tally.count(call.kind(), 0), done);
+        assert!(tally.count(call.kind(), 17) > done);
     }
 }

@@ -187,6 +187,10 @@ mod subject {
         run(mst, xrf, Call::Migrate).map(drop)
     }
 
+    pub fn recount(mst: &mut [u8], xrf: &mut [u8]) -> Answer<()> {
+        run(mst, xrf, Call::Recount).map(drop)
+    }
+
     pub fn check(mst: &[u8], xrf: &[u8]) -> Answer<()> {
         read(mst, xrf, Call::Check).map(drop)
     }

@@ -3,15 +3,16 @@
 //! must come often enough, from a seed in ISIS_SEED only the comparing counts.
 
 use differential::damage::Damaged;
-use differential::families::{Family, FromFormat, Hostile, calls, drive};
+use differential::families::{Family, FromFormat, Hostile, Planted, calls, drive};
 use differential::random_cards::RandomCards;
 use differential::tally::{ANSWERS, Tally};
-use model::Call;
+use model::{Call, OwnedDraft};
 
 const FROM_FORMAT: usize = 600_000;
 const DAMAGED: usize = 500_000;
 const RANDOM: usize = 150_000;
 const HOSTILE: usize = 40_000;
+const PLANTED: usize = 150_000;
 const _: () = assert!(FROM_FORMAT + DAMAGED + RANDOM + HOSTILE >= 1_000_000);
 
 fn run(name: &str, family: &mut dyn Family, wanted: usize) -> Tally {
@@ -79,8 +80,33 @@ fn random_cards() {
 #[test]
 fn hostile_arguments() {
     let tally = run("hostile arguments", &mut Hostile, HOSTILE);
-    for (call, number) in [(1, 15), (3, 3), (4, 3), (11, 12), (12, 12), (15, 17)] {
+    for (call, number) in [(1, 15), (3, 3), (4, 3), (12, 12), (13, 12), (16, 17)] {
         came(&tally, call, number, calls(100));
     }
     came(&tally, 2, 15, calls(20));
+}
+
+/// RECCNT at its edges and beside them: 2 of create, delete and revert, 14 of a check and not of
+/// a recount.
+#[test]
+fn planted_counts() {
+    let tally = run("planted counts", &mut Planted::default(), PLANTED);
+    let kind = |call: Call| call.kind();
+    for (call, numbers) in [
+        (
+            kind(Call::Create(OwnedDraft::default())),
+            &[0, 2, 3, 13][..],
+        ),
+        (kind(Call::Delete(1)), &[0, 2, 4, 9, 13]),
+        (kind(Call::Revert(1)), &[0, 2, 4, 10, 11]),
+        (kind(Call::Check), &[0, 14]),
+        (kind(Call::Recount), &[0]),
+        (kind(Call::Settle(1)), &[0, 4, 10]),
+        (kind(Call::Update(1, OwnedDraft::default())), &[0, 3, 4, 9]),
+    ] {
+        for &number in numbers {
+            came(&tally, call, number, calls(200));
+        }
+    }
+    assert_eq!(tally.count(kind(Call::Recount), 14), 0);
 }

@@ -96,13 +96,22 @@ impl<'a> Card<'a> {
         self.whole(raw::isis_migrate)
     }
 
+    /// Writes RECCNT, how many records are neither deleted nor physically deleted, on a card
+    /// that was written before isis.h 4.0 and did not keep it; no other byte changes.
+    /// [`NotSound`](Refusal::NotSound) if the card is not sound apart from RECCNT, which may
+    /// hold anything. Afterwards [`check`](Card::check) gives `Ok`; a sound card stays as it is.
+    pub fn recount(&mut self) -> Answer<()> {
+        self.whole(raw::isis_recount)
+    }
+
     fn whole(&mut self, call: Whole) -> Answer<()> {
         let (mst, xrf) = (&mut *self.mst, &mut *self.xrf);
         // SAFETY: both are exclusive borrows of their whole length.
         answer(unsafe { call(mst.as_mut_ptr(), mst.len(), xrf.as_mut_ptr(), xrf.len()) })
     }
 
-    /// Writes a new record, pending, and gives its MFN.
+    /// Writes a new record, pending, and gives its MFN; RECCNT grows by one. A RECCNT of
+    /// 2147483647 is [`BadControl`](Refusal::BadControl).
     pub fn create<F: AsRef<[u8]>>(
         &mut self,
         fields: impl IntoIterator<Item = (u16, F)>,
@@ -164,7 +173,9 @@ impl<'a> Card<'a> {
         })
     }
 
-    /// Deletes a record; the deletion is pending.
+    /// Deletes a record; the deletion is pending, and RECCNT falls by one. A RECCNT of 0 or
+    /// below is [`BadControl`](Refusal::BadControl) where the record could be deleted but for
+    /// the room.
     pub fn delete(&mut self, mfn: u32) -> Answer<()> {
         self.act(raw::isis_delete, mfn)
     }
@@ -208,7 +219,9 @@ impl<'a> Card<'a> {
         })
     }
 
-    /// Makes the settled version of a record current again.
+    /// Makes the settled version of a record current again. Where that undoes a deletion
+    /// RECCNT grows by one, and no other byte of the MST is written; otherwise none is. A
+    /// RECCNT of 2147483647 is [`BadControl`](Refusal::BadControl) either way.
     pub fn revert(&mut self, mfn: u32) -> Answer<()> {
         self.act(raw::isis_revert, mfn)
     }

@@ -188,6 +188,9 @@ unsafe extern "C" {
     /// Counts the end of a card written before isis.h 2.0 from one.
     pub fn isis_migrate(mst: *mut u8, mst_len: usize, xrf: *mut u8, xrf_len: usize) -> u32;
 
+    /// Writes RECCNT of a card that did not keep it.
+    pub fn isis_recount(mst: *mut u8, mst_len: usize, xrf: *mut u8, xrf_len: usize) -> u32;
+
     /// Checks the whole store.
     pub fn isis_check(mst: *const u8, mst_len: usize, xrf: *const u8, xrf_len: usize) -> u32;
 

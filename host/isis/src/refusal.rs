@@ -15,7 +15,8 @@ pub enum Refusal {
     /// 1: a buffer length is not permitted.
     BadLength = 1,
     /// 2: the control record is not right; of a card that is to be migrated, that it is not
-    /// right by the rule before isis.h 2.0.
+    /// right by the rule before isis.h 2.0; of a create or a revert also that RECCNT is
+    /// 2147483647, of a delete that it is 0 or below and none of 4 to 9 applies.
     BadControl = 2,
     /// 3: the draft is not right.
     BadDraft = 3,
@@ -39,7 +40,7 @@ pub enum Refusal {
     NoField = 12,
     /// 13: the record does not fit before the end of the MST.
     NoRoom = 13,
-    /// 14: the store is not sound.
+    /// 14: the store is not sound; of a recount, that it is not sound apart from RECCNT.
     NotSound = 14,
     /// 15: the tag occurs, but fewer times than asked for: so many.
     FewerFields(u32) = 15,

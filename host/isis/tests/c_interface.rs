@@ -42,6 +42,10 @@ fn the_example_compiles_without_a_warning_and_does_what_it_says() {
     assert!(printed.contains("answer 10\n"), "{printed}");
     let broken = "    entry 2 of its directory is broken\n";
     assert!(printed.contains(broken), "{printed}");
+    let counted = "check a card that was not counted  answer 14\n";
+    assert!(printed.contains(counted), "{printed}");
+    let counts = printed.matches("    RECCNT is 1\n").count();
+    assert_eq!(counts, 2, "{printed}");
     let postings = "    postings of HOSSEINI, KHALED: block 1, word 9\n";
     assert!(printed.contains(postings), "{printed}");
     assert!(printed.contains("answer 22\n"), "{printed}");

@@ -52,6 +52,9 @@ int main(void)
     IS(ISIS_BAD_LENGTH, isis_migrate(NO_CARD));
     IS(ISIS_BAD_LENGTH, isis_migrate(mst, sizeof mst, NULL, 0));
     IS(ISIS_BAD_LENGTH, isis_migrate(NULL, 0, xrf, sizeof xrf));
+    IS(ISIS_BAD_LENGTH, isis_recount(NO_CARD));
+    IS(ISIS_BAD_LENGTH, isis_recount(mst, sizeof mst, NULL, 0));
+    IS(ISIS_BAD_LENGTH, isis_recount(NULL, 0, xrf, sizeof xrf));
     IS(ISIS_BAD_LENGTH, isis_check(NO_CARD));
     IS(ISIS_BAD_RECORD, isis_record_test(NULL, 0, 1, 0, &mark));
     IS(0, mark);
@@ -78,6 +81,8 @@ int main(void)
     IS(ISIS_NO_FIELD, isis_field(CARD, mfn, 0, &tag, &start, &len));
     IS(ISIS_DONE, isis_fields(CARD, mfn, NO_LISTS, &count));
     IS(0, count);
+    IS(ISIS_DONE, isis_recount(CARD));
+    IS(1, mst[ISIS_RECCNT_AT]);
     IS(ISIS_DONE, isis_check(CARD));
     return 0;
 }

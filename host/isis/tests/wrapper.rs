@@ -54,6 +54,85 @@ fn an_old_card_is_migrated_once() {
     assert_eq!(short.migrate(), Err(Refusal::BadLength));
 }
 
+/// RECCNT, MST bytes 16 to 19.
+fn reccnt(mst: &[u8]) -> i32 {
+    i32::from_le_bytes(mst[16..20].try_into().unwrap())
+}
+
+#[test]
+fn reccnt_follows_create_delete_and_the_revert_of_a_deletion() {
+    let (mut mst, mut xrf) = (vec![0xAA; 512 * 2], vec![0xAA; 512]);
+    let mut card = Card::over(&mut mst, &mut xrf);
+    card.format().unwrap();
+    assert_eq!(reccnt(card.mst()), 0);
+    for count in 1..=3 {
+        card.create([(24, "Kite")]).unwrap();
+        assert_eq!(reccnt(card.mst()), count);
+    }
+    card.settle(1).unwrap();
+    card.update(1, [(24, "Kites")]).unwrap();
+    card.revert(1).unwrap();
+    assert_eq!(reccnt(card.mst()), 3);
+    card.delete(1).unwrap();
+    assert_eq!(reccnt(card.mst()), 2);
+    assert_eq!(card.delete(1), Err(Refusal::Deleted));
+    card.revert(1).unwrap();
+    assert_eq!(reccnt(card.mst()), 3);
+    card.delete(2).unwrap();
+    card.settle(2).unwrap();
+    assert_eq!(reccnt(card.mst()), 2);
+    assert_eq!(card.check(), Ok(()));
+}
+
+#[test]
+fn a_card_that_did_not_keep_reccnt_is_recounted() {
+    let (mut mst, mut xrf) = (vec![0; 512], vec![0; 512]);
+    let mut card = Card::over(&mut mst, &mut xrf);
+    assert_eq!(card.recount(), Err(Refusal::BadControl));
+    card.format().unwrap();
+    for title in ["Kite", "Kit"] {
+        card.create([(24, title)]).unwrap();
+    }
+    card.delete(2).unwrap();
+    assert_eq!(card.recount(), Ok(()));
+    let (sound, entries) = (mst.clone(), xrf.clone());
+    for count in [-1, 0, 2, i32::MAX - 1, i32::MAX, i32::MIN] {
+        mst[16..20].copy_from_slice(&count.to_le_bytes());
+        let mut card = Card::over(&mut mst, &mut xrf);
+        assert_eq!(card.check(), Err(Refusal::NotSound));
+        assert_eq!(card.recount(), Ok(()));
+        assert_eq!(card.check(), Ok(()));
+        assert_eq!((card.mst(), card.xrf()), (&sound[..], &entries[..]));
+    }
+    mst[64] = 9;
+    let damaged = mst.clone();
+    let mut card = Card::over(&mut mst, &mut xrf);
+    assert_eq!(card.recount(), Err(Refusal::NotSound));
+    assert_eq!(card.mst(), damaged);
+    let mut short = Card::over(&mut mst[..511], &mut xrf);
+    assert_eq!(short.recount(), Err(Refusal::BadLength));
+}
+
+#[test]
+fn the_ends_of_reccnt_bar_create_revert_and_delete() {
+    let (mut mst, mut xrf) = (vec![0; 512], vec![0; 512]);
+    let mut card = Card::over(&mut mst, &mut xrf);
+    card.format().unwrap();
+    card.create([(24, "Kite")]).unwrap();
+    mst[16..20].copy_from_slice(&i32::MAX.to_le_bytes());
+    let mut card = Card::over(&mut mst, &mut xrf);
+    assert_eq!(card.create([(0, "no tag")]), Err(Refusal::BadControl));
+    assert_eq!(card.revert(9), Err(Refusal::BadControl));
+    assert_eq!(card.settle(1), Ok(()));
+    for count in [0, -1, i32::MIN] {
+        mst[16..20].copy_from_slice(&count.to_le_bytes());
+        let mut card = Card::over(&mut mst, &mut xrf);
+        assert_eq!(card.delete(1), Err(Refusal::BadControl));
+        assert_eq!(card.delete(2), Err(Refusal::NoMfn));
+        assert_eq!(reccnt(card.mst()), count);
+    }
+}
+
 #[test]
 fn a_whole_list_is_settled() {
     let (mut mst, mut xrf) = (vec![0; 512 * 2], vec![0; 512]);

@@ -6,7 +6,8 @@
 pub enum Refusal {
     /// 1: a buffer length is not permitted.
     Length,
-    /// 2: the control record is not as it must be.
+    /// 2: the control record is not as it must be; create, revert: RECCNT is 2,147,483,647;
+    /// delete: RECCNT is 0 or below, and none of 4 to 9 applies.
     Control,
     /// 3: the draft is not right.
     Draft,
@@ -31,7 +32,7 @@ pub enum Refusal {
     NoField,
     /// 13: no room at the end.
     NoRoom,
-    /// 14: check only, the store is not sound.
+    /// 14: check and recount only, the store is not sound, for a recount apart from RECCNT.
     NotSound,
     /// 15: the tag occurs fewer times than asked, namely so often.
     Fewer(u32),

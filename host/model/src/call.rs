@@ -40,7 +40,8 @@ impl OwnedDraft {
 }
 
 /// A call: the nine of document 01, the migration of request C-12, the list of request C-13,
-/// the two that show a field by its index, and the four that tell something of the card.
+/// the recount of request C-17, the two that show a field by its index, and the four that tell
+/// something of the card.
 #[derive(Clone, Debug, PartialEq, Eq)]
 #[allow(missing_docs)]
 pub enum Call {
@@ -67,6 +68,7 @@ pub enum Call {
         mfns: Vec<u32>,
         room: usize,
     },
+    Recount,
     Field {
         mfn: u32,
         index: usize,
@@ -89,7 +91,7 @@ pub enum Call {
 
 impl Call {
     /// What the calls are called, by their kind.
-    pub const NAMES: [&str; 17] = [
+    pub const NAMES: [&str; 18] = [
         "format",
         "view",
         "settled view",
@@ -101,6 +103,7 @@ impl Call {
         "check",
         "migrate",
         "settle a list",
+        "recount",
         "field",
         "settled field",
         "next",
@@ -109,8 +112,8 @@ impl Call {
         "settled fields",
     ];
 
-    /// Which call it is: the nine in the order of document 01, the migration and the list of
-    /// MFNs, as a list numbers them, then the two by index and the four that tell.
+    /// Which call it is: the nine in the order of document 01, the migration, the list of MFNs
+    /// and the recount, as a list numbers them, then the two by index and the four that tell.
     pub fn kind(&self) -> usize {
         match self {
             Call::Format => 0,
@@ -124,12 +127,13 @@ impl Call {
             Call::Check => 8,
             Call::Migrate => 9,
             Call::SettleList { .. } => 10,
-            Call::Field { .. } => 11,
-            Call::FieldSettled { .. } => 12,
-            Call::Next => 13,
-            Call::State(_) => 14,
-            Call::Fields { .. } => 15,
-            Call::FieldsSettled { .. } => 16,
+            Call::Recount => 11,
+            Call::Field { .. } => 12,
+            Call::FieldSettled { .. } => 13,
+            Call::Next => 14,
+            Call::State(_) => 15,
+            Call::Fields { .. } => 16,
+            Call::FieldsSettled { .. } => 17,
         }
     }
 
@@ -145,6 +149,7 @@ impl Call {
                 | Call::Revert(_)
                 | Call::Migrate
                 | Call::SettleList { .. }
+                | Call::Recount
         );
         !writes
     }
@@ -152,7 +157,12 @@ impl Call {
     /// The MFNs that it names.
     pub fn mfns_mut(&mut self) -> &mut [u32] {
         match self {
-            Call::Format | Call::Create(_) | Call::Check | Call::Migrate | Call::Next => &mut [],
+            Call::Format
+            | Call::Create(_)
+            | Call::Check
+            | Call::Migrate
+            | Call::Recount
+            | Call::Next => &mut [],
             Call::SettleList { mfns, .. } => mfns,
             Call::Update(mfn, _)
             | Call::Delete(mfn)
@@ -233,6 +243,7 @@ pub fn on_bytes(mst: &mut [u8], xrf: &mut [u8], call: &Call) -> (Outcome, Shown)
         Call::Revert(mfn) => Outcome::plain(&store::revert(mst, xrf, *mfn)),
         Call::Check => Outcome::plain(&store::check(mst, xrf)),
         Call::Migrate => Outcome::plain(&store::migrate(mst, xrf)),
+        Call::Recount => Outcome::plain(&store::recount(mst, xrf)),
         Call::SettleList { mfns, room } => {
             let call = |answers: &mut [u32]| store::settle_list(mst, xrf, mfns, answers);
             return Shown::settled(*room, call);
@@ -264,6 +275,7 @@ pub fn on_ledger(ledger: &mut Ledger, call: &Call) -> Outcome {
         Call::Revert(mfn) => Outcome::plain(&ledger.revert(*mfn)),
         Call::Check => Outcome::plain(&ledger.check()),
         Call::Migrate => Outcome::plain(&ledger.migrate()),
+        Call::Recount => Outcome::plain(&ledger.recount()),
         Call::SettleList { mfns, room } => Outcome::settled(ledger.settle_list(mfns, *room)),
         Call::Field { mfn, index } => Outcome::indexed(ledger.field(*mfn, *index)),
         Call::FieldSettled { mfn, index } => Outcome::indexed(ledger.field_settled(*mfn, *index)),

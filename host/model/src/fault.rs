@@ -348,6 +348,10 @@ pub enum Fault {
         mfn: usize,
         fault: MfnFault,
     },
+    Count {
+        found: i32,
+        live: usize,
+    },
 }
 
 impl fmt::Display for Fault {
@@ -374,6 +378,10 @@ impl fmt::Display for Fault {
             ),
             Self::Step { at, fault } => write!(f, "MST byte {at}: the record met there {fault}"),
             Self::Mfn { mfn, fault } => write!(f, "MFN {mfn}, {fault}"),
+            Self::Count { found, live } => write!(
+                f,
+                "RECCNT (MST byte 16) is {found}, and {live} entries are neither deleted nor gone"
+            ),
         }
     }
 }

@@ -17,6 +17,8 @@ pub const FIRST: usize = 64;
 pub const LAST_OFFSET: usize = 498;
 /// What NXTMFP holds of an end at offset 0; the old rule had 0 there.
 pub const COUNT_FROM: u16 = 1;
+/// The MST byte at which RECCNT begins.
+pub const RECCNT: usize = 16;
 /// Bytes of a leader, and so of the shortest record.
 pub const LEADER: usize = 18;
 /// Bytes of a directory entry.
@@ -115,6 +117,16 @@ impl Control {
         put_i32(mst, 8, block);
         put_u16(mst, 12, offset + COUNT_FROM);
     }
+}
+
+/// RECCNT, as it stands.
+pub fn reccnt(mst: &[u8]) -> i32 {
+    i32_at(mst, RECCNT)
+}
+
+/// Writes RECCNT.
+pub fn put_reccnt(mst: &mut [u8], count: i32) {
+    put_i32(mst, RECCNT, count);
 }
 
 /// Whether a change is pending, and of which kind.

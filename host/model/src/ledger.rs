@@ -71,6 +71,11 @@ impl Ledger {
         self.items.len() + 1
     }
 
+    /// How many items are live.
+    pub fn live(&self) -> usize {
+        self.items.iter().filter(|item| !item.deleted).count()
+    }
+
     /// The item of an MFN that was given out.
     pub fn item(&self, mfn: usize) -> Option<&Item> {
         self.items.get(mfn.checked_sub(1)?)
@@ -263,6 +268,11 @@ impl Ledger {
 
     /// Check answers 0.
     pub fn check(&self) -> Result<(), Refusal> {
+        Ok(())
+    }
+
+    /// A recount answers 0 and changes nothing.
+    pub fn recount(&self) -> Result<(), Refusal> {
         Ok(())
     }
 

@@ -85,12 +85,12 @@ fn room(random: &mut Random, taste: Taste) -> Room {
 }
 
 /// A random call of demand 3's list for a store whose next MFN is about `next`: those of
-/// document 01, and now and then a migration or a list of MFNs.
+/// document 01, and now and then a migration, a list of MFNs or a recount.
 pub fn call(random: &mut Random, taste: Taste, next: usize) -> Call {
     if random.one_in(taste.format_in) {
         return Call::Format;
     }
-    match random.below(22) {
+    match random.below(23) {
         0..=3 => Call::Create(draft(random, taste)),
         4..=7 => Call::Update(mfn(random, next), draft(random, taste)),
         8 => Call::Delete(mfn(random, next)),
@@ -100,6 +100,7 @@ pub fn call(random: &mut Random, taste: Taste, next: usize) -> Call {
         17..=18 => Call::view_settled(mfn(random, next), tag(random), occurrence(random)),
         19 => Call::Migrate,
         20 => settle_list(random, next),
+        21 => Call::Recount,
         _ => Call::Check,
     }
 }

@@ -5,8 +5,8 @@
 use crate::bytes::{i32_at, u16_at};
 use crate::fault::{Fault, MfnFault, StepFault};
 use crate::layout::{
-    BLOCK, Control, Entry, FIRST, Mark, Place, capacity, first_integer, lengths_permitted, slot_at,
-    step_over, xrf_block,
+    BLOCK, Control, Entry, FIRST, Mark, Place, capacity, first_integer, lengths_permitted, reccnt,
+    slot_at, step_over, xrf_block,
 };
 use crate::record;
 
@@ -15,8 +15,40 @@ pub fn is_sound(mst: &[u8], xrf: &[u8]) -> bool {
     faults(mst, xrf, 1).is_empty()
 }
 
-/// What keeps a store from being sound, at most `limit` faults of it.
+/// Whether the store is sound, whatever RECCNT is.
+pub fn is_sound_apart(mst: &[u8], xrf: &[u8]) -> bool {
+    faults_apart(mst, xrf, 1).is_empty()
+}
+
+/// What keeps a store from being sound, at most `limit` faults of it. RECCNT is held against
+/// the entries where nothing else is wrong with them.
 pub fn faults(mst: &[u8], xrf: &[u8], limit: usize) -> Vec<Fault> {
+    let list = faults_apart(mst, xrf, limit);
+    if list.is_empty() && limit > 0 {
+        return count(mst, xrf).err().into_iter().collect();
+    }
+    list
+}
+
+/// RECCNT is the number of live records, on a store that is sound apart from it.
+fn count(mst: &[u8], xrf: &[u8]) -> Result<(), Fault> {
+    let control = Control::read(mst, xrf.len()).map_err(Fault::Control)?;
+    let (found, live) = (reccnt(mst), live(xrf, control));
+    if i64::from(found) == live as i64 {
+        return Ok(());
+    }
+    Err(Fault::Count { found, live })
+}
+
+/// How many records have an entry that is neither deleted nor gone.
+pub fn live(xrf: &[u8], control: Control) -> usize {
+    let entry = |mfn| Entry::decode(i32_at(xrf, slot_at(mfn)), control.end);
+    let live = |mfn: &usize| matches!(entry(*mfn), Ok(Entry::Place(place)) if !place.deleted);
+    (1..control.next_mfn).filter(live).count()
+}
+
+/// What keeps a store from being sound apart from RECCNT.
+fn faults_apart(mst: &[u8], xrf: &[u8], limit: usize) -> Vec<Fault> {
     let mut found = Faults {
         list: Vec::new(),
         limit,

@@ -6,7 +6,7 @@ use crate::bytes::{i32_at, put_i32, put_u16, u16_at};
 use crate::draft::{Draft, need};
 use crate::layout::{
     BLOCK, Control, Entry, FIRST, Mark, Place, capacity, first_integer, first_integer_right,
-    lengths_permitted, slot_at, step_over, xrf_block,
+    lengths_permitted, put_reccnt, reccnt, slot_at, step_over, xrf_block,
 };
 use crate::record::{self, Record, back_to, write_draft};
 use crate::sound;
@@ -21,6 +21,15 @@ pub fn gate(mst: &[u8], xrf: &[u8]) -> Answer<Control> {
         return Err(Refusal::Length);
     }
     Control::read(mst, xrf.len()).map_err(|_| Refusal::Control)
+}
+
+/// Answers 1 and 2 for create and revert: a RECCNT that cannot grow is 2 as well.
+fn gate_to_one_more(mst: &[u8], xrf: &[u8]) -> Answer<Control> {
+    let control = gate(mst, xrf)?;
+    if reccnt(mst) == i32::MAX {
+        return Err(Refusal::Control);
+    }
+    Ok(control)
 }
 
 /// A record that answers 4 to 8 have let through.
@@ -142,7 +151,7 @@ pub fn field_settled(mst: &[u8], xrf: &[u8], mfn: u32, index: usize) -> Answer<I
 
 /// Writes a new record at the end and returns its MFN.
 pub fn create(mst: &mut [u8], xrf: &mut [u8], draft: &Draft) -> Answer<u32> {
-    let control = gate(mst, xrf)?;
+    let control = gate_to_one_more(mst, xrf)?;
     let need = draft.need_if_right().ok_or(Refusal::Draft)?;
     let mfn = control.next_mfn;
     if mfn > capacity(xrf.len()) {
@@ -159,6 +168,7 @@ pub fn create(mst: &mut [u8], xrf: &mut [u8], draft: &Draft) -> Answer<u32> {
         end,
     }
     .write(mst);
+    put_reccnt(mst, reccnt(mst) + 1);
     Ok(mfn as u32)
 }
 
@@ -187,12 +197,17 @@ pub fn update(mst: &mut [u8], xrf: &mut [u8], mfn: u32, draft: &Draft) -> Answer
     Ok(())
 }
 
-/// Deletes a live record: a settled one is copied to the end, a pending one stays.
+/// Deletes a live record: a settled one is copied to the end, a pending one stays. Answer 2
+/// for a RECCNT that counts no record is asked behind 4 to 9 and before 13.
 pub fn delete(mst: &mut [u8], xrf: &mut [u8], mfn: u32) -> Answer<()> {
     let control = gate(mst, xrf)?;
     let found = find(mst, xrf, control, mfn)?;
     if found.place.deleted {
         return Err(Refusal::Deleted);
+    }
+    let count = reccnt(mst);
+    if count <= 0 {
+        return Err(Refusal::Control);
     }
     let place = match found.place.mark {
         Mark::Settled => delete_by_copy(mst, control, &found)?,
@@ -209,6 +224,7 @@ pub fn delete(mst: &mut [u8], xrf: &mut [u8], mfn: u32) -> Answer<()> {
         ..place
     };
     put_i32(xrf, slot_at(found.mfn), deleted.encode());
+    put_reccnt(mst, count - 1);
     Ok(())
 }
 
@@ -274,9 +290,9 @@ pub fn settle_list(
     Ok(())
 }
 
-/// Makes the settled version of a changed record current.
-pub fn revert(mst: &[u8], xrf: &mut [u8], mfn: u32) -> Answer<()> {
-    let found = find(mst, xrf, gate(mst, xrf)?, mfn)?;
+/// Makes the settled version of a changed record current; one that was deleted counts again.
+pub fn revert(mst: &mut [u8], xrf: &mut [u8], mfn: u32) -> Answer<()> {
+    let found = find(mst, xrf, gate_to_one_more(mst, xrf)?, mfn)?;
     match found.place.mark {
         Mark::Settled => return Err(Refusal::NotPending),
         Mark::New => return Err(Refusal::New),
@@ -284,6 +300,9 @@ pub fn revert(mst: &[u8], xrf: &mut [u8], mfn: u32) -> Answer<()> {
     };
     let back = record::back_place(&found.record);
     put_i32(xrf, slot_at(found.mfn), back.encode());
+    if found.place.deleted {
+        put_reccnt(mst, reccnt(mst) + 1);
+    }
     Ok(())
 }
 
@@ -296,6 +315,16 @@ pub fn migrate(mst: &mut [u8], xrf: &[u8]) -> Answer<()> {
     Control::read_old(mst, xrf.len()).map_err(|_| Refusal::Control)?;
     let count = u16_at(mst, 12);
     put_u16(mst, 12, count + 1);
+    Ok(())
+}
+
+/// Writes RECCNT of a store that is sound apart from it: 0, 1, 2 or 14, whatever RECCNT is.
+pub fn recount(mst: &mut [u8], xrf: &[u8]) -> Answer<()> {
+    let control = gate(mst, xrf)?;
+    if !sound::is_sound_apart(mst, xrf) {
+        return Err(Refusal::NotSound);
+    }
+    put_reccnt(mst, sound::live(xrf, control) as i32);
     Ok(())
 }
 

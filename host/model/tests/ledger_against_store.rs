@@ -1,12 +1,14 @@
 //! Demand 3 on random lists: from format on, the byte store and the ledger give the
-//! same answers, MFNs and fields; NXTMFN and the end are the ledger's; the store
+//! same answers, MFNs and fields; NXTMFN and the end are the ledger's; RECCNT is the number of
+//! its live items and the count that the history gives, and a recount changes nothing; the store
 //! stays sound; and after the list every field of every MFN is shown in both views,
 //! by its index and in one list in both versions, and every state is told.
 
 mod common;
 
 use model::call::{Call, Outcome, on_bytes, on_ledger};
-use model::layout::Control;
+use model::history::History;
+use model::layout::{Control, reccnt};
 use model::lists::{self, Taste};
 use model::random::Random;
 use model::{Ledger, sound};
@@ -20,15 +22,21 @@ fn run(seed: u64, blocks: (usize, usize), taste: Taste, calls: usize) -> BTreeSe
     random.fill(&mut xrf);
     let mut ledger = Ledger::new(mst.len(), xrf.len()).unwrap();
     on_bytes(&mut mst, &mut xrf, &Call::Format);
-    let mut came = BTreeSet::new();
+    let (mut came, mut history) = (BTreeSet::new(), History::default());
     for i in 0..calls {
         let call = lists::any_call(&mut random, taste, ledger.next_mfn());
+        let before = (call == Call::Recount).then(|| (mst.clone(), xrf.clone()));
         let (outcome, _) = on_bytes(&mut mst, &mut xrf, &call);
+        assert!(before.is_none_or(|before| before == (mst.clone(), xrf.clone())));
         let wanted: Outcome = on_ledger(&mut ledger, &call);
         assert_eq!(outcome, wanted, "seed {seed}, call {i}: {call:?}");
         let control = Control::read(&mst, xrf.len()).unwrap();
         assert_eq!(control.next_mfn, ledger.next_mfn(), "seed {seed}, call {i}");
         assert_eq!(control.end, ledger.end(), "seed {seed}, call {i}");
+        history.add(&call, &outcome);
+        let counts = (i64::from(reccnt(&mst)), ledger.live() as i64);
+        let counted = (history.count(), history.count());
+        assert_eq!(counts, counted, "seed {seed}, call {i}: {call:?}");
         assert!(sound::is_sound(&mst, &xrf), "seed {seed}, call {i}");
         came.insert((call.kind() as u32, outcome.number));
     }
@@ -85,7 +93,7 @@ fn random_lists_agree_and_every_answer_comes() {
     for seed in 3000..3004 {
         came.extend(run(seed, (400, 1), Taste::SHORT, 2_500));
     }
-    assert_eq!(came, common::from_format(17));
+    assert_eq!(came, common::from_format(18));
 }
 
 #[test]

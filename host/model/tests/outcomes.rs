@@ -14,8 +14,8 @@ mod subject {
     pub use model::postings::{common, joined, postings};
     pub use model::record_test::record_test;
     pub use model::store::{
-        Answer, Indexed, check, create, delete, field, field_settled, format, migrate, revert,
-        settle, settle_list, update, view, view_settled,
+        Answer, Indexed, check, create, delete, field, field_settled, format, migrate, recount,
+        revert, settle, settle_list, update, view, view_settled,
     };
 }
 
@@ -26,7 +26,7 @@ const EXPECTED: &str = include_str!("../examples/outcomes/expected.txt");
 
 /// The calls and the answers that the paper's table gives to each; a field by its
 /// index is answered as a view, and the calls that tell something as the header says.
-const ANSWERS: [(&str, &[u32]); 26] = [
+const ANSWERS: [(&str, &[u32]); 27] = [
     ("format", &[0, 1]),
     ("view", &[0, 1, 2, 4, 6, 7, 8, 9, 12, 15]),
     ("settled view", &[0, 1, 2, 4, 6, 7, 8, 9, 11, 12, 15]),
@@ -38,6 +38,7 @@ const ANSWERS: [(&str, &[u32]); 26] = [
     ("check", &[0, 1, 2, 14]),
     ("migrate", &[0, 1, 2]),
     ("settle list", &[0, 17]),
+    ("recount", &[0, 1, 2, 14]),
     ("field", &[0, 1, 2, 4, 6, 7, 8, 9, 12]),
     ("settled field", &[0, 1, 2, 4, 6, 7, 8, 9, 11, 12]),
     ("next", &[0, 1, 2]),

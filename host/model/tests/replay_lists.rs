@@ -9,7 +9,7 @@ use model::call::{Call, Outcome, on_bytes, on_ledger};
 use model::draft::need;
 use model::layout::Control;
 use model::ledger::Standing;
-use model::replay::{List, REPORT, Replay, Stop, by_ledger, lists, text};
+use model::replay::{List, REPORT, Replay, Stop, Turns, by_ledger, lists, text};
 use model::{Ledger, sound};
 use std::collections::BTreeSet;
 use std::fs;
@@ -143,6 +143,29 @@ fn a_list_reports_how_often_a_tag_occurs() {
     assert_eq!(lines[45..47], ["9 0 0 0 0", absent]);
 }
 
+/// A recount answers 0 with nothing else, and the other calls report what they do without it.
+#[test]
+fn a_recount_before_every_call_makes_no_difference() {
+    let lists = lists::all();
+    let replay = |title: &str| {
+        let list = lists.iter().find(|list| list.title == title);
+        by_ledger(list.unwrap_or_else(|| panic!("no list {title}")))
+    };
+    let with = replay("a recount before every call");
+    let without = replay("the same calls without");
+    let (recounts, others): (Turns, Turns) = with
+        .turns
+        .into_iter()
+        .partition(|(call, _)| *call == Call::Recount);
+    assert_eq!(recounts.len(), 17);
+    for (_, outcome) in recounts {
+        assert_eq!(outcome, Outcome::default());
+    }
+    assert_eq!((others, with.kept), (without.turns, without.kept));
+    let other = replay("recounts with other numbers");
+    assert_eq!((other.stop, other.turns.len()), (Stop::Ended, 3));
+}
+
 /// The calls of a list that were run, as numbers, each with its answer.
 fn answers(list: &List) -> BTreeSet<(u32, u32)> {
     let calls = list.numbers.iter().step_by(5).copied();
@@ -154,7 +177,7 @@ fn answers(list: &List) -> BTreeSet<(u32, u32)> {
 
 #[test]
 fn the_long_list_reaches_every_answer_of_every_call() {
-    let wanted = common::from_format(11);
+    let wanted = common::from_format(12);
     assert_eq!(answers(&lists::catalogue()), wanted);
     let all: BTreeSet<(u32, u32)> = lists::all().iter().flat_map(answers).collect();
     assert_eq!(all, wanted);

@@ -65,7 +65,7 @@ fn steps_arrive_exactly_at_the_end() {
     // A step of 32,768 bytes that does arrive at the end, behind a gone MFN.
     let mut card = Card::formatted(130, 1);
     card.create(&[]).unwrap();
-    card.put_entry(4, -2048).put_u16(68, 32_766);
+    card.put_entry(4, -2048).put_count(0).put_u16(68, 32_766);
     card.put_end(65, 62);
     assert_eq!(card.check(), Ok(()));
     card.put_u16(68, 32_768).put_end(65, 64);
@@ -129,16 +129,16 @@ fn back_places_are_steps_with_a_settled_version() {
 fn entry_0_below_nxtmfn_is_not_sound_and_gone_is() {
     unsound(|card| card.put_entry(8, 0));
     let mut card = card();
-    card.put_entry(8, -2048);
+    card.put_entry(8, -2048).put_count(1);
     assert_eq!(card.check(), Ok(()));
-    card.put_entry(4, -2048);
+    card.put_entry(4, -2048).put_count(0);
     assert_eq!(card.check(), Ok(()));
 }
 
 #[test]
 fn a_step_that_no_entry_names_may_hold_anything_but_its_length() {
     let mut card = card();
-    card.put_entry(8, -2048);
+    card.put_entry(8, -2048).put_count(1);
     card.mst[122..126].fill(0xFF);
     card.mst[128..150].fill(0xFF);
     assert_eq!(card.check(), Ok(()));
@@ -163,9 +163,28 @@ fn steps_go_over_500_to_510() {
 #[test]
 fn control_bytes_and_gaps_do_not_count() {
     let mut card = card();
-    card.mst[16..64].fill(0xFF);
+    card.mst[20..64].fill(0xFF);
     card.mst[150..].fill(0xFF);
     assert_eq!(card.check(), Ok(()));
+}
+
+#[test]
+fn reccnt_is_the_number_of_entries_neither_deleted_nor_gone() {
+    for found in [-1, 0, 1, 3, i32::MAX - 1, i32::MAX, i32::MIN, 2 + 65_536] {
+        let fault = unsound(|card| card.put_count(found));
+        assert_eq!(fault, Fault::Count { found, live: 2 });
+    }
+    let mut card = card();
+    card.delete(2).unwrap();
+    assert_eq!((card.count(), card.check()), (1, Ok(())));
+    card.put_count(2);
+    assert_eq!(card.check(), Err(NotSound));
+    // What is gone does not count either.
+    card.put_entry(8, -2048).put_count(1);
+    assert_eq!(card.check(), Ok(()));
+    // Where something else is wrong, that is told.
+    let fault = unsound(|card| card.put_count(9).put_entry(8, 0));
+    assert!(matches!(fault, Fault::Mfn { mfn: 2, .. }));
 }
 
 #[test]
@@ -179,4 +198,6 @@ fn faults_are_told_in_words_and_up_to_the_limit() {
     assert!(words[0].contains("MFN 3") && words[0].contains("XRF byte 12"));
     assert!(words[1].contains("MFN 1") && words[1].contains("never used"));
     assert!(words[2].contains("MFN 2") && words[2].contains("both changed and new"));
+    let words = unsound(|card| card.put_count(-1)).to_string();
+    assert!(words.contains("RECCNT (MST byte 16) is -1, and 2 entries"));
 }

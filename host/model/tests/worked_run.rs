@@ -102,16 +102,17 @@ fn an_end_in_the_last_block_moves_to_the_length_of_the_mst() {
 }
 
 #[test]
-fn bytes_16_to_63_are_kept_by_every_call_but_format() {
+fn bytes_20_to_63_are_kept_by_every_call_but_format() {
     let mut card = Card::formatted(2, 1);
-    let kept: Vec<u8> = (100..148).collect();
-    card.mst[16..64].copy_from_slice(&kept);
+    let kept: Vec<u8> = (100..144).collect();
+    card.mst[20..64].copy_from_slice(&kept);
     card.create(&[(24, b"Kite")]).unwrap();
     card.settle(1).unwrap();
     card.update(1, &[(24, b"Kites")]).unwrap();
     card.delete(1).unwrap();
     card.revert(1).unwrap();
-    assert_eq!(card.mst[16..64], kept);
+    card.recount().unwrap();
+    assert_eq!(card.mst[20..64], kept);
     assert_eq!(card.check(), Ok(()));
     store::format(&mut card.mst, &mut card.xrf).unwrap();
     assert_eq!(card.mst[16..64], [0; 48]);

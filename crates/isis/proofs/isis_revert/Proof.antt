@@ -1,4 +1,4 @@
-use mathlib.Core.Path.{refl, ap, _∙_}
+use mathlib.Core.Path.{ap, _∙_}
 use Rattle.store.specs.Answer.{numberOf}
 use borrow.Author.Needs.{needs}
 use Rattle.isis.proofs.isis_revert.Statement.{statement}
@@ -18,7 +18,7 @@ same-length-2 c = search needs
 
 returns : tie.Need-returns
 returns c =
-    (c .number .ensures ∙ ap numberOf (c .before .before .before .revert .ensures .0), c .before .before .before .revert .ensures .1)
+    (c .number .ensures ∙ ap numberOf (c .before .before .before .before .before .revert .ensures .0), c .before .before .before .before .before .revert .ensures .1)
 
 pub isis-revert-spec : {M : Type 1} → statement M
 isis-revert-spec =

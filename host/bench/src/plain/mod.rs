@@ -40,9 +40,10 @@ pub mod called {
         store::delete(mst: &mut [u8], xrf: &mut [u8], mfn: u32) -> u32;
         store::settle(mst: &mut [u8], xrf: &mut [u8], mfn: u32) -> u32;
         store::settle_list(mst: &mut [u8], xrf: &mut [u8], mfns: &[u32], answers: &mut [u32]) -> u32;
-        store::revert(mst: &[u8], xrf: &mut [u8], mfn: u32) -> u32;
+        store::revert(mst: &mut [u8], xrf: &mut [u8], mfn: u32) -> u32;
         write::migrate(mst: &mut [u8], xrf: &[u8]) -> u32;
         check::check(mst: &[u8], xrf: &[u8]) -> u32;
+        check::recount(mst: &mut [u8], xrf: &[u8]) -> u32;
         record::record_test(record: &[u8], mfn: u32, deleted: u32) -> (u32, u32);
         record::record_test_plainly(record: &[u8], mfn: u32, deleted: u32) -> (u32, u32);
         index::lookup(cnt: &[u8], n01: &[u8], l01: &[u8], n02: &[u8], l02: &[u8], term: &[u8]) -> (u32, i32, i32);
@@ -59,7 +60,7 @@ pub mod called {
 
 /// Each call as it is, for the compiler to inline.
 pub mod inlined {
-    pub use super::check::check;
+    pub use super::check::{check, recount};
     pub use super::index::{check_index, lookup};
     pub use super::postings::{common, joined, postings};
     pub use super::record::{record_test, record_test_plainly};
@@ -123,6 +124,24 @@ fn counted(mst: &[u8], xrf: &[u8], from: u16) -> Result<Control, u32> {
         next: next as usize,
         end: end as usize,
     })
+}
+
+/// Answers 1 and 2 of the calls that may count one more, and RECCNT.
+fn gate_to_one_more(mst: &[u8], xrf: &[u8]) -> Result<(Control, i32), u32> {
+    let control = gate(mst, xrf)?;
+    let count = i32_at(mst, RECCNT);
+    if count == i32::MAX {
+        return Err(2);
+    }
+    Ok((control, count))
+}
+
+/// Where RECCNT stands.
+const RECCNT: usize = 16;
+
+/// Writes RECCNT.
+fn put_count(mst: &mut [u8], count: i32) {
+    mst[RECCNT..RECCNT + 4].copy_from_slice(&count.to_le_bytes());
 }
 
 /// Where an MFN's entry stands.

@@ -1,8 +1,10 @@
 //! The calls that name an MFN and take no draft.
 
 use super::record::{Tested, at_index, find, settled, test};
-use super::{CHANGED, Control, Place, SETTLED};
-use super::{entry, entry_of, gate, i32_at, numbered, slot, step_over};
+use super::{CHANGED, Control, Place, RECCNT, SETTLED};
+use super::{
+    entry, entry_of, gate, gate_to_one_more, i32_at, numbered, put_count, slot, step_over,
+};
 
 /// A record that answers 4 to 8 have let through.
 pub struct Found {
@@ -120,6 +122,10 @@ fn try_delete(mst: &mut [u8], xrf: &mut [u8], mfn: u32) -> Result<(), u32> {
     if found.place.deleted {
         return Err(9);
     }
+    let count = i32_at(mst, RECCNT);
+    if count <= 0 {
+        return Err(2);
+    }
     let old = found.record;
     let used = old.base + old.data;
     let (at, mark) = if found.place.mark == SETTLED {
@@ -131,6 +137,7 @@ fn try_delete(mst: &mut [u8], xrf: &mut [u8], mfn: u32) -> Result<(), u32> {
     };
     let slot = slot(found.mfn);
     xrf[slot..slot + 4].copy_from_slice(&entry_of(at, mark, true).to_le_bytes());
+    put_count(mst, count - 1);
     Ok(())
 }
 
@@ -190,9 +197,10 @@ pub fn settle_list(mst: &mut [u8], xrf: &mut [u8], mfns: &[u32], answers: &mut [
 
 /// Makes the settled version current again.
 #[inline(always)]
-pub fn revert(mst: &[u8], xrf: &mut [u8], mfn: u32) -> u32 {
+pub fn revert(mst: &mut [u8], xrf: &mut [u8], mfn: u32) -> u32 {
     let mut act = || {
-        let found = found(mst, xrf, gate(mst, xrf)?, mfn)?;
+        let (control, count) = gate_to_one_more(mst, xrf)?;
+        let found = found(mst, xrf, control, mfn)?;
         match found.place.mark {
             SETTLED => return Err(10),
             CHANGED => {}
@@ -201,6 +209,9 @@ pub fn revert(mst: &[u8], xrf: &mut [u8], mfn: u32) -> u32 {
         let back = settled(mst, found.control.end, found.mfn, &found.record).ok_or(8u32)?;
         let slot = slot(found.mfn);
         xrf[slot..slot + 4].copy_from_slice(&entry_of(back.at, SETTLED, false).to_le_bytes());
+        if found.place.deleted {
+            put_count(mst, count + 1);
+        }
         Ok(())
     };
     number(act())

@@ -1,6 +1,7 @@
 //! What is timed does the model's work.
 
 use super::called;
+use differential::damage::PLANTED;
 use differential::guarded::Side;
 use differential::index::cases;
 use differential::index::compare::{Case, Family};
@@ -25,6 +26,7 @@ fn run(mst: &mut [u8], xrf: &mut [u8], call: &Call) -> (Outcome, Shown) {
         Call::Format => called::format(mst, xrf),
         Call::Check => called::check(mst, xrf),
         Call::Migrate => called::migrate(mst, xrf),
+        Call::Recount => called::recount(mst, xrf),
         Call::Delete(mfn) => called::delete(mst, xrf, *mfn),
         Call::Settle(mfn) => called::settle(mst, xrf, *mfn),
         Call::Revert(mfn) => called::revert(mst, xrf, *mfn),
@@ -127,7 +129,7 @@ fn settled(mst: &mut [u8], xrf: &mut [u8], mfns: &[u32], room: usize) -> (Outcom
     (outcome, shown)
 }
 
-/// On lists from format, damaged now and then.
+/// On lists from format, damaged now and then; in some of them RECCNT is planted.
 #[test]
 fn the_plain_program_does_the_same_as_the_model() {
     for seed in 0..400 {
@@ -152,6 +154,11 @@ fn the_plain_program_does_the_same_as_the_model() {
                 model_mst[at] ^= bit;
                 xrf[at % 40] ^= bit;
                 model_xrf[at % 40] ^= bit;
+            }
+            if seed % 4 == 2 && random.one_in(4) {
+                let count = random.pick(&PLANTED).to_le_bytes();
+                mst[16..20].copy_from_slice(&count);
+                model_mst[16..20].copy_from_slice(&count);
             }
             call = lists::any_call(&mut random, Taste::SHORT, 12);
         }

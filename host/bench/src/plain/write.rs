@@ -2,9 +2,8 @@
 
 use super::store::found;
 use super::{CHANGED, SETTLED};
-use super::{
-    counted, entry_of, gate, i32_at, lengths_permitted, numbered, slot, step_over, u16_at,
-};
+use super::{counted, entry_of, gate, gate_to_one_more, i32_at, lengths_permitted, numbered};
+use super::{put_count, slot, step_over, u16_at};
 use model::Draft;
 
 /// The mark of a record that was never settled.
@@ -95,7 +94,7 @@ pub fn create(mst: &mut [u8], xrf: &mut [u8], draft: &Draft) -> (u32, u32) {
 }
 
 fn try_create(mst: &mut [u8], xrf: &mut [u8], draft: &Draft) -> Result<u32, u32> {
-    let control = gate(mst, xrf)?;
+    let (control, count) = gate_to_one_more(mst, xrf)?;
     let need = need(draft)?;
     let (mfn, at) = (control.next, control.end);
     if mfn > xrf.len() / 512 * 127 {
@@ -110,6 +109,7 @@ fn try_create(mst: &mut [u8], xrf: &mut [u8], draft: &Draft) -> Result<u32, u32>
     xrf[slot..slot + 4].copy_from_slice(&entry_of(at, NEW, false).to_le_bytes());
     mst[4..8].copy_from_slice(&(mfn as i32 + 1).to_le_bytes());
     put_end(mst, step_over(at + need));
+    put_count(mst, count + 1);
     Ok(mfn as u32)
 }
 

@@ -13,8 +13,8 @@ mod subject {
     pub use model::postings::{common, joined, postings};
     pub use model::record_test::record_test;
     pub use model::store::{
-        Answer, Indexed, check, create, delete, field, field_settled, format, migrate, revert,
-        settle, settle_list, update, view, view_settled,
+        Answer, Indexed, check, create, delete, field, field_settled, format, migrate, recount,
+        revert, settle, settle_list, update, view, view_settled,
     };
 }
 

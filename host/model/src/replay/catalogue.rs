@@ -1,7 +1,7 @@
 //! One long list that goes through a whole catalogue: every MFN of an XRF of one block,
 //! records under every mark, live and deleted, updates in place and at the end, views
-//! of both versions, reverts after other records changed, every refusal, migrations, which
-//! change nothing, the MST full, and then a second catalogue over the first.
+//! of both versions, reverts after other records changed, every refusal, migrations and
+//! recounts, which change nothing, the MST full, and then a second catalogue over the first.
 
 use crate::call::{Call, OwnedDraft};
 
@@ -105,7 +105,7 @@ fn deletes(calls: &mut Vec<Call>) {
             .step_by(42)
             .map(|mfn| Call::Update(mfn, long(2))),
     );
-    calls.extend([Call::Migrate, Call::Check]);
+    calls.extend([Call::Migrate, Call::Recount, Call::Check]);
 }
 
 /// Both views of every third record.
@@ -137,7 +137,7 @@ fn reverts(calls: &mut Vec<Call>) {
         calls.extend([Call::Settle(mfn), Call::view_settled(mfn, 24, 1)]);
         calls.push(Call::Revert(mfn));
     }
-    calls.push(Call::Check);
+    calls.extend([Call::Recount, Call::Check]);
 }
 
 /// The rest of the MFNs, and one create too many.
@@ -198,7 +198,7 @@ fn until_full(calls: &mut Vec<Call>, mfn: u32, letters: usize, rounds: usize) {
 
 /// A second catalogue over the first, of which nothing is left.
 fn second_catalogue(calls: &mut Vec<Call>) {
-    calls.extend([Call::Format, Call::Migrate, Call::Check]);
+    calls.extend([Call::Format, Call::Migrate, Call::Recount, Call::Check]);
     calls.push(Call::view(1, 24, 1));
     for mfn in 1..=12 {
         calls.push(Call::Create(draft(mfn, 3)));
@@ -207,5 +207,6 @@ fn second_catalogue(calls: &mut Vec<Call>) {
     calls.extend([Call::Settle(1), Call::Settle(2), Call::Delete(2)]);
     calls.extend([Call::view(2, 24, 1), Call::view_settled(2, 24, 1)]);
     until_full(calls, 7, 700, 14);
-    calls.extend([Call::Revert(2), Call::view(2, 24, 1), Call::Check]);
+    calls.extend([Call::Revert(2), Call::view(2, 24, 1)]);
+    calls.extend([Call::Recount, Call::Check]);
 }

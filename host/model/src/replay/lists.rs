@@ -1,5 +1,6 @@
 //! The lists that `replay_run` is given: the worked run of document 01, two long ones,
-//! the ends that rows P9 to P12 name, and short ones for every stop.
+//! what is missing, lists that are settled, records that are counted, the ends that rows P9 to
+//! P12 name, and short ones for every stop.
 
 use super::{CALL, List, REPORT, catalogue};
 use crate::call::{Call, OwnedDraft, on_ledger};
@@ -11,8 +12,9 @@ use crate::store::MOST_SETTLED;
 
 /// All lists, in the order of the text.
 pub fn all() -> Vec<List> {
-    let mut all = vec![worked_run(), catalogue(), random(1988), missing()];
+    let mut all = vec![worked_run(), catalogue(), random(1989), missing()];
     all.extend(settled_lists());
+    all.extend(counted());
     all.extend(ends());
     all.extend(stops());
     all.extend(malformed());
@@ -183,6 +185,40 @@ fn settled_lists() -> Vec<List> {
     ]
 }
 
+/// A recount at every turn of RECCNT: on an empty card, behind creates, deletions of a settled
+/// and of a new record, reverts of a live and of a deleted one, and behind a second format. It
+/// answers 0 and changes nothing, so the same list without it reports the same of the others;
+/// and what its other numbers are makes no difference.
+fn counted() -> Vec<List> {
+    let turns = [
+        Call::Create(title("Kite")),
+        Call::Create(title("Kit")),
+        Call::Settle(1),
+        Call::Update(1, title("Kites")),
+        Call::Revert(1),
+        Call::Delete(1),
+        Call::Delete(1),
+        Call::Delete(2),
+        Call::Revert(1),
+        Call::view(1, 24, 1),
+        Call::Delete(1),
+        Call::Settle(1),
+        Call::Revert(1),
+        Call::Format,
+        Call::Create(title("Key")),
+        Call::Check,
+    ];
+    let with = turns.iter().flat_map(|call| [Call::Recount, call.clone()]);
+    let with: Vec<Call> = with.chain([Call::Recount]).collect();
+    let lengths = (BLOCK, BLOCK);
+    let other = [11, 1, 24, 1, 9, 11, u32::MAX, u32::MAX, u32::MAX, u32::MAX];
+    vec![
+        List::of("a recount before every call", lengths, &with).exact_room(),
+        List::of("the same calls without", lengths, &turns).exact_room(),
+        small("recounts with other numbers", &turns[..1]).with_numbers(CALL, &other),
+    ]
+}
+
 /// Ends of short lists, and what comes with a draft that is refused.
 fn stops() -> Vec<List> {
     let bad = OwnedDraft {
@@ -245,7 +281,7 @@ fn malformed() -> Vec<List> {
     vec![
         small("one number alone", &[]).with_numbers(0, &[8]),
         one("four numbers left", &[8, 0, 0, 0]),
-        one("a call of no name", &[11, 0, 0, 0, 0]),
+        one("a call of no name", &[12, 0, 0, 0, 0]),
         one("a list with an MFN too many", &[10, 0, 1, 1, 0]),
         one("a call of no name, far off", &[u32::MAX, 1, 24, 1, 0]),
         one("view of a tag too large", &[1, 1, 65536, 1, 0]),

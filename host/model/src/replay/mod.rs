@@ -147,6 +147,7 @@ impl List {
                 self.mfns.extend(mfns);
                 [10, 0, mfns.len() as u32, room as u32, 0]
             }
+            Call::Recount => [11, 0, 0, 0, 0],
             _ => panic!("a list has the calls of demand 3 only"),
         };
         self.numbers.extend(numbers);
@@ -235,6 +236,7 @@ impl<'a> Left<'a> {
                 mfns: take(&mut self.mfns, second)?,
                 room: third as usize,
             },
+            11 => Call::Recount,
             _ => return None,
         };
         self.numbers = rest;

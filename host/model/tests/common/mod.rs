@@ -7,7 +7,7 @@ use std::collections::BTreeSet;
 
 /// Every answer that a list from format can give, by the call's number in a list; then
 /// the two fields by index, and the calls that tell something.
-pub const FROM_FORMAT: [(u32, &[u32]); 17] = [
+pub const FROM_FORMAT: [(u32, &[u32]); 18] = [
     (0, &[0]),
     (1, &[0, 4, 9, 12, 15]),
     (2, &[0, 4, 9, 11, 12, 15]),
@@ -19,12 +19,13 @@ pub const FROM_FORMAT: [(u32, &[u32]); 17] = [
     (8, &[0]),
     (9, &[2]),
     (10, &[0, 17]),
-    (11, &[0, 4, 9, 12]),
-    (12, &[0, 4, 9, 11, 12]),
-    (13, &[0]),
-    (14, &[0, 4]),
-    (15, &[0, 4, 9, 17]),
-    (16, &[0, 4, 9, 11, 17]),
+    (11, &[0]),
+    (12, &[0, 4, 9, 12]),
+    (13, &[0, 4, 9, 11, 12]),
+    (14, &[0]),
+    (15, &[0, 4]),
+    (16, &[0, 4, 9, 17]),
+    (17, &[0, 4, 9, 11, 17]),
 ];
 
 /// The first `calls` rows of it as pairs.
@@ -72,6 +73,15 @@ impl Card {
         let mut card = Card::with_settled_kite(mst_blocks, xrf_blocks);
         assert_eq!(card.update(1, &[(24, b"Kites")]), Ok(()));
         card
+    }
+
+    /// RECCNT.
+    pub fn count(&self) -> i32 {
+        self.i32(16)
+    }
+
+    pub fn put_count(&mut self, count: i32) -> &mut Card {
+        self.put_i32(16, count)
     }
 
     pub fn u16(&self, at: usize) -> u16 {
@@ -152,11 +162,15 @@ impl Card {
     }
 
     pub fn revert(&mut self, mfn: u32) -> Result<(), Refusal> {
-        self.kept_if_refused(|card| store::revert(&card.mst, &mut card.xrf, mfn))
+        self.kept_if_refused(|card| store::revert(&mut card.mst, &mut card.xrf, mfn))
     }
 
     pub fn migrate(&mut self) -> Result<(), Refusal> {
         self.kept_if_refused(|card| store::migrate(&mut card.mst, &card.xrf))
+    }
+
+    pub fn recount(&mut self) -> Result<(), Refusal> {
+        self.kept_if_refused(|card| store::recount(&mut card.mst, &card.xrf))
     }
 
     pub fn check(&self) -> Result<(), Refusal> {

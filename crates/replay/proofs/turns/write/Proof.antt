@@ -63,6 +63,15 @@ migrate-requires c κs = search needs
 without-mfn-requires-6 : tie.Need-without-mfn-requires-6
 without-mfn-requires-6 c κs = search needs
 
+enum-told-4 : tie.Need-enum-told-4
+enum-told-4 c = search needs
+
+recount-requires : tie.Need-recount-requires
+recount-requires c κs = search needs
+
+without-mfn-requires-7 : tie.Need-without-mfn-requires-7
+without-mfn-requires-7 c κs = search needs
+
 same-length : tie.Need-same-length
 same-length c = search needs
 
@@ -126,6 +135,15 @@ same-length-14 c = search needs
 returns-7 : tie.Need-returns-7
 returns-7 c = search written-answers
 
+same-length-15 : tie.Need-same-length-15
+same-length-15 c = search needs
+
+same-length-16 : tie.Need-same-length-16
+same-length-16 c = search needs
+
+returns-8 : tie.Need-returns-8
+returns-8 c = search written-answers
+
 pub write-spec : {M : Type 1} → statement M
 write-spec =
     tie.close
@@ -150,6 +168,9 @@ write-spec =
     enum-told-3
     migrate-requires
     without-mfn-requires-6
+    enum-told-4
+    recount-requires
+    without-mfn-requires-7
     same-length
     same-length-2
     returns
@@ -170,4 +191,7 @@ write-spec =
     returns-6
     same-length-13
     same-length-14
-    returns-7)
+    returns-7
+    same-length-15
+    same-length-16
+    returns-8)

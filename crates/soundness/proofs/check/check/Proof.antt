@@ -1,41 +1,41 @@
+use Rattle.soundness.proofs.CheckAnswers.{check-answers, count-asks, check-sound, check-miscounted}
 use borrow.Author.Needs.{needs}
-use Rattle.soundness.proofs.CheckAnswers.{check-answers}
 use Rattle.soundness.proofs.check.check.Statement.{statement}
 use Rattle.soundness.proofs.check.check.Tie as tie
 
-open-gate-requires : tie.Need-open-gate-requires
-open-gate-requires c κs = search needs
+count-live-requires : tie.Need-count-live-requires
+count-live-requires c κs = search needs
 
-enum-known-g : tie.Need-enum-known-g
-enum-known-g c = search needs
+enum-known-c : tie.Need-enum-known-c
+enum-known-c c = search needs
 
 enum-told : tie.Need-enum-told
 enum-told c = search needs
 
-gate-answer-requires : tie.Need-gate-answer-requires
-gate-answer-requires c κs = search needs
+counted-answer-requires : tie.Need-counted-answer-requires
+counted-answer-requires c κs = search needs
 
 returns : tie.Need-returns
 returns c = search check-answers
 
-body-sound-requires : tie.Need-body-sound-requires
-body-sound-requires c κs = search check-answers
+count-is-requires : tie.Need-count-is-requires
+count-is-requires c κs = count-asks _ _ _ (c .before .before .before .count-live .ensures) _ (c .before .c .given .1)
 
 returns-2 : tie.Need-returns-2
-returns-2 c = search check-answers
+returns-2 c = check-sound _ _ _ (c .before .before .before .before .before .count-live .ensures) _ (c .before .before .before .c .given .1) _ (c .before .count-is .ensures) (c .if1 .taken)
 
 returns-3 : tie.Need-returns-3
-returns-3 c = search check-answers
+returns-3 c = check-miscounted _ _ _ (c .before .before .before .before .before .count-live .ensures) _ (c .before .before .before .c .given .1) _ (c .before .count-is .ensures) (c .if1 .left)
 
 pub check-spec : {M : Type 1} → statement M
 check-spec =
     tie.close
     (tie.spec
-    open-gate-requires
-    enum-known-g
+    count-live-requires
+    enum-known-c
     enum-told
-    gate-answer-requires
+    counted-answer-requires
     returns
-    body-sound-requires
+    count-is-requires
     returns-2
     returns-3)

@@ -1,16 +1,16 @@
--- `tally_entries`: the entries before m are fine, and the places that they name are counted.
+-- `tally_entries`: the entries before m are fine, the places that they name are counted, and so are those that are live.
 use Prim.Native.Nat.{_-_, _≤_}
 use native.Mathlib.Omega.{arith}
 use borrow.Author.Needs.{needs}
-use Rattle.soundness.proofs.PassAnswers.{Tallied, tally-few, tally-answers, open-few}
+use Rattle.soundness.proofs.PassAnswers.{Tallied, tally-few, live-few, tally-answers, open-few}
 use Rattle.soundness.proofs.passes.tally_entries.Statement.{statement}
 use Rattle.soundness.proofs.passes.tally_entries.Tie as tie
 
 abbrev Inv-loop : tie.InvT-loop
-Inv-loop mst xrf next end named₀ m₀ named m = (1 ≤ m) × (m ≤ next .0) × Tallied mst xrf m named
+Inv-loop mst xrf next end named₀ live₀ m₀ named live m = (1 ≤ m) × (m ≤ next .0) × Tallied mst xrf m named live
 
 abbrev μ-loop : tie.MeasureT-loop
-μ-loop mst xrf next end named₀ m₀ named m = next .0 - m
+μ-loop mst xrf next end named₀ live₀ m₀ named live m = next .0 - m
 
 loop-holds : tie.Need-loop-holds Inv-loop μ-loop
 loop-holds c = search tally-answers
@@ -28,7 +28,10 @@ returns : tie.Need-returns Inv-loop μ-loop
 returns c = search tally-answers
 
 add-named : tie.Need-add-named Inv-loop μ-loop
-add-named c = omega (arith, open-few, tally-few _ _ _ _ (c .before .before .before .tally-entry .ensures) _ (c .before .t .given .1))
+add-named c = omega (arith, open-few, tally-few _ _ _ _ (c .before .before .before .tally-entry .ensures) _ _ (c .before .t .given .1))
+
+add-live : tie.Need-add-live Inv-loop μ-loop
+add-live c = omega (arith, open-few, live-few _ _ _ _ (c .before .before .before .tally-entry .ensures) _ _ (c .before .t .given .1))
 
 add-m : tie.Need-add-m Inv-loop μ-loop
 add-m c = search needs
@@ -54,6 +57,7 @@ tally-entries-spec =
     enum-told
     returns
     add-named
+    add-live
     add-m
     loop-less
     loop-again

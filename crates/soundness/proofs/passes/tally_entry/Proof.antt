@@ -1,5 +1,5 @@
-use borrow.Author.Needs.{needs}
 use Rattle.soundness.proofs.PassAnswers.{tally-answers}
+use borrow.Author.Needs.{needs}
 use Rattle.soundness.proofs.passes.tally_entry.Statement.{statement}
 use Rattle.soundness.proofs.passes.tally_entry.Tie as tie
 
@@ -24,6 +24,9 @@ returns c = search tally-answers
 named-under-requires : tie.Need-named-under-requires
 named-under-requires c κs = search needs
 
+live-of-requires : tie.Need-live-of-requires
+live-of-requires c κs = search needs
+
 returns-2 : tie.Need-returns-2
 returns-2 c = search tally-answers
 
@@ -38,4 +41,5 @@ tally-entry-spec =
     refused-tally-requires
     returns
     named-under-requires
+    live-of-requires
     returns-2)

@@ -1,4 +1,4 @@
-use Rattle.versions.proofs.Writes.{tail-readable, same-mfrl, rewritten}
+use Rattle.versions.proofs.Writes.{tail-readable, same-mfrl, rewrite-long, rewritten}
 use borrow.Author.Needs.{needs}
 use Rattle.versions.proofs.changing.delete_in_place.Statement.{statement}
 use Rattle.versions.proofs.changing.delete_in_place.Tie as tie
@@ -20,6 +20,9 @@ part-rewrite-record-end c = search needs
 
 rewrite-record-requires : tie.Need-rewrite-record-requires
 rewrite-record-requires c κs = search (tail-readable, same-mfrl)
+
+count-less-requires : tie.Need-count-less-requires
+count-less-requires c κs = search rewrite-long
 
 put-entry-requires : tie.Need-put-entry-requires
 put-entry-requires c κs = search needs
@@ -43,6 +46,7 @@ delete-in-place-spec =
     part-rewrite-record-start
     part-rewrite-record-end
     rewrite-record-requires
+    count-less-requires
     put-entry-requires
     same-length
     same-length-2

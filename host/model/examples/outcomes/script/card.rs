@@ -101,6 +101,12 @@ impl Card {
         self
     }
 
+    /// Sets RECCNT.
+    pub fn set_reccnt(&mut self, value: i32) -> &mut Card {
+        self.mst[16..20].copy_from_slice(&value.to_le_bytes());
+        self
+    }
+
     /// Makes it a card of the old rule: NXTMFP is one less.
     pub fn old(&mut self) -> &mut Card {
         let count = u16::from_le_bytes(self.mst[12..14].try_into().unwrap());
@@ -215,6 +221,11 @@ impl Card {
         self.plain(what, "migrate", run);
     }
 
+    pub fn recount(&mut self, what: &str) {
+        let run = |mst: &mut [u8], xrf: &mut [u8]| store::recount(mst, xrf);
+        self.plain(what, "recount", run);
+    }
+
     pub fn check(&mut self, what: &str) {
         let answer = number(&store::check(&self.mst, &self.xrf));
         writeln!(self.lines, "{what}: check {answer}").unwrap();
@@ -278,13 +289,14 @@ impl Card {
         self.revert(what, mfn);
     }
 
-    /// The calls that name an MFN, on MFN 1; next, create, check and migrate.
+    /// The calls that name an MFN, on MFN 1; next, create, check, migrate and recount.
     pub fn all_on_one(&mut self, what: &str) {
         self.next(what);
         self.naming(what, 1);
         self.create(what, b"Kites");
         self.check(what);
         self.migrate(what);
+        self.recount(what);
     }
 }
 

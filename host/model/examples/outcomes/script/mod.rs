@@ -4,6 +4,7 @@
 //! `differential`, which must print the same lines.
 
 pub mod card;
+mod counting;
 mod index;
 mod limits;
 mod lists;
@@ -32,6 +33,7 @@ pub fn lines() -> String {
     soundness_faults::run(&mut card);
     migration::run(&mut card);
     lists::run(&mut card);
+    counting::run(&mut card);
     refusals::lengths(&mut card);
     let mut large = Card::new(3584);
     limits::capacity(&mut large);

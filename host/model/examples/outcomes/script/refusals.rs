@@ -97,7 +97,7 @@ fn cross_reference(card: &mut Card) {
 
 /// 7: physically deleted.
 fn gone(card: &mut Card) {
-    card.settled_record().set_entry(-2048);
+    card.settled_record().set_entry(-2048).set_reccnt(0);
     card.naming("entry -2048", 1);
     card.check("entry -2048");
 }

@@ -1,7 +1,7 @@
-use borrow.Author.Needs.{needs}
 use Rattle.soundness.proofs.CheckAnswers.{body-answers}
-use Rattle.soundness.proofs.check.body_sound.Statement.{statement}
-use Rattle.soundness.proofs.check.body_sound.Tie as tie
+use borrow.Author.Needs.{needs}
+use Rattle.soundness.proofs.check.sound_apart.Statement.{statement}
+use Rattle.soundness.proofs.check.sound_apart.Tie as tie
 
 heads-right-requires : tie.Need-heads-right-requires
 heads-right-requires c κs = search body-answers
@@ -33,8 +33,11 @@ walk-steps-requires c κs = search body-answers
 returns-4 : tie.Need-returns-4
 returns-4 c = search body-answers
 
-pub body-sound-spec : {M : Type 1} → statement M
-body-sound-spec =
+returns-5 : tie.Need-returns-5
+returns-5 c = search body-answers
+
+pub sound-apart-spec : {M : Type 1} → statement M
+sound-apart-spec =
     tie.close
     (tie.spec
     heads-right-requires
@@ -46,4 +49,5 @@ body-sound-spec =
     enum-told
     returns-3
     walk-steps-requires
-    returns-4)
+    returns-4
+    returns-5)
