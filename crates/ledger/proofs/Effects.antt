@@ -1,10 +1,9 @@
 -- What a call does to the ledger, taken apart once, by call. What is said of the ledger after a call (what is pending stays, other MFNs stay,
 -- nothing becomes gone) is then shown by the few things that a call can do.
 use Prim.Native.Nat.{ℕ, _+_, _-_, _≤_, _<_}
-use native.Mathlib.Decide.{ℕ-discrete}
 use native.Mathlib.Omega.{arith}
 use mathlib.Core.Path.{_≡_, refl}
-use mathlib.Core.Logic.{inl, inr}
+use mathlib.Core.Logic.{inl, inr, ⊎-elim}
 use mathlib.Core.Bool.{Bool, true, false, not}
 use mathlib.Core.List.{List, [], _∷_, _++_}
 use lib.ListN.{length, set, length-set, length-append, List·getD-append}
@@ -12,10 +11,9 @@ use lib.Seq.{getD-set-same, getD-set-other, getD-at}
 use Rattle.word.proofs.Tests.{tests}
 use Rattle.record.specs.Fields.{Field}
 use Rattle.drafts.specs.Bytes.{needFor}
-use Rattle.store.specs.Answer.{numberOf, after}
 use Rattle.store.specs.declared.answer.Answer.{Answer}
 use Rattle.store.specs.declared.answer.Answer.the-variants.{Done, BadLength, NoMfn, Deleted, NeverSettled}
-use Rattle.store.proofs.Gates.{number-done, after-done, after-refused}
+use Rattle.store.proofs.Gates.{after-cases}
 use Rattle.store.proofs.Lowest.{Applies}
 use Rattle.settling.specs.Theorems.{among}
 use Rattle.settling.proofs.Theorems.{among-first, among-behind}
@@ -118,13 +116,8 @@ does L recount d = reads
 -- what holds where the call is refused, and after what it does where it is done, holds after it
 after-either : (P : Ledger → Type 0) (L : Ledger) (c : Call) → P L → (numberL L c ≡ Done → P (applied L (effectOf L c))) → P (nextL L c)
 unfolding nextL
-after-either P L c p f = go (ℕ-discrete (numberOf (numberL L c)) 0)
-  where
-    go : Dec (numberOf (numberL L c) ≡ 0) → P (after (numberL L c) (applied L (effectOf L c)) L)
-    go (yes z) =
-        let d : numberL L c ≡ Done = number-done (numberL L c) z in
-        rw (after-done (numberL L c) (applied L (effectOf L c)) L d) (f d)
-    go (no z) = rw (after-refused (numberL L c) (applied L (effectOf L c)) L z) p
+after-either P L c p f =
+    ⊎-elim (λ d. rw (d .1) (f (d .0))) (λ r. rw (r .1) p) (after-cases (numberL L c) (applied L (effectOf L c)) L)
 
 pub after-call : (P : Ledger → Type 0) (L : Ledger) (c : Call) → P L → (Does L c (effectOf L c) → P (applied L (effectOf L c))) → P (nextL L c)
 after-call P L c p f = after-either P L c p (λ d. f (does L c d))

@@ -26,7 +26,7 @@ use Rattle.store.specs.declared.answer.Answer.the-variants.{Done}
 use Rattle.store.proofs.Gates.{Refusing, done-number, after-cases}
 use Rattle.soundness.specs.Sound.{bit, sumTo, isLive, liveCount}
 use Rattle.soundness.proofs.SoundEntries.{stands-counted}
-use Rattle.soundness.proofs.Live.{sum-same}
+use Rattle.soundness.proofs.Sums.{sum-same}
 use Rattle.ledger.specs.Call.{Call, format, view, viewSettled, create, update, delete, settle, revert, check, migrate, settleList, recount}
 use Rattle.ledger.specs.Ledger.{Marking, settled, Item, gone, held, Ledger, nextMfn, empty, mfnIn, itemOf, isGoneItem, keptDeleted, settledFields}
 use Rattle.ledger.specs.LedgerAnswers.{numberL, answerL}

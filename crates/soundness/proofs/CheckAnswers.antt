@@ -20,7 +20,7 @@ use Rattle.store.specs.declared.answer.Answer.the-variants.{Done, BadLength, Ba
 use Rattle.store.specs.declared.gate.Gate.{Gate}
 use Rattle.store.specs.declared.gate.Gate.the-variants.{Open, Shut}
 use Rattle.store.proofs.Gates.{Refusing, done-number, after-done, after-refused, after-cases, refused-is, done-is, holds, gate-done, gate-shut, open-from, gate-open, gate-is, opened, open-xrf}
-use Rattle.soundness.specs.Sound.{bit, sumTo, headsRight, restFree, steps, isLive, liveCount, countRight, bodyApart, bodySound, checkAnswer}
+use Rattle.soundness.specs.Sound.{bit, headsRight, restFree, steps, isLive, liveCount, countRight, bodyApart, bodySound, checkAnswer}
 use Rattle.soundness.specs.Recount.{recountAnswer, recountedMst, recountLeaves}
 use Rattle.soundness.specs.Passes.{entriesFine, namedTotal, tallyOf, walkOf, apartOf, countedOf, countedAnswer}
 use Rattle.soundness.specs.declared.check.Apart.{Apart}
@@ -29,6 +29,7 @@ use Rattle.soundness.specs.declared.check.Counted.{Counted}
 use Rattle.soundness.specs.declared.check.Counted.the-variants.{Live, Refused}
 use Rattle.soundness.specs.declared.passes.Tally.{Tally}
 use Rattle.soundness.specs.declared.passes.Tally.the-variants.{Named, Wrong}
+use Rattle.soundness.proofs.Sums.{sum-few}
 use Rattle.soundness.proofs.Counting.{bit-le}
 use Rattle.soundness.proofs.Deciding.{entries-wrong, walk-decides}
 use Rattle.soundness.proofs.PassAnswers.{open-next, open-low, named-parts, wrong-part}
@@ -147,14 +148,9 @@ alike true false body right h = refl
 alike false control body right h = refl
 
 -- no more entries are live than there are MFNs
-sum-few : (n : ℕ) (b : ℕ → Bool) → sumTo n (λ (m : ℕ). bit (b m)) ≤ n
-unfolding sumTo
-sum-few zero b = omega arith
-sum-few (suc n) b = omega (arith, sum-few n b, bit-le (b (suc n)))
-
 pub live-most : (mst xrf : List ℕ) → liveCount (store mst xrf) ≤ nextOf mst - 1
 unfolding liveCount
-live-most mst xrf = sum-few (nextOf mst - 1) (λ (m : ℕ). isLive (entryFor (store mst xrf) m))
+live-most mst xrf = sum-few (nextOf mst - 1) (λ (m : ℕ). bit (isLive (entryFor (store mst xrf) m))) (λ m. bit-le (isLive (entryFor (store mst xrf) m)))
 
 module _ (mst xrf : List ℕ) (c : Counted) (e : c ≡ countedOf (store mst xrf)) where
   refused-parts : (a : Answer) → c ≡ Refused a → (recountAnswer (store mst xrf) ≡ a) × Refusing (recountAnswer (store mst xrf))

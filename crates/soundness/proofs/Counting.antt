@@ -1,7 +1,7 @@
 -- Counting in the place of searching. Each of 1 to n names some addresses, and at each of these its own number is written. So a step can be
 -- named by one number alone, the one that is written there, and the steps that are named are as many as the names that are steps
 -- (`double`). Hence as many steps are named as there are names exactly if each name is a step (`named-all`). Before it, `allTo` and what a
--- loop that tests 1, 2, .. in turn knows; counts over a list; sums over 1 to n.
+-- loop that tests 1, 2, .. in turn knows; counts over a list.
 use Prim.Native.Nat.{ℕ, zero, suc, _+_, _-_, _≤_, _<_}
 use native.Mathlib.Omega.{arith}
 use native.Mathlib.Decide.{ℕ-discrete}
@@ -15,6 +15,7 @@ use Rattle.word.proofs.Tests.{and-iff, false-true}
 use Rattle.soundness.specs.Sound.{bit, sumTo, allTo, elem}
 use Rattle.soundness.specs.Passes.{count}
 use Rattle.soundness.proofs.Stepping.{Ascends}
+use Rattle.soundness.proofs.Sums.{sum-none, sum-add, sum-one, sum-equal}
 
 -- ---- each of 1 to n
 
@@ -165,55 +166,6 @@ count-every p (x ∷ xs) = go (p x) (count-every p xs)
         rw (e, eqb·suc-suc) ih
     go false ih = ne-eqb (0 + count p xs) (suc (length xs)) (λ e. omega (arith, count-le p xs))
 
--- ---- sums over 1 to n
-
-sumTo-none : (n : ℕ) (f : ℕ → ℕ) → ((m : ℕ) → 1 ≤ m → m ≤ n → f m ≡ 0) → sumTo n f ≡ 0
-unfolding sumTo
-sumTo-none zero f h = refl
-sumTo-none (suc n) f h = omega (arith, sumTo-none n f (λ m lo hi. h m lo (omega arith)), h (suc n) (omega arith) (omega arith))
-
-sumTo-add : (n : ℕ) (f g h : ℕ → ℕ) → ((m : ℕ) → f m ≡ g m + h m) → sumTo n f ≡ sumTo n g + sumTo n h
-unfolding sumTo
-sumTo-add zero f g h e = refl
-sumTo-add (suc n) f g h e = omega (arith, sumTo-add n f g h e, e (suc n))
-
--- all but k give 0
-sumTo-one : (n : ℕ) (f : ℕ → ℕ) (k : ℕ) → 1 ≤ k → k ≤ n → ((m : ℕ) → 1 ≤ m → m ≤ n → (m ≡ k → ⊥) → f m ≡ 0) → sumTo n f ≡ f k
-unfolding sumTo
-sumTo-one zero f k lo hi h = absurd (omega arith)
-sumTo-one (suc n) f k lo hi h = go (ℕ-discrete k (suc n)) (λ l. sumTo-one n f k lo l (λ m a b. h m a (omega arith)))
-  where
-    go : Dec (k ≡ suc n) → (k ≤ n → sumTo n f ≡ f k) → sumTo n f + f (suc n) ≡ f k
-    go (yes q) ih = rw q (omega (arith, sumTo-none n f (λ m a b. h m a (omega arith) (λ e. omega arith))))
-    go (no d) ih = omega (arith, ih (omega arith), h (suc n) (omega arith) (omega arith) (λ e. d (sym e)))
-
-module _ (f g : ℕ → ℕ) (le : (m : ℕ) → f m ≤ g m) where
-  sumTo-le : (n : ℕ) → sumTo n f ≤ sumTo n g
-  unfolding sumTo
-  sumTo-le zero = omega arith
-  sumTo-le (suc n) = omega (arith, sumTo-le n, le (suc n))
-
-  -- two sums are equal exactly if their parts are
-  sumTo-equal : (n : ℕ) → eqb (sumTo n f) (sumTo n g) ≡ allTo n (λ (m : ℕ). eqb (f m) (g m))
-  unfolding sumTo allTo
-  sumTo-equal zero = refl
-  sumTo-equal (suc n) = rw (← sumTo-equal n) (parts (sumTo n f) (f (suc n)) (sumTo n g) (g (suc n)) (sumTo-le n) (le (suc n)))
-    where
-      parts : (a b c d : ℕ) → a ≤ c → b ≤ d → eqb (a + b) (c + d) ≡ (eqb a c && eqb b d)
-      parts a b c d h k = go (eqb a c) refl (eqb b d) refl
-        where
-          go : (s : Bool) → eqb a c ≡ s → (t : Bool) → eqb b d ≡ t → eqb (a + b) (c + d) ≡ (s && t)
-          go true p true q = eq-eqb (a + b) (c + d) (omega (arith, eqb-true a c p, eqb-true b d q))
-          go true p false q = ne-eqb (a + b) (c + d) (λ e. eqb-false b d q (omega arith))
-          go false p t q = ne-eqb (a + b) (c + d) (λ e. eqb-false a c p (omega arith))
-
-pub sumTo-more : (n : ℕ) (f : ℕ → ℕ) → 1 ≤ n → sumTo (n + 1 - 1) f ≡ sumTo (n - 1) f + f n
-unfolding sumTo
-sumTo-more n f lo =
-    let e : n + 1 - 1 ≡ suc (n - 1) = omega arith in
-    let s : suc (n - 1) ≡ n = omega arith in
-    rw e (rw s refl)
-
 -- ---- names
 
 -- each of 1 to n, which are those known, names some addresses, none twice, and at each of them its own number is written
@@ -245,21 +197,21 @@ module _ (n : ℕ) (known : ℕ → Bool) (names : ℕ → List ℕ) (written : 
       go : (t : Bool) → known (written x) ≡ t → sumTo n (λ (m : ℕ). count (λ (a : ℕ). eqb a x) (names m)) ≡ bit (t && elem x (names (written x)))
       go true e =
           let r = w .outside (written x) e in
-          sumTo-one n (λ (m : ℕ). count (λ (a : ℕ). eqb a x) (names m)) (written x) (r .0) (r .1) (not-other x)
+          sum-one n (λ (m : ℕ). count (λ (a : ℕ). eqb a x) (names m)) (written x) (r .0) (r .1) (not-other x)
           ∙ count-once (names (written x)) x (w .once (written x) (r .0) (r .1))
       go false e =
-          sumTo-none n (λ (m : ℕ). count (λ (a : ℕ). eqb a x) (names m))
+          sum-none n (λ (m : ℕ). count (λ (a : ℕ). eqb a x) (names m))
           (λ m lo hi. not-other x m lo hi (λ q. false-true (sym e ∙ ap known (sym q) ∙ w .inside m lo hi)))
 
   -- the steps that are named are as many as the names that are steps
   double : (l : List ℕ) → Once l → count (hitBy known names written) l ≡ sumTo n (λ (m : ℕ). count (λ (a : ℕ). elem a l) (names m))
   unfolding count elem
-  double [] o = sym (sumTo-none n (λ (m : ℕ). count (λ (a : ℕ). false) (names m)) (λ m lo hi. count-none (λ (a : ℕ). false) (names m) (λ a. refl)))
+  double [] o = sym (sum-none n (λ (m : ℕ). count (λ (a : ℕ). false) (names m)) (λ m lo hi. count-none (λ (a : ℕ). false) (names m) (λ a. refl)))
   double (x ∷ xs) o =
       ap (λ (k : ℕ). k + count (hitBy known names written) xs) (sym (hits-one x))
       ∙ ap (λ (k : ℕ). sumTo n (λ (m : ℕ). count (λ (a : ℕ). eqb a x) (names m)) + k) (double xs (o .1))
       ∙ sym
-      (sumTo-add n (λ (m : ℕ). count (λ (a : ℕ). eqb a x || elem a xs) (names m)) (λ (m : ℕ). count (λ (a : ℕ). eqb a x) (names m))
+      (sum-add n (λ (m : ℕ). count (λ (a : ℕ). eqb a x || elem a xs) (names m)) (λ (m : ℕ). count (λ (a : ℕ). eqb a x) (names m))
       (λ (m : ℕ). count (λ (a : ℕ). elem a xs) (names m))
       (λ m.
       count-add (λ (a : ℕ). eqb a x || elem a xs) (λ (a : ℕ). eqb a x) (λ (a : ℕ). elem a xs) (names m)
@@ -270,6 +222,6 @@ module _ (n : ℕ) (known : ℕ → Bool) (names : ℕ → List ℕ) (written : 
       → eqb (count (hitBy known names written) l) (sumTo n (λ (m : ℕ). length (names m))) ≡ allTo n (λ (m : ℕ). every (λ (a : ℕ). elem a l) (names m))
   named-all l o =
       ap (λ (k : ℕ). eqb k (sumTo n (λ (m : ℕ). length (names m)))) (double l o)
-      ∙ sumTo-equal (λ (m : ℕ). count (λ (a : ℕ). elem a l) (names m)) (λ (m : ℕ). length (names m)) (λ m. count-le (λ (a : ℕ). elem a l) (names m)) n
+      ∙ sum-equal (λ (m : ℕ). count (λ (a : ℕ). elem a l) (names m)) (λ (m : ℕ). length (names m)) (λ m. count-le (λ (a : ℕ). elem a l) (names m)) n
       ∙ allTo-same n (λ (m : ℕ). eqb (count (λ (a : ℕ). elem a l) (names m)) (length (names m))) (λ (m : ℕ). every (λ (a : ℕ). elem a l) (names m))
       (λ m lo hi. count-every (λ (a : ℕ). elem a l) (names m))

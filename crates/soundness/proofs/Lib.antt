@@ -1,5 +1,6 @@
 pub mod Stepping
 pub mod SoundEntries
+pub mod Sums
 pub mod Counting
 pub mod Deciding
 pub mod Moves

@@ -1,4 +1,4 @@
--- RECCNT and the number of live entries. One law says how a sum over 1 to n changes where one summand does (`sum-other`); so a call that sets one
+-- RECCNT and the number of live entries. A sum changes where one summand does by what that does (`Sums.sum-other`); so a call that sets one
 -- entry, or adds one, changes the number of live entries by what it does to that entry, and each call writes RECCNT by as much. On a sound store
 -- RECCNT is below 2,147,483,647, and above 0 where an entry is live, so that it bars no call there.
 use Prim.Native.Nat.{ℕ, zero, suc, _+_, _-_, _≤_, _<_}
@@ -27,36 +27,10 @@ use Rattle.store.specs.Store.{store}
 use Rattle.versions.specs.Written.{appended, createdMst, versionLeader, versionAppended, versionInPlace, updateAppends, updatedMst, deletedMst, settledMst, revertedMst}
 use Rattle.soundness.specs.Sound.{bit, sumTo, isLive, liveCount}
 use Rattle.soundness.proofs.Stepping.{member-facts}
+use Rattle.soundness.proofs.Sums.{sum-same, sum-other, sum-least}
 use Rattle.soundness.proofs.SoundEntries.{Sound, at-stands}
 use Rattle.soundness.proofs.Leaving.{Leaves}
 use Rattle.soundness.proofs.CheckAnswers.{live-most}
-
--- ---- a sum over 1 to n
-
-pub sum-same : (n : ℕ) (f g : ℕ → ℕ) → ((m : ℕ) → 1 ≤ m → m ≤ n → f m ≡ g m) → sumTo n f ≡ sumTo n g
-unfolding sumTo
-sum-same zero f g h = refl
-sum-same (suc n) f g h = rw (sum-same n f g (λ m lo hi. h m lo (omega arith)), h (suc n) (omega arith) (omega arith))
-
--- THE LAW: one summand is another
-pub sum-other : (n : ℕ) (f g : ℕ → ℕ) (k : ℕ) → 1 ≤ k → k ≤ n → ((m : ℕ) → 1 ≤ m → m ≤ n → (m ≡ k → ⊥) → f m ≡ g m) → sumTo n f + g k ≡ sumTo n g + f k
-unfolding sumTo
-sum-other zero f g k lo hi h = absurd (omega arith)
-sum-other (suc n) f g k lo hi h = go (ℕ-discrete k (suc n)) (λ l. sum-other n f g k lo l (λ m a b ne. h m a (omega arith) ne))
-  where
-    go : Dec (k ≡ suc n) → (k ≤ n → sumTo n f + g k ≡ sumTo n g + f k) → sumTo n f + f (suc n) + g k ≡ sumTo n g + g (suc n) + f k
-    go (yes q) ih = rw q (omega (arith, sum-same n f g (λ m a b. h m a (omega arith) (λ e. omega arith))))
-    go (no ne) ih = omega (arith, ih (omega arith), h (suc n) (omega arith) (omega arith) (λ e. ne (sym e)))
-
--- a sum is at least each summand
-sum-least : (n : ℕ) (f : ℕ → ℕ) (k : ℕ) → 1 ≤ k → k ≤ n → f k ≤ sumTo n f
-unfolding sumTo
-sum-least zero f k lo hi = absurd (omega arith)
-sum-least (suc n) f k lo hi = go (ℕ-discrete k (suc n)) (sum-least n f k lo)
-  where
-    go : Dec (k ≡ suc n) → (k ≤ n → f k ≤ sumTo n f) → f k ≤ sumTo n f + f (suc n)
-    go (yes q) ih = rw q (omega arith)
-    go (no ne) ih = omega (arith, ih (omega arith))
 
 -- ---- the number of live entries
 

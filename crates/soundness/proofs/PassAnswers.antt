@@ -44,7 +44,8 @@ use Rattle.soundness.specs.Passes.{count, namesOf, entryFine, entriesFin
 use Rattle.soundness.specs.declared.passes.Tally.{Tally}
 use Rattle.soundness.specs.declared.passes.Tally.the-variants.{Named, Wrong}
 use Rattle.soundness.proofs.Stepping.{next-up, next-near, steps-more, steps-end, arrives-more, arrives-end}
-use Rattle.soundness.proofs.Counting.{Passed, passed-before, passed-none, passed-more, passed-fails, passed-done, bit-le, sumTo-more}
+use Rattle.soundness.proofs.Sums.{sum-more}
+use Rattle.soundness.proofs.Counting.{Passed, passed-before, passed-none, passed-more, passed-fails, passed-done, bit-le}
 use Rattle.soundness.proofs.Deciding.{entry-fine}
 use Rattle.store.specs.Store.{store}
 
@@ -242,8 +243,8 @@ module _ (mst xrf : List ℕ) where
 
       pub tally-more : (named live : ℕ) → 1 ≤ m → Tallied mst xrf m named live → Tallied mst xrf (m + 1) (named + n) (live + v)
       tally-more named live lo w =
-          let t = sumTo-more m (λ (i : ℕ). bit (isLive (entryFor (store mst xrf) i))) lo in
-          let s = sumTo-more m (λ (i : ℕ). length (namesOf mst (entryFor (store mst xrf) i))) lo in
+          let t = sum-more m (λ (i : ℕ). bit (isLive (entryFor (store mst xrf) i))) lo in
+          let s = sum-more m (λ (i : ℕ). length (namesOf mst (entryFor (store mst xrf) i))) lo in
           record {
             fine = passed-more (λ (i : ℕ). entryFine mst i (entryFor (store mst xrf) i)) m lo (w .fine) (parts .0);
             named-is = omega (arith, w .named-is, parts .1, s);

@@ -22,7 +22,7 @@ use Rattle.soundness.specs.Recount.{recountAnswer, recountedMst, recount
 use Rattle.soundness.proofs.SoundEntries.{Sound, apart-stands, stands-counted, sound, sound-apart, stands}
 use Rattle.soundness.proofs.Recounting.{control-in, count-entry, count-sound}
 use Rattle.soundness.proofs.CheckAnswers.{live-most}
-use Rattle.soundness.proofs.Live.{sum-same}
+use Rattle.soundness.proofs.Sums.{sum-same}
 
 -- the number of live entries does not depend on RECCNT
 pub count-live : {mst xrf : List ℕ} (s : Sound mst xrf) (z : ℤ) → liveCount (store (withCount mst z) xrf) ≡ liveCount (store mst xrf)
