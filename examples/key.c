@@ -112,7 +112,7 @@ static uint32_t show_state(uint32_t mfn)
     return answer;
 }
 
-/* Prints RECCNT: how many records are neither deleted nor physically deleted, least significant byte first. */
+/* Prints RECCNT, how many records are neither deleted nor physically deleted: four bytes, the least significant first. */
 static uint32_t show_count(void)
 {
     const uint8_t *at = mst + ISIS_RECCNT_AT;
@@ -358,10 +358,13 @@ int main(void)
     if (report("migrate again: it is not old", isis_migrate(mst, sizeof mst, xrf, sizeof xrf)) != ISIS_BAD_CONTROL)
         failed = 1;
 
-    /* A card as it was written before isis.h 4.0: RECCNT holds anything. It is sound apart from
-     * that, so it can be used; firmware that meets a 14 from isis_check may try this first. */
-    mst[ISIS_RECCNT_AT] = 7;
+    /* A card that was formatted before isis.h 4.0: RECCNT is 0. It is sound apart from that, so it
+     * can be read and written, but nothing can be deleted (2); firmware that meets a 14 from
+     * isis_check may try this first. */
+    mst[ISIS_RECCNT_AT] = 0;
     if (report("check a card that was not counted", isis_check(mst, sizeof mst, xrf, sizeof xrf)) != ISIS_NOT_SOUND)
+        failed = 1;
+    if (report("delete a record of it", isis_delete(mst, sizeof mst, xrf, sizeof xrf, mfn)) != ISIS_BAD_CONTROL)
         failed = 1;
     failed |= report("count its records", isis_recount(mst, sizeof mst, xrf, sizeof xrf));
     if (show_count() != 1)

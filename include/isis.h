@@ -18,11 +18,12 @@
  *
  * Bytes 16 to 19 of the control record (RECCNT, a signed number) hold how many records
  * are there that are neither deleted nor physically deleted, as the desktop's statistics
- * page reads it. isis_create, isis_delete and isis_revert keep it. Cards written before
- * isis.h 4.0 have anything there; isis_recount writes it, and until then isis_check
- * answers 14 where it is wrong. No other function compares it with the records: each
- * does its work whatever stands there, but for the numbers that leave no room for one
- * more or one less, see isis_create, isis_delete and isis_revert.
+ * page reads it. isis_create, isis_delete and isis_revert keep it. A card that was
+ * formatted before isis.h 4.0 holds 0 there, others may hold anything; isis_recount
+ * writes it, and until then isis_check answers 14 where it is wrong. No other function
+ * compares it with the records: each does its work whatever stands there, but for the
+ * numbers that leave no room for one more or one less, see isis_create, isis_delete and
+ * isis_revert. So isis_delete answers 2 to a card that holds 0 until it is recounted.
  *
  * Every function may be called on any bytes with any arguments; it stays inside
  * what it is lent and always ends. C's own rules are all that is asked for:
@@ -314,8 +315,8 @@ uint32_t isis_migrate(uint8_t *mst, isis_size mst_len, uint8_t *xrf, isis_size x
 /*
  * Writes RECCNT of a card that did not keep it: the number of records whose entry is
  * neither deleted nor physically deleted. Answers 0, 1, 2 or 14, the last where the
- * store is not sound apart from RECCNT; what RECCNT holds never refuses it. Afterwards
- * the card is sound. A card that is sound stays as it is, byte by byte.
+ * store is not sound apart from RECCNT; what RECCNT holds never refuses it. Where it
+ * answers 0 the card is sound then; one that was sound stays as it is, byte by byte.
  * Touches bytes 16 to 19 of the MST, and nothing of the XRF.
  */
 uint32_t isis_recount(uint8_t *mst, isis_size mst_len, uint8_t *xrf, isis_size xrf_len);

@@ -281,7 +281,13 @@ fn acts() {
             list(changed);
         }],
     );
-    report("revert", &mut [&mut || call(raw::isis_revert, changed, 4)]);
+    // MFN 2 of the settled card was deleted above, and is brought back.
+    report(
+        "revert",
+        &mut [&mut || call(raw::isis_revert, changed, 4), &mut || {
+            call(raw::isis_revert, settled, 2)
+        }],
+    );
     let mut format = || {
         // SAFETY: as in `reading`.
         black_box(unsafe { raw::isis_format(new.0, new.1, new.2, new.3) });

@@ -3,7 +3,7 @@
  *
  * The linker puts these in the place of isis_check, isis_create, isis_delete, isis_revert,
  * isis_recount, isis_view, isis_field, isis_lookup, isis_postings and isis_record_test (--wrap).
- * Each makes the call and then does what WRONG names.
+ * Each makes the call and does what WRONG names: behind the call, or in its place.
  */
 #include "isis.h"
 

@@ -26,8 +26,8 @@ pub fn recount(mut arguments: Arguments) -> Result<(), Trouble> {
     })
 }
 
-/// Recounts; gives the number before and after. On a card that lets a person ask what comes next
-/// there is such a number.
+/// Recounts; gives the number before and after. `next` is refused by 1 and 2, so behind it the
+/// four bytes are there.
 fn counted(card: &mut Card) -> Answer<(i32, i32)> {
     card.next()?;
     let before = long(card.mst(), RECCNT);
@@ -40,10 +40,15 @@ pub fn of(store: &Store) -> i32 {
     long(store.mst, RECCNT)
 }
 
+/// How many records have an entry that is neither deleted nor gone: what RECCNT should be.
+pub fn live(store: &Store) -> usize {
+    let live = |mfn: &usize| matches!(store.entry(*mfn), Entry::At(place) if !place.deleted);
+    (1..store.next).filter(live).count()
+}
+
 /// That RECCNT is not the number of live records, on a store where all else is right.
 pub fn fault(store: &Store) -> Option<String> {
-    let live = |mfn: &usize| matches!(store.entry(*mfn), Entry::At(place) if !place.deleted);
-    let (found, live) = (of(store), (1..store.next).filter(live).count());
+    let (found, live) = (of(store), live(store));
     (i64::from(found) != live as i64).then(|| {
         let are = if live == 1 {
             "record is"
@@ -62,7 +67,10 @@ pub fn at_an_end(store: &Store) -> String {
     let found = of(store);
     let why = match found {
         i32::MAX => "the greatest number there is",
-        _ => "so that no record is left to be deleted",
+        _ => "which leaves no record to delete",
     };
-    format!("RECCNT (MST byte {RECCNT}) is {found}, {why}; {RECOUNT} writes the right one")
+    format!(
+        "RECCNT (MST byte {RECCNT}) is {found}, {why}; where all else is sound, {RECOUNT} writes \
+         the right one"
+    )
 }

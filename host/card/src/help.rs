@@ -200,12 +200,12 @@ pub const VERBS: [Verb; 16] = [
         run: count::recount,
         on: CARD,
         forms: &[("", "write how many records there are")],
-        more: "RECCNT, MST bytes 16 to 19, is how many records are neither deleted nor gone, as the statistics of\n\
-               desktop programs read it. Every command keeps it; cards of earlier versions have anything there,\n\
-               and 'card check' says so. A recount writes it, tells the number before and after, and changes\n\
-               nothing else. It is refused (14) where something else keeps the card from being sound. Until then\n\
-               all other commands work, but that 'card create' and 'card revert' are refused (2) at 2147483647,\n\
-               and 'card delete' at 0 or below.\n",
+        more: "RECCNT, MST bytes 16 to 19, is how many records are neither deleted nor gone, as the desktop's\n\
+               statistics page reads it. Every command keeps it. A card that was formatted by an earlier version\n\
+               holds 0 there, others may hold anything; 'card check' (14) and 'card stat' say so. A recount\n\
+               writes it, tells the number before and after, and changes nothing else. It is refused (14) where\n\
+               something else keeps the card from being sound. As long as it is not recounted, 'card delete' is\n\
+               refused (2) at 0 or below, and 'card create' and 'card revert' are at 2147483647; all else works.\n",
         refusals: &[1, 2, 14],
     },
     Verb {

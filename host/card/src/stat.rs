@@ -53,11 +53,15 @@ fn records(counts: Counts, store: &Store) -> String {
     text
 }
 
-/// RECCNT, where it is not the number of live records.
+/// RECCNT, where it is not what the entries say; they count malformed records too.
 fn reccnt(counts: Counts, store: &Store) -> String {
-    match count::of(store) {
-        found if i64::from(found) == counts.live as i64 => String::new(),
-        found => format!(", and RECCNT is {found}"),
+    let (found, expected) = (count::of(store), count::live(store));
+    if i64::from(found) == expected as i64 {
+        String::new()
+    } else if expected == counts.live {
+        format!(", and RECCNT is {found}")
+    } else {
+        format!(", and RECCNT is {found}, {expected} was expected")
     }
 }
 

@@ -3,6 +3,7 @@
 
 mod folder;
 use folder::Folder;
+use model::lists::PLANTED;
 
 /// MFN 1 settled, then changed; 2 new; 3 new and deleted. So two are live.
 fn card(name: &str) -> Folder {
@@ -23,9 +24,6 @@ fn plant(folder: &Folder, count: i32) {
 fn count(folder: &Folder) -> i32 {
     i32::from_le_bytes(folder.read("a.mst")[16..20].try_into().unwrap())
 }
-
-/// The numbers at which something changes, and those beside them.
-const PLANTED: [i32; 6] = [-1, 0, 1, i32::MAX - 1, i32::MAX, i32::MIN];
 
 #[test]
 fn every_command_keeps_the_number() {
@@ -146,6 +144,23 @@ fn a_card_that_is_not_sound_is_not_recounted() {
     folder.refused("recount a.mst a.xrf 1", 64, "'1' is one word too many");
 }
 
+/// The entry of a malformed record is neither deleted nor gone, so it counts in RECCNT, and the
+/// statistics show no difference where there is none.
+#[test]
+fn a_malformed_record_is_counted_in_reccnt() {
+    let folder = card("recount-malformed");
+    folder.damage("a.mst", 64 + 28 + 12, &[25]);
+    for (found, live) in [
+        (2, "  live    1\n"),
+        (1, "  live    1, and RECCNT is 1, 2 was expected\n"),
+    ] {
+        plant(&folder, found);
+        let stat = folder.card("stat a.mst a.xrf");
+        assert!(stat.status == 14 && stat.out.contains(live), "{stat:?}");
+        assert!(stat.out.contains("  malformed 1\n"), "{stat:?}");
+    }
+}
+
 /// An old card is migrated first, whatever RECCNT is; the check then says what is left to do.
 #[test]
 fn an_old_card_is_migrated_and_then_recounted() {
@@ -171,7 +186,7 @@ fn the_ends_of_the_number_are_told() {
     let said = |found: i32, why: &str| {
         format!(
             "card: refused, answer 2: the control record is not right: a.mst: RECCNT (MST byte 16) \
-             is {found}, {why}; 'card recount MST XRF' writes the right one\n"
+             is {found}, {why}; where all else is sound, 'card recount MST XRF' writes the right one\n"
         )
     };
     plant(&folder, i32::MAX);
@@ -185,7 +200,7 @@ fn the_ends_of_the_number_are_told() {
     }
     for found in [0, -1, i32::MIN] {
         plant(&folder, found);
-        let none = said(found, "so that no record is left to be deleted");
+        let none = said(found, "which leaves no record to delete");
         folder.refused("delete a.mst a.xrf 1", 2, &none);
         folder.refused("delete a.mst a.xrf 3", 9, "answer 9: the record is deleted");
         folder.refused("delete a.mst a.xrf 9", 4, "MFNs 1 to 3 are given out");

@@ -6,12 +6,9 @@ use crate::families::{Family, any_call, rubbish};
 use crate::trial::{Run, Step};
 use model::call::Call;
 use model::layout::{BLOCK, Control, Entry, PER_BLOCK, Place, RECCNT, lengths_permitted, slot_at};
-use model::lists::Taste;
+use model::lists::{PLANTED, Taste};
 use model::random::Random;
-use model::sound;
-
-/// The numbers at which RECCNT makes a difference, and those beside them.
-pub const PLANTED: [i32; 6] = [-1, 0, 1, i32::MAX - 1, i32::MAX, i32::MIN];
+use model::{sound, store};
 
 /// Cards made by a list from format and then damaged again and again; most damage is
 /// repaired after some calls, so that the next one is met on a card that is else sound.
@@ -61,12 +58,12 @@ fn damage(random: &mut Random, run: &Run) -> (Step, Option<Step>) {
     let (mst, xrf) = run.card();
     let (in_xrf, at, bytes) = match random.below(16) {
         0 => control_damage(random, mst),
-        13..=15 => planted(random, run),
         1 => first_integer_damage(random, xrf),
         2..=5 => entry_damage(random, run),
         6..=9 => leader_damage(random, run),
         10 => directory_damage(random, run),
         11 => made_old(mst),
+        13..=15 => planted(random, run),
         _ => {
             let in_xrf = random.one_in(3);
             let at = random.below(if in_xrf { xrf.len() } else { mst.len() });
@@ -146,10 +143,7 @@ pub fn planted(random: &mut Random, run: &Run) -> Poke {
 
 /// The number that RECCNT should hold; 0 if the control record is not right.
 pub fn live(mst: &[u8], xrf: &[u8]) -> i32 {
-    if !lengths_permitted(mst.len(), xrf.len()) {
-        return 0;
-    }
-    Control::read(mst, xrf.len()).map_or(0, |control| sound::live(xrf, control) as i32)
+    store::gate(mst, xrf).map_or(0, |control| sound::live(xrf, control) as i32)
 }
 
 /// No damage: the card as the old rule has it, NXTMFP one less.

@@ -1,11 +1,11 @@
 //! Random cards: any bytes, any length, and often just enough order in them that a call
 //! goes on to the record.
 
-use crate::damage::{PLANTED, live, near};
+use crate::damage::{live, near};
 use crate::families::Family;
 use crate::trial::{Run, Step};
 use model::layout::{BLOCK, Control, PER_BLOCK, lengths_permitted, put_reccnt, slot_at};
-use model::lists::{self, Taste};
+use model::lists::{self, PLANTED, Taste};
 use model::random::Random;
 
 /// Cards of random bytes and any length, some with a control record and block numbers

@@ -6,8 +6,9 @@
 //! it, and 61 of the 62 records are read, as Biblio::Isis reads them. The one left was deleted
 //! by WinISIS, which negates the whole entry where document 01 negates the block. Four of the
 //! five stores are not sound: in three the first version, out of date, has a negative MFRL, in
-//! one a record was shortened in place; the fifth is empty. With NXTMFP one less each is a card
-//! of the old rule, which a migration makes what it was, byte for byte.
+//! one a record was shortened in place; the fifth is empty. RECCNT is 0 in all, so that none of
+//! their records can be deleted. With NXTMFP one less each is a card of the old rule, which a
+//! migration makes what it was, byte for byte.
 
 use differential::archive::Archive;
 use differential::biblio::{Asked, Fields, lines, read};
@@ -16,6 +17,7 @@ use differential::tally::Tally;
 use differential::trial::{Run, Step, Trial};
 use isis::{Card, Refusal};
 use model::call::{Call, OwnedDraft, on_bytes};
+use model::layout::reccnt;
 use std::fs;
 use std::path::Path;
 
@@ -250,4 +252,26 @@ fn the_whole_check_finds_four_of_five_not_sound() {
         let number = checked.map_or_else(Refusal::number, |()| 0);
         assert_eq!(number, desktop.check, "{}", desktop.files[0]);
     }
+}
+
+/// So a recount is refused where the check is, and no live record can be deleted: 2, also where
+/// there would be no room for the copy.
+#[test]
+fn reccnt_is_0_in_all_of_them() {
+    let mut barred = 0;
+    for desktop in &DESKTOP {
+        let Some((mut mst, mut xrf)) = desktop.bytes() else {
+            return;
+        };
+        let file = desktop.files[0];
+        assert_eq!(reccnt(&mst), 0, "{file}");
+        let mut card = Card::over(&mut mst, &mut xrf);
+        let recounted = card.recount().map_or_else(Refusal::number, |()| 0);
+        assert_eq!(recounted, desktop.check, "{file}");
+        for mfn in (1..=desktop.records).filter(|mfn| (file, *mfn) != (DELETED.0, DELETED.1)) {
+            assert_eq!(card.delete(mfn), Err(Refusal::BadControl), "{file}: {mfn}");
+            barred += 1;
+        }
+    }
+    assert_eq!(barred, 61);
 }

@@ -3,11 +3,12 @@
 //! outside a buffer must end the program with the seed printed.
 
 use differential::archive::{Given, Subject};
-use differential::damage::Damaged;
+use differential::damage::{Damaged, live};
 use differential::families::{Family, FromFormat, Hostile, Planted, drive_subject};
 use differential::guarded::{Area, Side, at_work, report_hits};
+use model::bytes::i32_at;
 use model::call::{Call, on_bytes};
-use model::layout::{Control, put_reccnt, reccnt};
+use model::layout::{Control, put_reccnt, reccnt, slot_at};
 use model::sound;
 use std::process::Command;
 
@@ -725,8 +726,7 @@ fn a_check_that_does_not_ask_for_reccnt() {
 fn a_check_that_asks_only_for_enough() {
     found(&mut Planted::default(), 3, |_, seen| {
         if *seen.call == Call::Check && seen.given.number == 14 && apart(seen) {
-            let control = Control::read(seen.mst, seen.xrf.len()).unwrap();
-            let live = sound::live(seen.xrf, control) as i32;
+            let live = live(seen.mst, seen.xrf);
             seen.given.number = if reccnt(seen.mst) >= live { 0 } else { 14 };
         }
     });
@@ -747,10 +747,7 @@ fn a_check_that_compares_two_bytes_of_reccnt() {
 fn recounted_with(seen: &mut Seen, counts: fn(i32) -> bool) {
     if *seen.call == Call::Recount && seen.given.number == 0 {
         let next = Control::read(seen.mst, seen.xrf.len()).unwrap().next_mfn;
-        let entry = |mfn: &usize| {
-            let at = model::layout::slot_at(*mfn);
-            i32::from_le_bytes(seen.xrf[at..at + 4].try_into().unwrap())
-        };
+        let entry = |mfn: &usize| i32_at(seen.xrf, slot_at(*mfn));
         let more = (1..next).filter(|mfn| counts(entry(mfn))).count();
         count_on(seen, more as i32);
     }
@@ -771,7 +768,7 @@ fn a_recount_that_counts_gone_records() {
 }
 
 #[test]
-fn a_recount_that_counts_settled_deletions_only_as_deleted() {
+fn a_recount_that_counts_pending_deletions() {
     found(&mut FromFormat::new(), 4, |_, seen| {
         recounted_with(seen, |entry| entry < 0 && entry.rem_euclid(2048) >= 512);
     });
@@ -820,15 +817,14 @@ fn a_recount_that_is_refused_where_the_check_is() {
 fn a_recount_of_a_store_that_is_not_sound() {
     found(&mut Damaged::default(), 8, |_, seen| {
         if *seen.call == Call::Recount && seen.given.number == 14 {
-            let control = Control::read(seen.mst, seen.xrf.len()).unwrap();
-            put_reccnt(seen.mst, sound::live(seen.xrf, control) as i32);
+            put_reccnt(seen.mst, live(seen.mst, seen.xrf));
             seen.given.number = 0;
         }
     });
 }
 
 #[test]
-fn a_recount_that_writes_eight_bytes() {
+fn a_recount_that_writes_a_byte_more() {
     found(&mut FromFormat::new(), 2, |_, seen| {
         if *seen.call == Call::Recount {
             seen.mst[20] = 1;
@@ -841,8 +837,9 @@ fn a_recount_of_an_old_card() {
     found(&mut Damaged::default(), 4, |_, seen| {
         if *seen.call == Call::Recount
             && seen.given.number == 2
-            && Control::read_old(seen.mst, seen.xrf.len()).is_ok()
+            && let Ok(control) = Control::read_old(seen.mst, seen.xrf.len())
         {
+            put_reccnt(seen.mst, sound::live(seen.xrf, control) as i32);
             seen.given.number = 0;
         }
     });
@@ -867,7 +864,7 @@ fn a_migration_that_recounts() {
     });
 }
 
-/// Not a number of the table: the lowest one that applies is 4 to 9.
+/// Where one of 4 to 9 applies, RECCNT is no reason for 2.
 #[test]
 fn a_delete_whose_2_comes_before_4_to_9() {
     found(&mut Planted::default(), 3, |_, seen| {

@@ -5,14 +5,14 @@
 //! each makes of it, and that a recount writes nothing else.
 
 use differential::archive::{Archive, Subject};
-use differential::damage::PLANTED;
 use differential::families::said;
 use differential::guarded::{Side, report_hits};
 use differential::tally::Tally;
 use differential::trial::{Run, Step, Trial};
 use isis::Card;
 use model::call::{Call, OwnedDraft, on_bytes};
-use model::layout::slot_at;
+use model::layout::{put_reccnt, reccnt, slot_at};
+use model::lists::PLANTED;
 
 /// Both files of a card.
 type Files = (Vec<u8>, Vec<u8>);
@@ -26,8 +26,8 @@ const LIVE: i32 = 4;
 
 /// MFN 1 and 2 new, 3 settled, 4 changed; 5 changed and deleted, 6 new and deleted, 7 deleted
 /// and settled, 8 gone.
-fn card(mst_blocks: usize) -> Files {
-    let (mut mst, mut xrf) = (vec![0; 512 * mst_blocks], vec![0; 512]);
+fn card() -> Files {
+    let (mut mst, mut xrf) = (vec![0; 4 * 512], vec![0; 512]);
     let mut calls = vec![Call::Format];
     calls.extend((1..=8).map(|_| Call::Create(title("Kite"))));
     calls.extend([3, 4, 5, 7, 8].map(Call::Settle));
@@ -39,18 +39,10 @@ fn card(mst_blocks: usize) -> Files {
         assert_eq!(outcome.number, 0, "{call:?}");
     }
     xrf[slot_at(8)..][..4].copy_from_slice(&(-2048i32).to_le_bytes());
-    plant(&mut mst, LIVE);
+    put_reccnt(&mut mst, LIVE);
     let (outcome, _) = on_bytes(&mut mst, &mut xrf, &Call::Check);
     assert_eq!(outcome.number, 0);
     (mst, xrf)
-}
-
-fn plant(mst: &mut [u8], count: i32) {
-    mst[16..20].copy_from_slice(&count.to_le_bytes());
-}
-
-fn count(mst: &[u8]) -> i32 {
-    i32::from_le_bytes(mst[16..20].try_into().unwrap())
 }
 
 /// The planted numbers, the right one, and its neighbours.
@@ -94,10 +86,9 @@ fn calls() -> Vec<Call> {
 /// A card by its name.
 type Named = (&'static str, Files);
 
-/// The card, and the same damaged in one number each; the first ones are sound apart from
-/// RECCNT.
+/// The card, which is sound apart from RECCNT, and the same damaged in one number each.
 fn cards() -> Vec<Named> {
-    let sound = card(4);
+    let sound = card();
     let end = || u16::from_le_bytes([sound.0[12], sound.0[13]]);
     let mut full = sound.clone();
     full.0[8..14].copy_from_slice(&[5, 0, 0, 0, 1, 0]);
@@ -164,7 +155,7 @@ fn every_call_on_every_card_with_every_number() {
     for (name, card) in cards() {
         for count in counts() {
             let mut planted = card.clone();
-            plant(&mut planted.0, count);
+            put_reccnt(&mut planted.0, count);
             let name = format!("{name}, RECCNT {count}");
             for side in [Side::Front, Side::Back] {
                 compare(&name, &planted, side, &calls, &mut tally);
@@ -183,11 +174,11 @@ fn every_call_on_every_card_with_every_number() {
 
 /// What the archive answers to a call on the sound card with a number planted, and what number
 /// stands there afterwards.
-fn with(count_before: i32, blocks: usize, call: &Call) -> (u32, i32) {
-    let (mut mst, mut xrf) = card(blocks);
-    plant(&mut mst, count_before);
+fn with(count: i32, call: &Call) -> (u32, i32) {
+    let (mut mst, mut xrf) = card();
+    put_reccnt(&mut mst, count);
     let given = Archive::new().run(&mut mst, &mut xrf, call, Side::Back);
-    (given.number, count(&mst))
+    (given.number, reccnt(&mst))
 }
 
 /// A create, and the reverts of a live record, of a deleted one, and of none.
@@ -198,20 +189,20 @@ fn one_more_and_its_end() {
         let number = |done: u32| if full { 2 } else { done };
         let more = if full { before } else { before + 1 };
         let create = Call::Create(title("Kites"));
-        assert_eq!(with(before, 4, &create), (number(0), more));
-        assert_eq!(with(before, 4, &Call::Revert(4)), (number(0), before));
-        assert_eq!(with(before, 4, &Call::Revert(5)), (number(0), more));
+        assert_eq!(with(before, &create), (number(0), more));
+        assert_eq!(with(before, &Call::Revert(4)), (number(0), before));
+        assert_eq!(with(before, &Call::Revert(5)), (number(0), more));
         for (mfn, refused) in [(0, 4), (9, 4), (8, 7), (3, 10), (7, 10), (1, 11), (6, 11)] {
-            let given = with(before, 4, &Call::Revert(mfn));
+            let given = with(before, &Call::Revert(mfn));
             assert_eq!(given, (number(refused), before), "MFN {mfn}");
         }
         let bad = OwnedDraft {
             tags: vec![0],
             ..OwnedDraft::default()
         };
-        assert_eq!(with(before, 4, &Call::Create(bad)), (number(3), before));
+        assert_eq!(with(before, &Call::Create(bad)), (number(3), before));
         let long = Call::Create(title(&"k".repeat(2_000)));
-        assert_eq!(with(before, 4, &long), (number(13), before));
+        assert_eq!(with(before, &long), (number(13), before));
     }
 }
 
@@ -222,18 +213,18 @@ fn one_less_and_its_end() {
         let none = before <= 0;
         let done = if none { (2, before) } else { (0, before - 1) };
         for mfn in [1, 2, 3, 4] {
-            assert_eq!(with(before, 4, &Call::Delete(mfn)), done, "MFN {mfn}");
+            assert_eq!(with(before, &Call::Delete(mfn)), done, "MFN {mfn}");
         }
         for (mfn, refused) in [(0, 4), (9, 4), (8, 7), (5, 9), (6, 9), (7, 9)] {
-            let given = with(before, 4, &Call::Delete(mfn));
+            let given = with(before, &Call::Delete(mfn));
             assert_eq!(given, (refused, before), "MFN {mfn}");
         }
-        let (mut mst, mut xrf) = card(4);
-        plant(&mut mst, before);
+        let (mut mst, mut xrf) = card();
+        put_reccnt(&mut mst, before);
         mst[8..14].copy_from_slice(&[5, 0, 0, 0, 1, 0]);
         let copied = Archive::new().run(&mut mst, &mut xrf, &Call::Delete(3), Side::Back);
         assert_eq!(copied.number, if none { 2 } else { 13 });
-        assert_eq!(count(&mst), before);
+        assert_eq!(reccnt(&mst), before);
     }
 }
 
@@ -250,27 +241,27 @@ fn calls_that_leave_it() {
             Call::view(1, 24, 1),
             Call::Next,
         ] {
-            assert_eq!(with(before, 4, &call), (0, before), "{call:?}");
+            assert_eq!(with(before, &call), (0, before), "{call:?}");
         }
         let sound = if before == LIVE { 0 } else { 14 };
-        assert_eq!(with(before, 4, &Call::Check), (sound, before));
-        assert_eq!(with(before, 4, &Call::Migrate), (2, before));
-        assert_eq!(with(before, 4, &Call::Format), (0, 0));
+        assert_eq!(with(before, &Call::Check), (sound, before));
+        assert_eq!(with(before, &Call::Migrate), (2, before));
+        assert_eq!(with(before, &Call::Format), (0, 0));
     }
 }
 
 /// An old card is migrated whatever RECCNT is, and is recounted then.
 #[test]
 fn an_old_card_is_migrated_and_recounted() {
-    let (sound, xrf) = card(4);
+    let (sound, xrf) = card();
     for before in counts() {
         let (mut mst, mut xrf) = (sound.clone(), xrf.clone());
-        plant(&mut mst, before);
+        put_reccnt(&mut mst, before);
         mst[12] -= 1;
         let mut card = Card::over(&mut mst, &mut xrf);
         assert_eq!(card.recount(), Err(isis::Refusal::BadControl));
         assert_eq!(card.migrate(), Ok(()));
-        assert_eq!(count(card.mst()), before);
+        assert_eq!(reccnt(card.mst()), before);
         assert_eq!(card.check().is_ok(), before == LIVE);
         assert_eq!(card.recount(), Ok(()));
         assert_eq!(card.check(), Ok(()));
@@ -282,11 +273,11 @@ fn an_old_card_is_migrated_and_recounted() {
 /// no byte is another, RECCNT included.
 #[test]
 fn a_recount_writes_reccnt_and_nothing_else() {
-    let (sound, _) = card(4);
+    let (sound, _) = card();
     for (name, (mst, xrf)) in cards() {
         for before in counts() {
             let (mut mst, mut xrf_after) = (mst.clone(), xrf.clone());
-            plant(&mut mst, before);
+            put_reccnt(&mut mst, before);
             let kept = mst.clone();
             let given = Archive::new().run(&mut mst, &mut xrf_after, &Call::Recount, Side::Back);
             assert!(xrf_after == xrf, "{name}, RECCNT {before}");
@@ -298,9 +289,9 @@ fn a_recount_writes_reccnt_and_nothing_else() {
     }
 }
 
-/// Every number of two and of four bytes that could be mistaken for another.
+/// One more and one less carry into every byte; a number that differs in a single bit is another.
 #[test]
-fn numbers_that_carry_and_numbers_that_look_right() {
+fn numbers_that_carry_and_numbers_of_one_bit() {
     let edges = [
         0xFF,
         0x7F,
@@ -312,18 +303,16 @@ fn numbers_that_carry_and_numbers_that_look_right() {
     ];
     for edge in edges {
         let create = Call::Create(title("Kites"));
-        assert_eq!(with(edge, 4, &create), (0, edge + 1));
-        assert_eq!(with(edge, 4, &Call::Revert(5)), (0, edge + 1));
-        assert_eq!(with(edge + 1, 4, &Call::Delete(3)), (0, edge));
-        assert_eq!(with(edge + 1, 4, &Call::Delete(1)), (0, edge));
+        assert_eq!(with(edge, &create), (0, edge + 1));
+        assert_eq!(with(edge, &Call::Revert(5)), (0, edge + 1));
+        assert_eq!(with(edge + 1, &Call::Delete(3)), (0, edge));
+        assert_eq!(with(edge + 1, &Call::Delete(1)), (0, edge));
     }
-    assert_eq!(with(-1, 4, &Call::Revert(5)), (0, 0));
-    assert_eq!(with(i32::MIN, 4, &Call::Revert(5)), (0, i32::MIN + 1));
+    assert_eq!(with(-1, &Call::Revert(5)), (0, 0));
+    assert_eq!(with(i32::MIN, &Call::Revert(5)), (0, i32::MIN + 1));
     for shift in 2..32 {
-        let looks_right = LIVE ^ (1 << shift);
-        if looks_right != LIVE {
-            assert_eq!(with(looks_right, 4, &Call::Check).0, 14, "{looks_right}");
-            assert_eq!(with(looks_right, 4, &Call::Recount), (0, LIVE));
-        }
+        let other = LIVE ^ (1 << shift);
+        assert_eq!(with(other, &Call::Check).0, 14, "{other}");
+        assert_eq!(with(other, &Call::Recount), (0, LIVE));
     }
 }

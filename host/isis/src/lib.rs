@@ -174,8 +174,8 @@ impl<'a> Card<'a> {
     }
 
     /// Deletes a record; the deletion is pending, and RECCNT falls by one. A RECCNT of 0 or
-    /// below is [`BadControl`](Refusal::BadControl) where the record could be deleted but for
-    /// the room.
+    /// below is [`BadControl`](Refusal::BadControl) where none of 4 to 9 applies, whether or not
+    /// there is room.
     pub fn delete(&mut self, mfn: u32) -> Answer<()> {
         self.act(raw::isis_delete, mfn)
     }

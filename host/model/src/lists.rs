@@ -8,6 +8,9 @@ use crate::layout::{LAST_TAG, LONGEST};
 use crate::random::Random;
 use crate::store::MOST_SETTLED;
 
+/// The numbers at which RECCNT makes a difference, and those beside them.
+pub const PLANTED: [i32; 6] = [-1, 0, 1, i32::MAX - 1, i32::MAX, i32::MIN];
+
 /// What kind of lists to make.
 #[derive(Clone, Copy, Debug)]
 pub struct Taste {

@@ -27,7 +27,8 @@ fn run(seed: u64, blocks: (usize, usize), taste: Taste, calls: usize) -> BTreeSe
         let call = lists::any_call(&mut random, taste, ledger.next_mfn());
         let before = (call == Call::Recount).then(|| (mst.clone(), xrf.clone()));
         let (outcome, _) = on_bytes(&mut mst, &mut xrf, &call);
-        assert!(before.is_none_or(|before| before == (mst.clone(), xrf.clone())));
+        let kept = before.is_none_or(|(m, x)| m == mst && x == xrf);
+        assert!(kept, "seed {seed}, call {i}: a recount changed a byte");
         let wanted: Outcome = on_ledger(&mut ledger, &call);
         assert_eq!(outcome, wanted, "seed {seed}, call {i}: {call:?}");
         let control = Control::read(&mst, xrf.len()).unwrap();

@@ -10,12 +10,9 @@ use model::Refusal::*;
 use model::call::{Call, on_bytes};
 use model::history::History;
 use model::layout::reccnt;
-use model::lists::{self, Taste};
+use model::lists::{self, PLANTED, Taste};
 use model::random::Random;
 use model::store;
-
-/// Numbers at which something changes, and their neighbours.
-const PLANTED: [i32; 6] = [-1, 0, 1, i32::MAX - 1, i32::MAX, i32::MIN];
 
 /// The bytes of both files that differ.
 fn changed(before: &Card, after: &Card) -> Vec<(&'static str, usize)> {
@@ -96,7 +93,8 @@ fn the_revert_of_a_deletion_carries_into_every_byte_of_reccnt() {
 fn any_create_and_any_revert_at_the_greatest_number_is_2() {
     let mut card = Card::with_changed_kite(2, 1);
     card.put_count(i32::MAX);
-    // 2 comes before 3, 4, 5, 6, 8, 10, 11 and 13.
+    // 2 comes before every number behind it that either gives: 3, 5, 6 and 13, and 4, 6, 7, 8,
+    // 10 and 11.
     assert_eq!(card.create(&[(24, b"Wind")]), Err(Control));
     assert_eq!(card.create_draft(&[0], &[], &[]), Err(Control));
     assert_eq!(card.revert(1), Err(Control));
@@ -107,6 +105,23 @@ fn any_create_and_any_revert_at_the_greatest_number_is_2() {
     card.put_entry(4, 0).put_i32(4, 128).put_end(3, 0);
     assert_eq!(card.create(&[]), Err(Control));
     assert_eq!(card.revert(1), Err(Control));
+    for (count, at_most) in [(0, false), (i32::MAX, true)] {
+        let number = |refusal| Err(if at_most { Control } else { refusal });
+        let mut card = Card::with_kite(2, 1);
+        card.put_count(count);
+        assert_eq!(card.revert(1), number(New));
+        card.put_entry(8, 1);
+        assert_eq!(card.create(&[]), number(Entry).map(|()| 0));
+        card.put_entry(8, 0).put_end(3, 0);
+        assert_eq!(card.create(&[]), number(NoRoom).map(|()| 0));
+        let mut card = Card::with_changed_kite(2, 1);
+        card.put_count(count).put_u16(64 + 12, 23);
+        assert_eq!(card.revert(1), number(Record));
+        card.put_entry(4, -2048);
+        assert_eq!(card.revert(1), number(Gone));
+        card.put_entry(4, 0);
+        assert_eq!(card.revert(1), number(Entry));
+    }
     // 1 comes first.
     let (mut mst, mut xrf) = (card.mst[..1023].to_vec(), card.xrf.clone());
     let draft = model::OwnedDraft::default();

@@ -1,7 +1,6 @@
 //! What is timed does the model's work.
 
 use super::called;
-use differential::damage::PLANTED;
 use differential::guarded::Side;
 use differential::index::cases;
 use differential::index::compare::{Case, Family};
@@ -13,6 +12,7 @@ use model::Refusal;
 use model::ask::{Lists, RUBBISH, Room};
 use model::call::{Call, Outcome, Shown, on_bytes};
 use model::index::{check, lookup};
+use model::lists::PLANTED;
 use model::lists::{self, Taste};
 use model::postings::Place;
 use model::postings::fault::Broken;

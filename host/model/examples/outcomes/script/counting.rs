@@ -3,9 +3,7 @@
 
 use super::card::Card;
 use model::Draft;
-
-/// The numbers at which something changes, and those beside them.
-const PLANTED: [i32; 6] = [-1, 0, 1, i32::MAX - 1, i32::MAX, i32::MIN];
+use model::lists::PLANTED;
 
 pub fn run(card: &mut Card) {
     kept(card);
@@ -155,7 +153,7 @@ fn recounts(card: &mut Card) {
     counted(card, "empty");
 }
 
-/// 14 where something else is wrong, whatever RECCNT is; 2 and 1 before.
+/// 14 where something else is wrong, whatever RECCNT is; 2 before.
 fn refused_recounts(card: &mut Card) {
     for count in [1, 7] {
         let what = |fault: &str| format!("RECCNT {count}, {fault}");
