@@ -167,11 +167,11 @@ pub fn count_none(mst: &[u8]) -> bool
 }
 
 // Whether RECCNT is `n`.
-pub fn count_is(mst: &[u8], n: usize) -> bool
+pub fn count_is(mst: &[u8], n: u32) -> bool
     requires { ⌜ (64 ≤ length (now mst)) × (n ≤ countMost) ⌝ }
     ensures { λ r. ⌜ r ≡ countIs (now (mst .entry)) n ⌝ }
 {
-    u32_at(mst, 16) as usize == n
+    u32_at(mst, 16) == n
 }
 
 // Writes RECCNT.

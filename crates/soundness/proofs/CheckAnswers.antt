@@ -7,7 +7,7 @@ use mathlib.Core.Logic.{⊎-elim}
 use mathlib.Core.Bool.{Bool, true, false, not, _&&_, cond, and-false}
 use mathlib.Core.List.{List, [], _∷_}
 use lib.IntN.{pos}
-use lib.ListN.{length}
+use lib.ListN.{length, take}
 use borrow.Author.Tests.{not-true, not-false}
 use Rattle.layout.specs.Sizes.{capacityOf}
 use Rattle.files.specs.Control.{nextOf, endOf, countIs, countMost, withCount}
@@ -19,7 +19,8 @@ use Rattle.store.specs.declared.answer.Answer.{Answer}
 use Rattle.store.specs.declared.answer.Answer.the-variants.{Done, BadLength, BadControl, NotSound}
 use Rattle.store.specs.declared.gate.Gate.{Gate}
 use Rattle.store.specs.declared.gate.Gate.the-variants.{Open, Shut}
-use Rattle.store.proofs.Gates.{Refusing, done-number, after-done, after-refused, after-cases, refused-is, done-is, holds, gate-done, gate-shut, open-from, gate-open, gate-is, opened, open-xrf}
+use Rattle.store.proofs.Gates.{Refusing, done-number, after-done, after-refused, after-cases, refused-is, done-is, holds, gate-done, gate-shut, open-from, gate-open, opened, open-xrf}
+use Rattle.store.proofs.Reaching.{whole-length, lent-open, lent-as}
 use Rattle.soundness.specs.Sound.{bit, headsRight, restFree, steps, isLive, liveCount, countRight, bodyApart, bodySound, checkAnswer}
 use Rattle.soundness.specs.Recount.{recountAnswer, recountedMst, recountLeaves}
 use Rattle.soundness.specs.Passes.{entriesFine, namedTotal, tallyOf, walkOf, apartOf, countedOf, countedAnswer}
@@ -117,7 +118,10 @@ module _ (mst xrf : List ℕ) (g : Gate) (e : g ≡ gateOf (store mst xrf)) wher
       let t : r ≡ a = q ∙ ap gateAnswer h in
       rw t (refused-is (recountAnswer (store mst xrf)) _ Refused a (f .answers (refuse NotSound (not (bodyApart (store mst xrf))) ∷ [])) (f .refusing))
 
-  module _ (next : Mfn) (end : ℕ) (h : g ≡ Open next end) (a : Apart) (q : a ≡ apartOf (store mst xrf)) where
+  module _ (next : Mfn) (end : ℕ) (h : g ≡ Open next end) (a : Apart) (lent : a ≡ apartOf (store (take (length mst) mst) (take (length xrf) xrf))) where
+    q : a ≡ apartOf (store mst xrf)
+    q = lent-as apartOf mst xrf a lent
+
     recount-is : recountAnswer (store mst xrf) ≡ cond (not (bodyApart (store mst xrf))) NotSound Done
     unfolding recountAnswer
     recount-is = let f = opened mst xrf g e next end h in rw (f .lengths, f .control)
@@ -134,7 +138,7 @@ module _ (mst xrf : List ℕ) (g : Gate) (e : g ≡ gateOf (store mst xrf)) wher
         let p = apart-parts (bodyApart (store mst xrf)) (liveCount (store mst xrf)) live (sym q ∙ n) in
         done-is (recountAnswer (store mst xrf)) _ Refused (Live live) (recount-is ∙ rw (p .0)) (ap Live (sym (p .1)))
 
-pub ruleset counted-answers = (gate-is, counted-shut, counted-unsound, counted-live)
+pub ruleset counted-answers = (whole-length, lent-open, counted-shut, counted-unsound, counted-live)
 
 -- ---- the check and the recount
 
@@ -199,9 +203,6 @@ module _ (mst xrf : List ℕ) (c : Counted) (e : c ≡ countedOf (store mst xrf)
         let most = live-most mst xrf in
         let z = f .sizes in
         (omega arith, omega (arith, parts .1))
-
-    pub put-asks : live < 4294967296
-    put-asks = let k = count-asks in omega arith
 
     module _ (b : Bool) (w : b ≡ countIs mst live) where
       right : countRight (store mst xrf) ≡ b

@@ -12,13 +12,13 @@ ghost use Rattle.soundness.specs.Recount.{recountAnswer, recountLeaves};
 
 // A store apart from RECCNT: sound, with how many entries are live, or not.
 pub(crate) enum Apart {
-    Sound(usize),
+    Sound(u32),
     Unsound,
 }
 
 // How many entries are live of a store that is sound apart from RECCNT, or the refusal.
 pub(crate) enum Counted {
-    Live(usize),
+    Live(u32),
     Refused(Answer),
 }
 
@@ -37,7 +37,7 @@ fn sound_apart(mst: &[u8], xrf: &[u8], next: Mfn, end: usize) -> Apart
     let Tally::Named { named, live } = t else {
         return Apart::Unsound;
     };
-    if !crate::passes::walk_steps(mst, xrf, next, end, named) {
+    if !crate::passes::walk_steps(mst, xrf, next, end, named as usize) {
         return Apart::Unsound;
     }
     Apart::Sound(live)
@@ -51,7 +51,10 @@ fn count_live(mst: &[u8], xrf: &[u8]) -> Counted
     let Gate::Open { next, end } = g else {
         return Counted::Refused(store::gate::gate_answer(g));
     };
-    let a = sound_apart(mst, xrf, next, end);
+    // lent as parts that are made here, as `store::gate::reach_both` does
+    let mst_len = mst.len();
+    let xrf_len = xrf.len();
+    let a = sound_apart(&mst[..mst_len], &xrf[..xrf_len], next, end);
     let Apart::Sound(live) = a else {
         return Counted::Refused(Answer::NotSound);
     };
@@ -95,6 +98,6 @@ pub fn recount(mst: &mut [u8], xrf: &[u8]) -> Answer
     if files::control::count_is(mst, live) {
         return Answer::Done;
     }
-    files::control::put_count(mst, live as u32);
+    files::control::put_count(mst, live);
     Answer::Done
 }

@@ -21,7 +21,7 @@ ghost use Rattle.store.specs.Store.{store};
 
 // What the first pass finds: how many steps the entries name and how many of them are live, or that one of them is wrong.
 pub(crate) enum Tally {
-    Named { named: usize, live: usize },
+    Named { named: u32, live: u32 },
     Wrong,
 }
 
@@ -58,7 +58,7 @@ pub(crate) fn rest_free(xrf: &[u8], next: Mfn) -> bool
 }
 
 // How many steps a place names: its own, and under the changed mark its back place.
-fn named_under(mark: Mark) -> usize
+fn named_under(mark: Mark) -> u32
     ensures { λ r. ⌜ r ≡ namedUnder mark ⌝ }
 {
     match mark {
@@ -69,7 +69,7 @@ fn named_under(mark: Mark) -> usize
 }
 
 // 1 for a record that is not deleted, else 0.
-fn live_of(p: Place) -> usize
+fn live_of(p: Place) -> u32
     ensures { λ r. ⌜ r ≡ bit (isLive (Entry.At p)) ⌝ }
 {
     if p.deleted { 0 } else { 1 }
@@ -108,8 +108,8 @@ pub(crate) fn tally_entries(mst: &[u8], xrf: &[u8], next: Mfn, end: usize) -> Ta
     requires { ⌜ gateOf (store (now mst) (now xrf)) ≡ Gate.Open next end ⌝ }
     ensures { λ r. ⌜ r ≡ tallyOf (store (now (mst .entry)) (now (xrf .entry))) ⌝ }
 {
-    let mut named: usize = 0;
-    let mut live: usize = 0;
+    let mut named: u32 = 0;
+    let mut live: u32 = 0;
     let mut m: u32 = 1;
     while m < next.0 {
         let t = tally_entry(mst, xrf, next, end, Mfn(m));

@@ -45,10 +45,10 @@ lent-whole : (mst xrf : List ℕ) → lent mst xrf ≡ store mst xrf
 unfolding lent
 lent-whole mst xrf = rw (whole mst, whole xrf)
 
--- what is found in what is lent so
-pub lent-both : (mst xrf : List ℕ) (m : ℕ) (k : Known) → k ≡ knownBoth (store (take (length mst) mst) (take (length xrf) xrf)) m → k ≡ knownBoth (store mst xrf) m
+-- what is told of what is lent so
+pub lent-as : {A : Type 0} (f : Store → A) (mst xrf : List ℕ) (r : A) → r ≡ f (store (take (length mst) mst) (take (length xrf) xrf)) → r ≡ f (store mst xrf)
 unfolding lent
-lent-both mst xrf m k w = w ∙ ap (λ (s : Store). knownBoth s m) (lent-whole mst xrf)
+lent-as f mst xrf r w = w ∙ ap f (lent-whole mst xrf)
 
 -- ---- what is returned
 
@@ -92,8 +92,7 @@ module _ (mst xrf : List ℕ) (m : ℕ) (g : Gate) (p : g ≡ gateOf (store mst 
 
     module _ (w : k ≡ knownOf (store (take (length mst) mst) (take (length xrf) xrf)) m) where
       u : k ≡ knownOf (store mst xrf) m
-      unfolding lent
-      u = w ∙ ap (λ (s : Store). knownOf s m) (lent-whole mst xrf)
+      u = lent-as (λ (s : Store). knownOf s m) mst xrf k w
 
       pub reach-unknown : (a b : Answer) → k ≡ Refused b → a ≡ knownAnswer k → Unreached a ≡ reachedOf (store mst xrf) m
       unfolding reachedOf
@@ -107,7 +106,7 @@ module _ (mst xrf : List ℕ) (m : ℕ) (g : Gate) (p : g ≡ gateOf (store mst 
 
     module _ (w : k ≡ knownBoth (store (take (length mst) mst) (take (length xrf) xrf)) m) where
       v : k ≡ knownBoth (store mst xrf) m
-      v = lent-both mst xrf m k w
+      v = lent-as (λ (s : Store). knownBoth s m) mst xrf k w
 
       pub both-unknown : (a b : Answer) → k ≡ Refused b → a ≡ knownAnswer k → Unreached a ≡ reachedBoth (store mst xrf) m
       unfolding reachedBoth

@@ -39,8 +39,8 @@ use Rattle.store.specs.declared.gate.Reached.the-variants.{There, Refused as Un
 use Rattle.store.proofs.answer.Answer as answer
 use Rattle.versions.proofs.Told.{draft-fits, not-settled}
 use Rattle.store.proofs.Gates.{Refusing, refused-is, done-is, gate-shut, opened, Planned, both-refused, BothFacts, both-facts}
-use Rattle.store.proofs.Reaching.{reach-refused, reached-facts, whole-length, lent-open, lent-both}
-use Rattle.store.specs.Store.{store}
+use Rattle.store.proofs.Reaching.{reach-refused, reached-facts, whole-length, lent-open, lent-as}
+use Rattle.store.specs.Store.{Store, store}
 
 -- ---- variants that are left in an `else`
 
@@ -226,14 +226,14 @@ module _ (mst xrf : List ℕ) (m : ℕ) (g : Gate) (p : g ≡ gateOf (store mst 
       pub revert-unknown : (a r : Answer) → k ≡ Refused a → r ≡ knownAnswer k → Unreached r ≡ revertPlan (store mst xrf) m
       unfolding revertPlan reachedIf
       revert-unknown a r v s =
-          let f = both-refused mst xrf m a (sym (lent-both mst xrf m k u) ∙ v) in
+          let f = both-refused mst xrf m a (sym (lent-as (λ (s : Store). knownBoth s m) mst xrf k u) ∙ v) in
           let t : r ≡ a = rw v at s in
           let rest : List Refusal = refuse NotPending (isSettled (placeFor (store mst xrf) m .mark)) ∷ refuse NeverSettled (isNew (placeFor (store mst xrf) m .mark)) ∷ [] in
           rw t (refused-is (revertAnswer (store mst xrf) m) _ Unreached a (behind a (f .answers rest)) (f .refusing))
 
       module _ (pl : Place) (l : Leader) (v : k ≡ Record pl l) where
         found : BothFacts mst xrf m pl l
-        found = both-facts mst xrf m pl l (sym (lent-both mst xrf m k u) ∙ v)
+        found = both-facts mst xrf m pl l (sym (lent-as (λ (s : Store). knownBoth s m) mst xrf k u) ∙ v)
 
         revert-answer : revertAnswer (store mst xrf) m ≡ cond (isSettled (pl .mark)) NotPending (cond (isNew (pl .mark)) NeverSettled Done)
         revert-answer = let f = found .current in behind _ (rw (f .known, f .entry, f .record-fine, found .version-fine))

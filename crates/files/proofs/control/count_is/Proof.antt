@@ -6,11 +6,8 @@ use Rattle.files.proofs.control.count_is.Tie as tie
 u32-at-requires : tie.Need-u32-at-requires
 u32-at-requires c κs = search needs
 
-cast-result : tie.Need-cast-result
-cast-result c = search needs
-
 returns : tie.Need-returns
 returns c = search count-answers
 
 pub count-is-spec : {M : Type 1} → statement M
-count-is-spec = tie.close (tie.spec u32-at-requires cast-result returns)
+count-is-spec = tie.close (tie.spec u32-at-requires returns)

@@ -18,6 +18,12 @@ gate-answer-requires c κs = search needs
 returns : tie.Need-returns
 returns c = search counted-answers
 
+slice-aggregate-sound-apart : tie.Need-slice-aggregate-sound-apart
+slice-aggregate-sound-apart c = search counted-answers
+
+slice-aggregate-sound-apart-2 : tie.Need-slice-aggregate-sound-apart-2
+slice-aggregate-sound-apart-2 c = search counted-answers
+
 sound-apart-requires : tie.Need-sound-apart-requires
 sound-apart-requires c κs = search counted-answers
 
@@ -29,14 +35,14 @@ enum-told-2 c = search needs
 
 returns-2 : tie.Need-returns-2
 returns-2 c =
-    let open-gate = c .before .before .before .before .before .before .open-gate in
-    let the-g = c .before .before .before .before .g in
+    let open-gate = c .before .before .before .before .before .before .before .before .open-gate in
+    let the-g = c .before .before .before .before .before .before .g in
     counted-unsound _ _ _ (open-gate .ensures) _ _ (the-g .given .1) _ (c .before .before .sound-apart .ensures) (c .enum-told2 .given .1)
 
 returns-3 : tie.Need-returns-3
 returns-3 c =
-    let open-gate = c .before .before .before .before .before .before .before .open-gate in
-    let the-g = c .before .before .before .before .before .g in
+    let open-gate = c .before .before .before .before .before .before .before .before .before .open-gate in
+    let the-g = c .before .before .before .before .before .before .before .g in
     counted-live _ _ _ (open-gate .ensures) _ _ (the-g .given .1) _ (c .before .before .before .sound-apart .ensures) _ (c .before .a .given .1)
 
 pub count-live-spec : {M : Type 1} → statement M
@@ -48,6 +54,8 @@ count-live-spec =
     enum-told
     gate-answer-requires
     returns
+    slice-aggregate-sound-apart
+    slice-aggregate-sound-apart-2
     sound-apart-requires
     enum-known-a
     enum-told-2

@@ -1,4 +1,4 @@
-use Rattle.soundness.proofs.CheckAnswers.{recount-refused, count-asks, put-asks, recount-kept, recount-put}
+use Rattle.soundness.proofs.CheckAnswers.{recount-refused, count-asks, recount-kept, recount-put}
 use borrow.Author.Needs.{needs}
 use Rattle.soundness.proofs.check.recount.Statement.{statement}
 use Rattle.soundness.proofs.check.recount.Tie as tie
@@ -32,9 +32,6 @@ returns-2 c =
     let count-live = c .before .before .before .before .before .before .count-live in
     recount-kept _ _ _ (count-live .ensures) _ (c .before .before .before .before .c .given .1) _ (c .before .count-is .ensures) (c .if1 .taken)
 
-cast-put-count : tie.Need-cast-put-count
-cast-put-count c = search put-asks
-
 put-count-requires : tie.Need-put-count-requires
 put-count-requires c κs =
     let count-live = c .before .before .before .before .before .before .before .count-live in
@@ -64,7 +61,6 @@ recount-spec =
     count-is-requires
     same-length-2
     returns-2
-    cast-put-count
     put-count-requires
     same-length-3
     returns-3)

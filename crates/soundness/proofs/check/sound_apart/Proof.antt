@@ -27,6 +27,9 @@ enum-told c = search needs
 returns-3 : tie.Need-returns-3
 returns-3 c = search body-answers
 
+cast-walk-steps : tie.Need-cast-walk-steps
+cast-walk-steps c = search needs
+
 walk-steps-requires : tie.Need-walk-steps-requires
 walk-steps-requires c κs = search body-answers
 
@@ -48,6 +51,7 @@ sound-apart-spec =
     enum-known-t
     enum-told
     returns-3
+    cast-walk-steps
     walk-steps-requires
     returns-4
     returns-5)
