@@ -64,6 +64,19 @@ pub struct Trial {
     pub steps: Vec<Step>,
 }
 
+impl Trial {
+    /// A card from no seed; what is done to it comes step by step.
+    pub fn on(mst: &[u8], xrf: &[u8], side: Side) -> Trial {
+        Trial {
+            seed: 0,
+            mst: mst.to_vec(),
+            xrf: xrf.to_vec(),
+            side,
+            steps: Vec::new(),
+        }
+    }
+}
+
 /// The first difference that a trial met.
 #[derive(Clone, Debug)]
 pub struct Difference {

@@ -112,13 +112,7 @@ impl Desktop {
 /// the same, and the same bytes.
 fn held(mst: &[u8], xrf: &[u8], calls: &[Call]) {
     for call in calls {
-        let trial = Trial {
-            seed: 0,
-            mst: mst.to_vec(),
-            xrf: xrf.to_vec(),
-            side: Side::Back,
-            steps: Vec::new(),
-        };
+        let trial = Trial::on(mst, xrf, Side::Back);
         let mut archive = Archive::new();
         let mut run = Run::new(&mut archive, &trial);
         let step = Step::Call(call.clone());

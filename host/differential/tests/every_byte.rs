@@ -96,11 +96,8 @@ struct Changed<'a> {
 impl Changed<'_> {
     fn trial(&self, steps: Vec<Step>) -> Trial {
         Trial {
-            seed: 0,
-            mst: self.card.0.clone(),
-            xrf: self.card.1.clone(),
-            side: self.side,
             steps,
+            ..Trial::on(&self.card.0, &self.card.1, self.side)
         }
     }
 

@@ -49,13 +49,7 @@ fn trial(side: Side) -> Trial {
         let (outcome, _) = on_bytes(&mut mst, &mut xrf, call);
         assert_eq!(outcome.number, 0, "{call:?}");
     }
-    Trial {
-        seed: 0,
-        mst,
-        xrf,
-        side,
-        steps: Vec::new(),
-    }
+    Trial::on(&mst, &xrf, side)
 }
 
 /// No element, and up to two fewer or more than there are fields, each list for itself.

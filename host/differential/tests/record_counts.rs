@@ -124,13 +124,7 @@ fn cards() -> Vec<Named> {
 
 /// Makes each call on a card as it stands, through the archive and the model.
 fn compare(name: &str, card: &Files, side: Side, calls: &[Call], tally: &mut Tally) {
-    let trial = Trial {
-        seed: 0,
-        mst: card.0.clone(),
-        xrf: card.1.clone(),
-        side,
-        steps: Vec::new(),
-    };
+    let trial = Trial::on(&card.0, &card.1, side);
     let whole = |xrf: bool, bytes: &[u8]| Step::Poke {
         xrf,
         at: 0,

@@ -66,13 +66,7 @@ fn mfns(random: &mut Random, count: usize) -> Vec<u32> {
 
 /// Runs calls on a card through the archive and the model.
 fn compare(card: &Files, side: Side, calls: &[Call], tally: &mut Tally) {
-    let trial = Trial {
-        seed: 0,
-        mst: card.0.clone(),
-        xrf: card.1.clone(),
-        side,
-        steps: Vec::new(),
-    };
+    let trial = Trial::on(&card.0, &card.1, side);
     let mut archive = Archive::new();
     let mut run = Run::new(&mut archive, &trial);
     for call in calls {
