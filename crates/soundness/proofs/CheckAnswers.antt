@@ -1,6 +1,6 @@
 -- What the check and the recount answer, by what the gate and the passes found: one law for each `return` of `sound_apart`, `count_live`, `check` and
 -- `recount`. That a tally with the walk's answer is whether every entry is sound is `walk-decides`.
-use Prim.Native.Nat.{ℕ, zero, suc, _+_, _-_, _≤_, _<_}
+use Prim.Native.Nat.{ℕ, _+_, _-_, _≤_}
 use native.Mathlib.Omega.{arith}
 use mathlib.Core.Path.{_≡_, refl, sym, ap, _∙_}
 use mathlib.Core.Logic.{⊎-elim}

@@ -1,9 +1,8 @@
 -- RECCNT and the number of live entries. A sum changes where one summand does by what that does (`Sums.sum-other`); so a call that sets one
 -- entry, or adds one, changes the number of live entries by what it does to that entry, and each call writes RECCNT by as much. On a sound store
 -- RECCNT is below 2,147,483,647, and above 0 where an entry is live, so that it bars no call there.
-use Prim.Native.Nat.{ℕ, zero, suc, _+_, _-_, _≤_, _<_}
+use Prim.Native.Nat.{ℕ, suc, _+_, _-_, _≤_, _<_}
 use native.Mathlib.Omega.{arith}
-use native.Mathlib.Decide.{ℕ-discrete}
 use mathlib.Core.Path.{_≡_, refl, sym, ap, _∙_}
 use mathlib.Core.Logic.{inr}
 use mathlib.Core.Bool.{Bool, true, false, not, cond}

@@ -12,7 +12,6 @@ use types.Run.{OneOf}
 use Rattle.layout.specs.Sizes.{mstMost, recordMost}
 use Rattle.files.specs.Control.{endOf, countNone}
 use Rattle.layout.specs.declared.sizes.Mfn.{Mfn}
-use Rattle.layout.specs.declared.entry.Mark.{Mark}
 use Rattle.layout.specs.declared.entry.Mark.the-variants.{Settled}
 use Rattle.layout.specs.declared.entry.Place.{Place}
 use Rattle.layout.specs.declared.leader.Leader.{Leader}

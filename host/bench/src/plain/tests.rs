@@ -12,8 +12,8 @@ use model::Refusal;
 use model::ask::{Lists, RUBBISH, Room};
 use model::call::{Call, Outcome, Shown, on_bytes};
 use model::index::{check, lookup};
-use model::lists::PLANTED;
-use model::lists::{self, Taste};
+use model::layout::put_reccnt;
+use model::lists::{self, PLANTED, Taste};
 use model::postings::Place;
 use model::postings::fault::Broken;
 use model::postings::read::Merge;
@@ -156,9 +156,9 @@ fn the_plain_program_does_the_same_as_the_model() {
                 model_xrf[at % 40] ^= bit;
             }
             if seed % 4 == 2 && random.one_in(4) {
-                let count = random.pick(&PLANTED).to_le_bytes();
-                mst[16..20].copy_from_slice(&count);
-                model_mst[16..20].copy_from_slice(&count);
+                let count = random.pick(&PLANTED);
+                put_reccnt(&mut mst, count);
+                put_reccnt(&mut model_mst, count);
             }
             call = lists::any_call(&mut random, Taste::SHORT, 12);
         }
