@@ -1,4 +1,7 @@
 // The C interface: each function takes C's own types, calls one call of the library and answers the paper's number. No rule is added here.
+
+#![tactic(auto)]
+
 ghost use Rattle.std.specs.Prelude.{◌≡◌, true, false, length};
 ghost use Rattle.store.specs.Answer.{number_of};
 ghost use Rattle.writing.specs.Refusals.{format_answer, update_answer, delete_answer, settle_answer, revert_answer};

@@ -1,5 +1,8 @@
 // Prints what a replay reports: why it stopped and how many calls it ran; of each call the answer, the MFN returned, the length of the field shown,
 // the count, how many answers are listed, then the field and those answers; and NXTMFN, NXTMFB and NXTMFP afterwards.
+
+#![tactic(auto)]
+
 ghost use Rattle.std.specs.Prelude.{◌+◌, ◌≤◌, length};
 ghost use Rattle.script.specs.Report.{outcome_size};
 

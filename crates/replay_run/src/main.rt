@@ -1,5 +1,8 @@
 // Replays the lists of calls in a text and prints what each replay reports: why it stopped and how many calls it ran; of each call the answer,
 // the MFN returned, the field shown, the count and the answers listed; and NXTMFN, NXTMFB and NXTMFP afterwards.
+
+#![tactic(auto)]
+
 ghost use Rattle.std.specs.Prelude.{◌≤◌, length};
 
 use libc::STDIN_FILENO;

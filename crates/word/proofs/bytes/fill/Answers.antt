@@ -1,0 +1,26 @@
+-- After i turns i bytes v are written.
+use mathlib.Core.Path.{◌≡◌, refl, sym}
+use native.Mathlib.Omega.{arith}
+use lib.ListN.{length-set}
+use Rattle.word.proofs.Overwrite.{overwrite_none}
+use Rattle.word.proofs.Runs.{fill_more}
+use Rattle.word.proofs.bytes.fill.Goals as goal
+
+pub loop-i-init : goal.loop-i-init
+loop-i-init c = (omega arith, refl, sym (overwrite_none c.args.d.now c.args.at))
+
+pub loop-i-preserved : goal.loop-i-preserved
+loop-i-preserved c =
+    let b = c in
+    let l = b.loop-i in
+    let a = b.args in
+    (omega arith, simp length-set l.invariant.1, fill_more a.d.now a.at l.i _ _ a.v l.invariant.2 (omega arith) (omega arith) (omega arith))
+
+pub shape_of-d : goal.shape_of-d
+shape_of-d c = c.loop-i.invariant.1
+
+pub returns : goal.returns
+returns c =
+    let l = c.loop-i in
+    let n : l.i ≡ c.args.n = omega arith in
+    rw (l.invariant.2, n)

@@ -1,0 +1,197 @@
+#!/usr/bin/env python3
+"""Turns proofs by hand of the older Rattle, proofs/F/Proof.antt, to Invariants.antt and Answers.antt.
+
+usage: tools/answers.py CRATE_FOLDER NAMES.json [FOLDER..]
+
+NAMES.json is what 'rt check --generated DIR --old-names' writes: the old and the new name of each goal and step. An answer that a plain search gives is
+left out, since the check finds it. What could not be turned is told. With FOLDERs (below proofs/) only these are turned.
+"""
+import json
+import os
+import re
+import sys
+
+TRIVIAL = {"search rules", "omega arith", "search (rules, arith)", "search arith"}
+FIELDS = {"type-inv": "type_inv", "well-formed": "well_formed"}
+TOKEN = r"[^\s(){}.;,@\"«»]"
+
+
+def norm(n):
+    n = n.replace("_", "-")
+    n = re.sub(r"^overflow-", "", n)
+    return n
+
+
+def squash(n):
+    return re.sub(r"[-_]", "", n)
+
+
+def blocks(text):
+    """Top declarations: a signature line in column 0 with all that follows to the next blank line in column 0 text."""
+    out, cur = [], []
+    for line in text.split("\n"):
+        if line and not line[0].isspace() and cur and cur[-1] == "":
+            out.append(cur)
+            cur = []
+        cur.append(line)
+    if cur:
+        out.append(cur)
+    return ["\n".join(b).rstrip("\n") for b in out]
+
+
+def main():
+    crate, names = sys.argv[1], json.load(open(sys.argv[2]))
+    only = set(sys.argv[3:])
+    crate_name = os.path.basename(os.path.abspath(crate))
+    for at, dirs, files in sorted(os.walk(os.path.join(crate, "proofs"))):
+        if "Proof.antt" not in files:
+            continue
+        rel = os.path.relpath(at, os.path.join(crate, "proofs"))
+        if only and rel not in only:
+            continue
+        path = ".".join(rel.split(os.sep))
+        entry = names.get(f"Rattle-{crate_name}-proofs.{path}.Lts")
+        if entry is None:
+            print(f"left: {rel}: no names")
+            continue
+        turn(crate_name, at, rel, path, entry)
+
+
+def turn(crate_name, at, rel, path, entry):
+    text = open(os.path.join(at, "Proof.antt"), encoding="utf-8").read()
+    bs = blocks(text)
+    needs = {norm(o): n for o, n in entry["needs"]}
+    steps = {}
+    for place in entry["places"]:
+        o, n = place[2]
+        if o:
+            steps[squash(o)] = n
+    loops = {}
+    for i, group in enumerate(entry["loops"]):
+        (o, n), vars_ = group[0], group[1]
+        ch = entry["changed"][i]
+        loops[squash(o)] = (n, vars_, ch)
+    head, uses, helpers, invs, answers, said = [], [], [], [], [], []
+    seen = set()
+    count = 0
+
+    def fix_paths(body):
+        # steps behind a dot; the way there is flat
+        body = re.sub(r"(?:\.before)+(?=\.)", "", body)
+        body = re.sub(r"(?<=[A-Za-z0-9₀'])(?:\.before)+(?![\w-])", "", body)
+
+        def step(m):
+            w = m.group(1)
+            n = steps.get(squash(w))
+            return "." + (n if n is not None and w not in ("args", "requires") else FIELDS.get(w, w))
+
+        return re.sub(rf"\.({TOKEN}+)", step, body)
+
+    for b in bs:
+        lines = b.split("\n")
+        # comments before
+        k = 0
+        while k < len(lines) and (lines[k].startswith("--") or lines[k] == ""):
+            k += 1
+        comment, rest = lines[:k], lines[k:]
+        if not rest:
+            head += comment
+            continue
+        if rest[0].startswith("use ") or rest[0].startswith("pub use") or rest[0].startswith("unfoldable pub use"):
+            head += comment
+            tail = []
+            for l in rest:
+                if re.search(r"\.(Statement|Tie)\b", l):
+                    continue
+                (uses if l.startswith(("use ", "pub use", "unfoldable")) else tail).append(l)
+            if [x for x in tail if x.strip()]:
+                helpers.append("\n".join(tail))
+            continue
+        sig = rest[0]
+        m = re.match(rf"(?:abbrev )?(?:pub )?(\S+) : tie\.(?:invariant|InvT)-(\S+)", sig)
+        if m:
+            key = squash(m.group(2))
+            if key not in loops:
+                said.append(f"invariant {m.group(2)}")
+                helpers.append(b)
+                continue
+            n, vars_, ch = loops[key]
+            invs.append(("\n".join(comment), "invariant", n, rest[1:], vars_, ch))
+            continue
+        m = re.match(rf"(?:abbrev )?(?:pub )?(\S+) : tie\.(?:decreases|MeasureT)-(\S+)", sig)
+        if m:
+            key = squash(m.group(2))
+            if key not in loops:
+                said.append(f"measure {m.group(2)}")
+                helpers.append(b)
+                continue
+            n, vars_, ch = loops[key]
+            invs.append(("\n".join(comment), "decreases", n, rest[1:], vars_, ch))
+            continue
+        m = re.match(rf"(\S+) : tie\.Need-(\S+)(.*)$", sig)
+        if m:
+            old = m.group(1)
+            new = needs.get(norm(m.group(2)))
+            body = rest[1:]
+            unf = []
+            while body and body[0].startswith("unfolding"):
+                unf.append(body.pop(0))
+            text_body = "\n".join(body)
+            mm = re.match(rf"{re.escape(old)}((?: [^\s=]+)*) =(\s)", text_body)
+            if not mm or new is None:
+                if mm and re.sub(r"\s+", " ", text_body[mm.end():]).strip() in TRIVIAL:
+                    continue
+                said.append(f"goal {m.group(2)}")
+                helpers.append("\n".join(comment + ["-- LEFT " + sig] + ["-- " + x for x in unf + body]))
+                continue
+            expr = text_body[mm.end():]
+            args = mm.group(1).split()
+            flat = re.sub(r"\s+", " ", expr).strip()
+            if flat in TRIVIAL and not unf:
+                continue
+            args = [a for a in args if a not in ("κs", "κ")]
+            expr = fix_paths(expr)
+            answers.append("\n".join(comment + [f"pub {new} : goal.{new}"] + unf + [f"{new}{''.join(' ' + a for a in args)} ={mm.group(2)}{expr}"]))
+            continue
+        if re.match(r"pub \S+[-_]spec : ", sig):
+            continue
+        helpers.append(b)
+    # invariants
+    inv_texts = []
+    for comment, kind, n, body, vars_, ch in invs:
+        t = "\n".join(body)
+        unf = ""
+        while t.startswith("unfolding"):
+            l, _, t = t.partition("\n")
+            unf += l + "\n"
+        mm = re.match(r"\S+((?: [^\s=]+)*) =(\s)", t)
+        if not mm:
+            said.append(f"form of {kind} {n}")
+            continue
+        params = mm.group(1).split()
+        order = []
+        for v, c in zip(vars_, ch):
+            order.append(f"l.initial.{v}" if c else f"l.{v}")
+        for v, c in zip(vars_, ch):
+            if c:
+                order.append(f"l.{v}")
+        if len(order) != len(params):
+            said.append(f"{kind} {n}: {params} against {order}")
+        table = dict(zip(params, order))
+        expr = t[mm.end():]
+        expr = re.sub(rf"(?<![^\s(){{}};,@«»])({TOKEN}+)", lambda w: table.get(w.group(1), w.group(1)), expr)
+        c = comment + "\n" if comment else ""
+        inv_texts.append(f"{c}abbrev pub {kind}-{n} : goal.{kind}-{n}\n{unf}{kind}-{n} l ={mm.group(2)}{expr}")
+    base = f"Rattle.{crate_name}.proofs.{path}"
+    if inv_texts:
+        with open(os.path.join(at, "Invariants.antt"), "w", encoding="utf-8") as f:
+            f.write("\n".join(head + uses + [f"use {base}.Given as goal", ""]) + "\n" + "\n\n".join(inv_texts) + "\n")
+    if answers or helpers:
+        with open(os.path.join(at, "Answers.antt"), "w", encoding="utf-8") as f:
+            f.write("\n".join(head + uses + [f"use {base}.Goals as goal", ""]) + "\n" + "\n\n".join(helpers + answers) + "\n")
+    os.remove(os.path.join(at, "Proof.antt"))
+    if said:
+        print(f"left: {rel}: " + "; ".join(said))
+
+
+main()
