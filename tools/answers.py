@@ -72,8 +72,7 @@ def turn(crate_name, at, rel, path, entry):
         ch = entry["changed"][i]
         loops[squash(o)] = (n, vars_, ch)
     head, uses, helpers, invs, answers, said = [], [], [], [], [], []
-    seen = set()
-    count = 0
+    local = {}
 
     def fix_paths(body):
         # steps behind a dot; the way there is flat
@@ -147,15 +146,29 @@ def turn(crate_name, at, rel, path, entry):
             expr = text_body[mm.end():]
             args = mm.group(1).split()
             flat = re.sub(r"\s+", " ", expr).strip()
-            if flat in TRIVIAL and not unf:
-                continue
+            local[old] = new
+            plain = flat in TRIVIAL and not unf
             args = [a for a in args if a not in ("κs", "κ")]
             expr = fix_paths(expr)
-            answers.append("\n".join(comment + [f"pub {new} : goal.{new}"] + unf + [f"{new}{''.join(' ' + a for a in args)} ={mm.group(2)}{expr}"]))
+            answers.append((new, plain, "\n".join(comment + [f"pub {new} : goal.{new}"] + unf), ''.join(' ' + a for a in args), mm.group(2) + expr))
             continue
         if re.match(r"pub \S+[-_]spec : ", sig):
             continue
         helpers.append(b)
+    # an answer that another one cites is written, and cited by its new name
+    cited = set()
+
+    def cite(m):
+        new = local.get(m.group(1))
+        if new is None:
+            return m.group(1)
+        cited.add(new)
+        return new
+
+    word = rf"(?<![^\s(){{}};,@«»])({TOKEN}+)"
+    answers = [(new, plain, sig, args, re.sub(word, cite, expr)) for new, plain, sig, args, expr in answers]
+    helpers = [re.sub(word, cite, h) for h in helpers]
+    answers = [f"{sig}\n{new}{args} ={expr}" for new, plain, sig, args, expr in answers if not plain or new in cited]
     # invariants
     inv_texts = []
     for comment, kind, n, body, vars_, ch in invs:

@@ -1,0 +1,6 @@
+use borrow.Author.Rules.{rules}
+use Rattle.layout.proofs.Answers.{leader_answers}
+use Rattle.layout.proofs.leader.put_leader.Goals as goal
+
+pub returns : goal.returns
+returns c = search leader_answers
