@@ -18,7 +18,7 @@ TOKEN = r"[^\s(){}.;,@\"«»]"
 
 def norm(n):
     n = n.replace("_", "-")
-    n = re.sub(r"^overflow-", "", n)
+    n = re.sub(r"^(overflow|nonzero)-", "", n)
     return n
 
 
@@ -66,6 +66,21 @@ def turn(crate_name, at, rel, path, entry):
         o, n = place[2]
         if o:
             steps[squash(o)] = n
+    # the clauses of each call, by the new name of its step
+    told = {}
+    for place, c in zip(entry["places"], entry["clauses"]):
+        if c and place[2][1] and len(c["fields"]) > 1:
+            told[place[2][1]] = c["fields"]
+
+    def clauses(expr):
+        alias = {m.group(1): m.group(2) for m in re.finditer(rf"let (\S+) = (?:{TOKEN}+\.)*({TOKEN}+) in", expr)}
+
+        def one(m):
+            fields = told.get(alias.get(m.group(1), m.group(1)))
+            return f"{m.group(1)}.ensures.{fields[int(m.group(2))]}" if fields and int(m.group(2)) < len(fields) else m.group(0)
+
+        return re.sub(rf"({TOKEN}+)\.ensures\.(\d+)", one, expr)
+
     loops = {}
     for i, group in enumerate(entry["loops"]):
         (o, n), vars_ = group[0], group[1]
@@ -73,9 +88,11 @@ def turn(crate_name, at, rel, path, entry):
         loops[squash(o)] = (n, vars_, ch)
     head, uses, helpers, invs, answers, said = [], [], [], [], [], []
     local = {}
+    heads = set(re.findall(r"(?m)^(\S+) : tie\.Need-", text))
 
     def fix_paths(body):
-        # steps behind a dot; the way there is flat
+        # steps behind a dot; the way there is flat, but where an answer is cited at an earlier place
+        body = re.sub(rf"(?<![^\s(){{}};,])({TOKEN}+) (\w+)((?:\.before)+)(?![\w.-])", lambda m: f"{m.group(1)} {m.group(2)}" + m.group(3).replace(".before", "\x00") if m.group(1) in heads else m.group(0), body)
         body = re.sub(r"(?:\.before)+(?=\.)", "", body)
         body = re.sub(r"(?<=[A-Za-z0-9₀'])(?:\.before)+(?![\w-])", "", body)
 
@@ -84,7 +101,7 @@ def turn(crate_name, at, rel, path, entry):
             n = steps.get(squash(w))
             return "." + (n if n is not None and w not in ("args", "requires") else FIELDS.get(w, w))
 
-        return re.sub(rf"\.({TOKEN}+)", step, body)
+        return re.sub(rf"\.({TOKEN}+)", step, body).replace("\x00", ".before")
 
     for b in bs:
         lines = b.split("\n")
@@ -149,7 +166,7 @@ def turn(crate_name, at, rel, path, entry):
             local[old] = new
             plain = flat in TRIVIAL and not unf
             args = [a for a in args if a not in ("κs", "κ")]
-            expr = fix_paths(expr)
+            expr = clauses(fix_paths(expr))
             answers.append((new, plain, "\n".join(comment + [f"pub {new} : goal.{new}"] + unf), ''.join(' ' + a for a in args), mm.group(2) + expr))
             continue
         if re.match(r"pub \S+[-_]spec : ", sig):

@@ -5,7 +5,6 @@ use native.Mathlib.Omega.{arith}
 use lib.IntN.{nat_abs}
 use lib.Signed.{mag}
 use mir.Facts.{to_z-of_z}
-use borrow.Author.Rules.{rules}
 use Rattle.word.proofs.TwosComplement.{when_nonneg, when_neg}
 use Rattle.layout.proofs.entry.absolute.Goals as goal
 

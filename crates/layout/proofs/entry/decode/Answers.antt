@@ -3,7 +3,6 @@ use lib.IntN.{negsuc}
 use mir.Syntax.{w32}
 use mir.Val.{to_z}
 use mir.Facts.{to_z-of_z}
-use borrow.Author.Rules.{rules}
 use Rattle.word.proofs.TwosComplement.{back_of}
 use Rattle.layout.specs.Entry.{entry_of}
 use Rattle.layout.proofs.Codec.{deleted_is, not_gone, gone_decoded}

@@ -2,11 +2,11 @@ use lib.Dec.{lit<}
 use Rattle.layout.proofs.Floor.{quotient_held, floors}
 use Rattle.layout.proofs.entry.floor_block.Goals as goal
 
--- LEFT div-q : tie.Need-nonzero-div-q
--- div-q c = (lit< tt, quotient_held c.args.e c.ranges.e)
+pub nonzero_div-q : goal.nonzero_div-q
+nonzero_div-q c = (lit< tt, quotient_held c.args.e c.ranges.e)
 
--- LEFT rem-if1 : tie.Need-nonzero-rem-if1
--- rem-if1 c = (lit< tt, quotient_held c.args.e c.ranges.e)
+pub nonzero_rem-e : goal.nonzero_rem-e
+nonzero_rem-e c = (lit< tt, quotient_held c.args.e c.ranges.e)
 
 pub overflow_sub-result : goal.overflow_sub-result
 overflow_sub-result c = search floors

@@ -2,7 +2,6 @@ use mathlib.Core.Path.{◌≡◌, refl}
 use Prim.Native.Nat.{◌-◌, ◌%◌}
 use lib.Signed.{mag}
 use mir.Facts.{to_z-of_z}
-use borrow.Author.Rules.{rules}
 use Rattle.word.proofs.TwosComplement.{when_nonneg, when_neg}
 use Rattle.layout.specs.Entry.{low_of}
 use Rattle.layout.proofs.entry.low_part.Goals as goal

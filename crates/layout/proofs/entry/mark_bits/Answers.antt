@@ -1,4 +1,3 @@
-use borrow.Author.Rules.{rules}
 use Rattle.layout.proofs.Answers.{mark_answers}
 use Rattle.layout.proofs.entry.mark_bits.Goals as goal
 

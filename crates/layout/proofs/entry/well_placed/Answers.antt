@@ -1,4 +1,3 @@
-use borrow.Author.Rules.{rules}
 use Rattle.layout.proofs.Answers.{place_answers}
 use Rattle.layout.proofs.entry.well_placed.Goals as goal
 

@@ -1,5 +1,4 @@
 use mathlib.Core.Path.{refl}
-use borrow.Author.Rules.{rules}
 use Rattle.layout.specs.Leader.{leader_bytes}
 use Rattle.layout.proofs.leader.leader_bytes.Goals as goal
 

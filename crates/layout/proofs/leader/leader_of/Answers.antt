@@ -1,4 +1,3 @@
-use borrow.Author.Rules.{rules}
 use Rattle.layout.proofs.Answers.{leader_answers}
 use Rattle.layout.proofs.leader.leader_of.Goals as goal
 

@@ -1,4 +1,3 @@
-use borrow.Author.Rules.{rules}
 use Rattle.layout.proofs.Answers.{leader_answers}
 use Rattle.layout.proofs.leader.put_leader.Goals as goal
 

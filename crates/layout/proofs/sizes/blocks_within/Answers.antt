@@ -1,4 +1,3 @@
-use borrow.Author.Rules.{rules}
 use Rattle.layout.proofs.Answers.{size_answers}
 use Rattle.layout.proofs.sizes.blocks_within.Goals as goal
 
