@@ -11,7 +11,7 @@ use store::answer::Answer;
 use views::views::Version;
 
 // The answer, and how many fields the lists have in front.
-#[derive(Drop)]
+#[derive(Clone, Copy)]
 pub struct Listed {
     pub answer: Answer,
     pub count: usize,

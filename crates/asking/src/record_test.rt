@@ -7,7 +7,7 @@ use record::test::Tested;
 use store::answer::Answer;
 
 // The answer, and the number of the first entry that breaks a rule, counted from 1; 0 where the record passes or its leader already fails.
-#[derive(Drop)]
+#[derive(Clone, Copy)]
 pub struct RecordTest {
     pub answer: Answer,
     pub entry: u32,

@@ -9,7 +9,7 @@ use store::answer::Answer;
 use store::gate::{Gate, Reached};
 
 // The answer, the next MFN and the address of the end; 0 and 0 where refused.
-#[derive(Drop)]
+#[derive(Clone, Copy)]
 pub struct NextFree {
     pub answer: Answer,
     pub next: Mfn,
@@ -17,7 +17,7 @@ pub struct NextFree {
 }
 
 // The answer, and the mark of a record and whether it is deleted; settled and live where refused.
-#[derive(Drop)]
+#[derive(Clone, Copy)]
 pub struct RecordState {
     pub answer: Answer,
     pub mark: Mark,

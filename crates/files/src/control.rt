@@ -20,7 +20,7 @@ const OLD_OFFSETS_FROM: u16 = 0;
 const COUNT_MOST: u32 = 2147483647;
 
 // What the control record says, where it is right.
-#[derive(Drop)]
+#[derive(Clone, Copy)]
 pub enum Control {
     Right { next: Mfn, end: usize },
     Wrong,

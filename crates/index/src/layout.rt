@@ -17,7 +17,7 @@ const ORDER_MOST: u16 = 16;
 
 // The records of a node or a leaf file: the tree's type, the bytes before the entries, the key's width, the bytes of an entry, and how
 // many entries there are.
-#[derive(Drop)]
+#[derive(Clone, Copy)]
 pub struct Shape {
     pub kind: u16,
     pub head: usize,
@@ -27,7 +27,7 @@ pub struct Shape {
 }
 
 // A tree: its two files' records, and its root.
-#[derive(Drop)]
+#[derive(Clone, Copy)]
 pub struct Tree {
     pub nodes: Shape,
     pub leaves: Shape,
@@ -35,7 +35,7 @@ pub struct Tree {
 }
 
 // CNT's part for a tree.
-#[derive(Drop)]
+#[derive(Clone, Copy)]
 pub enum Part {
     Right(Tree),
     Wrong,

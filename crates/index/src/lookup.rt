@@ -25,7 +25,7 @@ const NO_TERM: u32 = 0;
 const BROKEN: u32 = 1;
 
 // What a lookup finds: block and word of the first equal key, as their 32 bits; or the refusal.
-#[derive(Drop)]
+#[derive(Clone, Copy)]
 pub enum Found {
     At { block: u32, word: u32 },
     BadTerm,

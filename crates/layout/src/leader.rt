@@ -6,7 +6,7 @@ ghost use Rattle.layout.specs.Inner.{first_bytes};
 
 use crate::sizes::{Block, Mfn};
 
-#[derive(Drop)]
+#[derive(Clone, Copy)]
 pub struct Leader {
     pub mfn: Mfn,
     pub mfrl: u16,

@@ -4,7 +4,7 @@ ghost use Rattle.std.specs.Prelude.{◌≤◌, length};
 use crate::numbers;
 
 // How long a list wants the buffers and the two rooms; how many numbers, MFNs, tags, lengths and bytes it has; and where they begin in the text.
-#[derive(Drop)]
+#[derive(Clone, Copy)]
 pub struct Lengths {
     pub mst: u32,
     pub xrf: u32,

@@ -15,7 +15,7 @@ use postings::list::{Given, open, right};
 
 // An MFN, the postings of its run that stand behind its own, from `at` up to `end`, and the cursor behind the run. The MFN is 2^24 where none is
 // read: the list is over, or, where `end` is below `at`, its next run is still to be read.
-#[derive(Drop)]
+#[derive(Clone, Copy)]
 pub struct Head {
     pub mfn: u32,
     pub at: usize,

@@ -9,7 +9,7 @@ use crate::answer::Answer;
 use word::integer::{put_u32, u32_at, u64_at};
 
 // A posting that was read; four zeros where it was refused.
-#[derive(Drop)]
+#[derive(Clone, Copy)]
 pub struct Posting {
     pub answer: Answer,
     pub mfn: u32,

@@ -13,14 +13,14 @@ use posting::answer::Answer;
 use posting::codec::posting_at;
 
 // The cursor before a list's first posting, and its total.
-#[derive(Drop)]
+#[derive(Clone, Copy)]
 pub struct Opened {
     pub total: u32,
     pub cursor: Cursor,
 }
 
 // An answer, and how many items were given.
-#[derive(Drop)]
+#[derive(Clone, Copy)]
 pub struct Given {
     pub answer: Answer,
     pub count: usize,

@@ -5,7 +5,7 @@ ghost use Rattle.postings.specs.Segment.{spot, word_offset, header_inside, count
 use word::integer::u32_at;
 
 // What a header says: the postings in the segment, the total, the next place, and the offset of the first posting.
-#[derive(Drop)]
+#[derive(Clone, Copy)]
 pub struct Segment {
     pub count: u32,
     pub total: u32,
@@ -14,7 +14,7 @@ pub struct Segment {
     pub first: usize,
 }
 
-#[derive(Drop)]
+#[derive(Clone, Copy)]
 pub enum Header {
     At(Segment),
     Bad,

@@ -7,7 +7,7 @@ use layout::sizes::Tag;
 use word::integer::u16_at;
 
 // A directory entry.
-#[derive(Drop)]
+#[derive(Clone, Copy)]
 pub struct DirectoryEntry {
     pub tag: Tag,
     pub pos: u16,

@@ -8,7 +8,7 @@ use layout::sizes::Tag;
 use word::integer::u16_at;
 
 // Where in its record a field lies; or that its tag occurs fewer times than asked, and how often; or that it does not occur.
-#[derive(Drop)]
+#[derive(Clone, Copy)]
 pub enum Found {
     Span { start: usize, len: usize },
     Fewer { occurrences: u32 },

@@ -12,7 +12,7 @@ use layout::sizes::Mfn;
 const NO_ENTRY: u32 = 0;
 
 // What the test found: the leader of a record that passes, or the number of the first entry that breaks a rule, counted from 1.
-#[derive(Drop)]
+#[derive(Clone, Copy)]
 pub enum Tested {
     WellFormed(Leader),
     Broken { entry: u32 },

@@ -19,7 +19,7 @@ use views::views::Shown;
 use writing::create::Created;
 
 // What a turn does: one call is reported, or the replay stops.
-#[derive(Drop)]
+#[derive(Clone, Copy)]
 pub enum Turn {
     Next(Cursor),
     Stopped(Stop),

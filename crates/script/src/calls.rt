@@ -8,7 +8,7 @@ use layout::sizes::{Mfn, Tag};
 pub const CALL_SIZE: usize = 5;
 
 // How many MFNs a list and how many tags, lengths and bytes a draft takes, or are left.
-#[derive(Drop)]
+#[derive(Clone, Copy)]
 pub struct Counts {
     pub mfns: usize,
     pub tags: usize,
@@ -17,7 +17,7 @@ pub struct Counts {
 }
 
 // A call that only reads.
-#[derive(Drop)]
+#[derive(Clone, Copy)]
 pub enum Reading {
     View { mfn: Mfn, tag: Tag, occurrence: u32 },
     Settled { mfn: Mfn, tag: Tag, occurrence: u32 },
@@ -25,7 +25,7 @@ pub enum Reading {
 }
 
 // A call that may write.
-#[derive(Drop)]
+#[derive(Clone, Copy)]
 pub enum Writing {
     Format,
     Create,
@@ -39,7 +39,7 @@ pub enum Writing {
 
 // The next call of a list. One that may write takes the next of each of the three lists of drafts, one that settles a list the next MFNs, and it
 // is lent a list for so many answers.
-#[derive(Drop)]
+#[derive(Clone, Copy)]
 pub enum Op {
     Asks(Reading),
     Writes(Writing, Counts),

@@ -5,7 +5,7 @@ ghost use Rattle.script.specs.Cursor.{left_at, moved, Movable};
 use crate::calls::Counts;
 
 // How far a run is: calls reported, MFNs, tags, lengths and bytes used, and numbers and bytes written.
-#[derive(Drop)]
+#[derive(Clone, Copy)]
 pub struct Cursor {
     pub calls: usize,
     pub mfns: usize,

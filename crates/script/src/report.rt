@@ -7,7 +7,7 @@ ghost use Rattle.script.specs.Report.{outcome_size};
 pub const OUTCOME_SIZE: usize = 5;
 
 // Why a run stopped.
-#[derive(Drop)]
+#[derive(Clone, Copy)]
 pub enum Stop {
     // The list is at its end.
     Ended,
@@ -20,7 +20,7 @@ pub enum Stop {
 }
 
 // Why it stopped, and how many calls were run and reported.
-#[derive(Drop)]
+#[derive(Clone, Copy)]
 pub struct Replayed {
     pub stop: Stop,
     pub calls: usize,

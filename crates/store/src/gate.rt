@@ -14,21 +14,21 @@ use layout::sizes::Mfn;
 use record::test::Tested;
 
 // NXTMFN and the end of a store whose lengths and control record are right, or the refusal.
-#[derive(Drop)]
+#[derive(Clone, Copy)]
 pub enum Gate {
     Open { next: Mfn, end: usize },
     Shut(Answer),
 }
 
 // The place and the leader of a record that is right, or the refusal.
-#[derive(Drop)]
+#[derive(Clone, Copy)]
 pub enum Known {
     Record { place: Place, leader: Leader },
     Refused(Answer),
 }
 
 // The end, and the place and the leader of a record that is right, behind an open gate; or the refusal.
-#[derive(Drop)]
+#[derive(Clone, Copy)]
 pub enum Reached {
     There {
         end: usize,

@@ -15,7 +15,7 @@ use store::answer::Answer;
 use store::gate::{Gate, Known, Reached};
 
 // Where a new version goes, at the end or in place, or the refusal. One variant carries all, so that it stays at one place in memory.
-#[derive(Drop)]
+#[derive(Clone, Copy)]
 pub enum Plan {
     NewVersion {
         end: usize,

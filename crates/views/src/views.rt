@@ -14,7 +14,7 @@ use store::answer::Answer;
 use store::gate::Reached;
 
 // The answer of a view, where in the MST the field lies, and with answer 15 how often the tag occurs.
-#[derive(Drop)]
+#[derive(Clone, Copy)]
 pub struct Shown {
     pub answer: Answer,
     pub start: usize,
@@ -23,7 +23,7 @@ pub struct Shown {
 }
 
 // The address of a version that is right, and the store's end, or the refusal.
-#[derive(Drop)]
+#[derive(Clone, Copy)]
 pub enum Version {
     Begins { at: usize, end: usize },
     Refused(Answer),

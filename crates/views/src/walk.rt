@@ -11,7 +11,7 @@ use store::answer::Answer;
 use walking::walker::Walked;
 
 // The answer, the field's tag, and where in the MST the field lies.
-#[derive(Drop)]
+#[derive(Clone, Copy)]
 pub struct ShownField {
     pub answer: Answer,
     pub tag: Tag,

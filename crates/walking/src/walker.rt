@@ -12,7 +12,7 @@ use record::directory::{len_at, pos_at, tag_at};
 use word::integer::u16_at;
 
 // A field as a walk hands it out: its tag, and where in the record it lies.
-#[derive(Drop)]
+#[derive(Clone, Copy)]
 pub struct Spot {
     pub tag: Tag,
     pub start: usize,
@@ -125,7 +125,7 @@ pub fn list_fields(
 }
 
 // What stands at a directory index: a field or the end of the directory.
-#[derive(Drop)]
+#[derive(Clone, Copy)]
 pub enum Walked {
     Field { tag: Tag, start: usize, len: usize },
     End,

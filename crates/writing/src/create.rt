@@ -10,14 +10,14 @@ use store::answer::Answer;
 use store::gate::Gate;
 
 // The answer of a create, and the MFN that it returns.
-#[derive(Drop)]
+#[derive(Clone, Copy)]
 pub struct Created {
     pub answer: Answer,
     pub mfn: Mfn,
 }
 
 // What create writes: NXTMFN, the end and the need; or the refusal.
-#[derive(Drop)]
+#[derive(Clone, Copy)]
 pub enum Creating {
     Write { next: Mfn, end: usize, need: usize },
     Unwritten(Answer),
