@@ -39,6 +39,63 @@ def blocks(text):
     return ["\n".join(b).rstrip("\n") for b in out]
 
 
+def source_clauses(crate, rel):
+    """The names of the ensures clauses of the function whose folder below proofs/ is rel, where it has two or more."""
+    parts = rel.split(os.sep)
+    name = parts[-1].lstrip("+")
+    for at, _, files in os.walk(os.path.join(crate, "src")):
+        for f in files:
+            if not f.endswith(".rt"):
+                continue
+            stem = f[:-3]
+            if len(parts) > 1 and stem != parts[-2] and stem not in ("lib", "main"):
+                continue
+            if len(parts) == 1 and stem not in ("lib", "main"):
+                continue
+            t = open(os.path.join(at, f), encoding="utf-8").read()
+            m = re.search(rf"\bfn {re.escape(name)}\b[^{{]*?\n?(.*?)\n\{{\n", t, re.S)
+            m = re.search(rf"(?m)^ *(?:pub(?:\(crate\))? )?(?:extern \"C\" )?fn {re.escape(name)}\b(.*?)^ *\{{$", t, re.S | re.M)
+            if m:
+                return re.findall(r"(?m)^ *ensures (\w+) \{", m.group(1)), re.findall(r"(?m)^ *requires (\w+) \{", m.group(1))
+    return [], []
+
+
+def as_record(expr, fields):
+    """The last tuple of an answer as a record of its clauses."""
+    if len(fields) < 2:
+        return expr
+    t = expr.rstrip()
+    if not t.endswith(")"):
+        return expr
+    depth, i = 0, len(t) - 1
+    while i >= 0:
+        if t[i] == ")":
+            depth += 1
+        elif t[i] == "(":
+            depth -= 1
+            if depth == 0:
+                break
+        i -= 1
+    before = t[:i].rstrip()
+    if before and not re.search(r"(\bin|=|^)$", before):
+        return expr
+    inner, parts, depth, cur = t[i + 1:-1], [], 0, ""
+    for ch in inner:
+        if ch in "({[":
+            depth += 1
+        elif ch in ")}]":
+            depth -= 1
+        if ch == "," and depth == 0:
+            parts.append(cur)
+            cur = ""
+        else:
+            cur += ch
+    parts.append(cur)
+    if len(parts) != len(fields):
+        return expr
+    return t[:i] + "record { " + "; ".join(f"{f} = {p.strip()}" for f, p in zip(fields, parts)) + " }"
+
+
 def main():
     crate, names = sys.argv[1], json.load(open(sys.argv[2]))
     only = set(sys.argv[3:])
@@ -54,10 +111,10 @@ def main():
         if entry is None:
             print(f"left: {rel}: no names")
             continue
-        turn(crate_name, at, rel, path, entry)
+        turn(crate, crate_name, at, rel, path, entry)
 
 
-def turn(crate_name, at, rel, path, entry):
+def turn(crate, crate_name, at, rel, path, entry):
     text = open(os.path.join(at, "Proof.antt"), encoding="utf-8").read()
     bs = blocks(text)
     needs = {norm(o): n for o, n in entry["needs"]}
@@ -88,6 +145,8 @@ def turn(crate_name, at, rel, path, entry):
         loops[squash(o)] = (n, vars_, ch)
     head, uses, helpers, invs, answers, said = [], [], [], [], [], []
     local = {}
+    own_ensures, own_requires = source_clauses(crate, rel)
+    places_by = {squash(p[0]): n for p, n in zip(entry["places"], entry["places_by_name"])}
     heads = set(re.findall(r"(?m)^(\S+) : tie\.Need-", text))
 
     def fix_paths(body):
@@ -96,8 +155,13 @@ def turn(crate_name, at, rel, path, entry):
         body = re.sub(r"(?:\.before)+(?=\.)", "", body)
         body = re.sub(r"(?<=[A-Za-z0-9₀'])(?:\.before)+(?![\w-])", "", body)
 
+        lent = {m.group(1) for m in re.finditer(rf"let (\S+) = {TOKEN}*(?:\.{TOKEN}+)*\.(?:args|ranges|requires|new|ensures|type_inv) in", body)}
+
         def step(m):
             w = m.group(1)
+            before = re.search(rf"({TOKEN}*)$", body[:m.start()]).group(1)
+            if before in lent or before in ("args", "ranges", "type_inv", "type-inv", "new", "ensures", "requires", "auto", "result", "now"):
+                return "." + FIELDS.get(w, w)
             n = steps.get(squash(w))
             return "." + (n if n is not None and w not in ("args", "requires") else FIELDS.get(w, w))
 
@@ -167,11 +231,16 @@ def turn(crate_name, at, rel, path, entry):
             plain = flat in TRIVIAL and not unf
             args = [a for a in args if a not in ("κs", "κ")]
             expr = clauses(fix_paths(expr))
+            if len(own_requires) > 1:
+                expr = re.sub(r"\.requires\.(\d+)", lambda m: ".requires." + own_requires[int(m.group(1))] if int(m.group(1)) < len(own_requires) else m.group(0), expr)
+            if new.startswith("returns"):
+                expr = as_record(expr, own_ensures)
             answers.append((new, plain, "\n".join(comment + [f"pub {new} : goal.{new}"] + unf), ''.join(' ' + a for a in args), mm.group(2) + expr))
             continue
         if re.match(r"pub \S+[-_]spec : ", sig):
             continue
-        helpers.append(b)
+        b = re.sub(rf"\blts\.({TOKEN}+)(?: claims)?(?: reads\.Pre reads\.Post)?", lambda m: places_by.get(squash(m.group(1)), m.group(1)), b)
+        helpers.append(clauses(fix_paths(b)))
     # an answer that another one cites is written, and cited by its new name
     cited = set()
 
@@ -212,6 +281,14 @@ def turn(crate_name, at, rel, path, entry):
         expr = re.sub(rf"(?<![^\s(){{}};,@«»])({TOKEN}+)", lambda w: table.get(w.group(1), w.group(1)), expr)
         c = comment + "\n" if comment else ""
         inv_texts.append(f"{c}abbrev pub {kind}-{n} : goal.{kind}-{n}\n{unf}{kind}-{n} l ={mm.group(2)}{expr}")
+    negated = rf"({TOKEN}+(?:\.{TOKEN}+)*\.if-not-{TOKEN}+\.(?:true|false))(?![\w.-])"
+    answers = [re.sub(negated, r"(ap not \1)", a) for a in answers]
+    if any("(ap not " in a for a in answers):
+        have = " ".join(uses)
+        if not re.search(r"[{ ]not[,}]", have):
+            uses.append("use mathlib.Core.Bool.{not}")
+        if not re.search(r"[{ ]ap[,}]", have):
+            uses.append("use mathlib.Core.Path.{ap}")
     base = f"Rattle.{crate_name}.proofs.{path}"
     if inv_texts:
         with open(os.path.join(at, "Invariants.antt"), "w", encoding="utf-8") as f:

@@ -3,7 +3,7 @@
 use Prim.Native.Nat.{ℕ, suc, ◌+◌, ◌*◌, ◌-◌, ◌%◌, ◌≤◌}
 use native.Mathlib.Omega.{arith}
 use mathlib.Core.Path.{◌≡◌, refl, ap}
-use mathlib.Core.Bool.{Bool, true, false, ◌&&◌, cond, and_true, and-false}
+use mathlib.Core.Bool.{Bool, true, false, ◌&&◌, cond, and-true, and-false}
 use mathlib.Core.List.{List}
 use lib.ListN.{length}
 use Rattle.layout.specs.Sizes.{record_most, record_length, tag_permitted}
@@ -84,7 +84,7 @@ and_last : (a b c d : Bool) → (a && b && c && d) ≡ (a && b && d && c)
 and_last false b c d = refl
 and_last true false c d = refl
 and_last true true false d = rw (and-false d)
-and_last true true true d = rw (and_true d)
+and_last true true true d = rw (and-true d)
 
 -- a record is well formed if it is right and its back pointer is
 pub well_formed_both : (rec : List ℕ) (end m : ℕ) (p : Place) → well_formed rec end m p ≡ (record_right rec m p.deleted && back_fine end p (leader_of rec))
