@@ -26,7 +26,6 @@ use Rattle.layout.specs.declared.entry.Place.{Place}
 use Rattle.layout.specs.declared.entry.Entry.{Entry}
 use Rattle.layout.specs.declared.entry.Entry.TheVariants.{Gone, Malformed, At}
 use Rattle.layout.specs.declared.leader.Leader.{Leader}
-use Rattle.layout.specs.contracts.entry.Entry as entry
 use Rattle.layout.specs.contracts.entry.Mark as mark
 use Rattle.layout.proofs.Facts.{well_placed_facts}
 use Rattle.files.proofs.ControlRecord.{control_read_lem}
@@ -153,12 +152,12 @@ fine_cond false k = refl
 abbrev entry_list : Entry → Bool → Answer
 entry_list e ok = cond (is_malformed e) BadEntry (cond (is_gone e) GoneAnswer (cond (not ok) BadRecord Done))
 
-no_place : (e : Entry) (ok : Bool) (k : Known) → OneOf (0 ∷ 1 ∷ []) (tag_of entry.the_type e)
+no_place : (e : Entry) (ok : Bool) (k : Known) → ((p : Place) → e ≡ At p → ⊥)
     → Refused (entry_answer e) ≡ after (entry_list e ok) k (Refused (entry_list e ok))
 unfolding after number_of
 no_place Gone ok k o = refl
 no_place Malformed ok k o = refl
-no_place (At p) ok k o = ⊎_elim (λ (z : ◌≡◌ {A = ℕ} 2 0). absurd (omega arith)) (λ (z : ◌≡◌ {A = ℕ} 2 1). absurd (omega arith)) o
+no_place (At p) ok k o = absurd (o p refl)
 
 module _ (mst xrf : List ℕ) (m : ℕ) where
   pub record_low : m < 1 → Refused NoMfn ≡ known_of (store mst xrf) m
@@ -178,7 +177,7 @@ module _ (mst xrf : List ℕ) (m : ℕ) where
       record_placed p v = entry_well_placed xrf end m p (sym u ∙ v)
 
       module _ (low : 1 ≤ m) (high : m < next.0) where
-        pub record_no_place : (a : Answer) → OneOf (0 ∷ 1 ∷ []) (tag_of entry.the_type e) → a ≡ entry_answer e → Refused a ≡ known_of (store mst xrf) m
+        pub record_no_place : (a : Answer) → ((p : Place) → e ≡ At p → ⊥) → a ≡ entry_answer e → Refused a ≡ known_of (store mst xrf) m
         unfolding known_of known_if after number_of
         record_no_place a o s =
             rw (s, open_known mst xrf next end g m low high, open_entry mst xrf next end g m e u) (no_place e (record_fine mst m (place_in e)) (Record (place_in e) (leader_at mst (place_in e))) o)

@@ -4,7 +4,7 @@ use Prim.Native.Nat.{ℕ, ◌+◌, ◌-◌, ◌%◌, ◌≤◌, ◌<◌}
 use native.Mathlib.Omega.{arith}
 use mathlib.Core.Path.{◌≡◌, refl, sym, ap, ◌∙◌}
 use mathlib.Core.Logic.{◌⊎◌, inl, inr}
-use mathlib.Core.Bool.{Bool, true, false, not, ◌&&◌, cond, and_true}
+use mathlib.Core.Bool.{Bool, true, false, not, ◌&&◌, cond, and-true}
 use mathlib.Core.List.{List}
 use lib.Dec.{eqb}
 use borrow.Author.Tests.{lt-ltb, le-leb, eqb-true, eqb-false, eq-eqb, ne_eqb, not-false}
@@ -277,7 +277,7 @@ pub settled_both : (mst : List ℕ) (m : ℕ) (p : Place) → settled_fine mst m
 unfolding settled_fine back_fine back_right
 settled_both mst m p =
     well_formed_both (settled_record mst p) (end_of mst) m (placed (leader_at mst p).mfbwb.0 (leader_at mst p).mfbwp false Settled)
-    ∙ ap (λ (x : Bool). record_right (settled_record mst p) m false && x) (and_true (no_back (leader_of (settled_record mst p))))
+    ∙ ap (λ (x : Bool). record_right (settled_record mst p) m false && x) (and-true (no_back (leader_of (settled_record mst p))))
 
 pub fine_facts : (mst : List ℕ) (m : ℕ) (p : Place) → record_fine mst m p ≡ true → FineFacts mst m p (leader_at mst p)
 fine_facts mst m p e =
