@@ -16,6 +16,10 @@ FIELDS = {"type-inv": "type_inv", "well-formed": "well_formed"}
 TOKEN = r"[^\s(){}.;,@\"«»]"
 
 
+def quoted(v):
+    return "«data»" if v == "data" else v
+
+
 def norm(n):
     n = n.replace("_", "-")
     n = re.sub(r"^(overflow|nonzero)-", "", n)
@@ -184,7 +188,7 @@ def turn(crate, crate_name, at, rel, path, entry):
                 if re.search(r"\.(Statement|Tie)\b", l):
                     continue
                 (uses if l.startswith(("use ", "pub use", "unfoldable")) else tail).append(l)
-            if [x for x in tail if x.strip()]:
+            if [x for x in tail if x.strip()] and not re.match(r"pub \S+[-_]spec : ", tail[0]):
                 helpers.append("\n".join(tail))
             continue
         sig = rest[0]
@@ -270,14 +274,15 @@ def turn(crate, crate_name, at, rel, path, entry):
         params = mm.group(1).split()
         order = []
         for v, c in zip(vars_, ch):
-            order.append(f"l.initial.{v}" if c else f"l.{v}")
+            order.append(f"l.initial.{quoted(v)}" if c else f"l.{quoted(v)}")
         for v, c in zip(vars_, ch):
             if c:
-                order.append(f"l.{v}")
+                order.append(f"l.{quoted(v)}")
         if len(order) != len(params):
             said.append(f"{kind} {n}: {params} against {order}")
         table = dict(zip(params, order))
         expr = t[mm.end():]
+        expr = re.sub(r"(?<![\w.])«(\w+)»", lambda w: table.get(w.group(0), w.group(0)), expr)
         expr = re.sub(rf"(?<![^\s(){{}};,@«»])({TOKEN}+)", lambda w: table.get(w.group(1), w.group(1)), expr)
         c = comment + "\n" if comment else ""
         inv_texts.append(f"{c}abbrev pub {kind}-{n} : goal.{kind}-{n}\n{unf}{kind}-{n} l ={mm.group(2)}{expr}")
@@ -301,4 +306,5 @@ def turn(crate, crate_name, at, rel, path, entry):
         print(f"left: {rel}: " + "; ".join(said))
 
 
-main()
+if __name__ == "__main__":
+    main()

@@ -6,7 +6,7 @@ use native.Mathlib.Numerals.{add-one}
 use native.Mathlib.Omega.{arith}
 use mathlib.Core.Path.{◌≡◌, refl, ap, ◌∙◌}
 use mathlib.Core.Logic.{⊎_elim}
-use mathlib.Core.Bool.{Bool, true, false, not, ◌&&◌, and_true, and-false}
+use mathlib.Core.Bool.{Bool, true, false, not, ◌&&◌, and-true, and-false}
 use mathlib.Core.List.{List, [], ◌∷◌, ◌++◌}
 use lib.Dec.{eqb}
 use lib.ListN.{length, get_or, take, drop, length-drop, drop_of_length-le}
@@ -124,7 +124,7 @@ module _ (tags lens bytes : List ℕ) where
         → need ≤ record_most → length bytes ≤ record_most → total ≡ up_to record_most (sum lens) → eqb total (length bytes) ≡ draft_right tags lens bytes
     unfolding draft_right
     answer_total need total e h n k l t =
-        rw (eq-eqb (length tags) (length lens) e, ← p, not-false permitted h, ← n, le-leb need record_most k, t, and_true) (capped record_most (sum lens) (length bytes) l)
+        rw (eq-eqb (length tags) (length lens) e, ← p, not-false permitted h, ← n, le-leb need record_most k, t, and-true) (capped record_most (sum lens) (length bytes) l)
 
 pub ruleset draft_answers = (answer_unequal, answer_need, answer_many, answer_long, answer_tags, answer_total)
 

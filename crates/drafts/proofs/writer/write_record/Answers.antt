@@ -1,0 +1,37 @@
+use native.Mathlib.Omega.{arith}
+use Rattle.drafts.specs.Draft.{need_of}
+use Rattle.drafts.proofs.Writing.{record_written}
+use Rattle.drafts.proofs.writer.write_record.Goals as goal
+
+pub overflow_mul-base : goal.overflow_mul-base
+unfolding need_of
+overflow_mul-base c = omega arith
+
+pub overflow_add-base : goal.overflow_add-base
+unfolding need_of
+overflow_add-base c = omega arith
+
+pub put_directory-requires : goal.put_directory-requires
+unfolding need_of
+put_directory-requires c = record { data_value = c.requires.data_value; tags_in_bounds = omega arith }
+
+pub copy_to-requires : goal.copy_to-requires
+unfolding need_of
+copy_to-requires c = omega arith
+
+pub overflow_add-base-2 : goal.overflow_add-base-2
+unfolding need_of
+overflow_add-base-2 c = omega arith
+
+pub frame_record-requires : goal.frame_record-requires
+unfolding need_of
+frame_record-requires c = omega arith
+
+pub returns : goal.returns
+unfolding need_of
+returns c =
+    let z = c in
+    let k = z in
+    let w = k in
+    let s = w in
+    record_written _ s.args.l _ _ _ s.requires.data_value w.put_directory.ensures k.copy_to.ensures z.frame_record.ensures (omega arith) s.requires.data_bound.1
