@@ -1,6 +1,1 @@
 pub mod Walking
-mod Again
-mod Asking
-mod Locals
-pub mod Held
-pub mod TakenApart

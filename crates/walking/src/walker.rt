@@ -40,7 +40,7 @@ fn spot_at(rec: &[u8], count: usize, index: usize) -> Spot
 }
 
 // A walk over the fields of a record: the record's bytes, how many fields it has, and the directory index that the walk has come to.
-#[derive(Drop)]
+#[derive(Clone, Copy)]
 pub struct FieldWalker<'a> {
     pub rec: &'a [u8],
     pub count: usize,
