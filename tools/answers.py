@@ -43,6 +43,20 @@ def blocks(text):
     return ["\n".join(b).rstrip("\n") for b in out]
 
 
+def nested(path, fields):
+    """The clause that a path of positions named where the clauses were pairs within pairs, with what is left of the path."""
+    steps = path.split(".")[1:]
+    for i in range(len(fields) - 1):
+        if not steps:
+            return None
+        s = steps.pop(0)
+        if s == "0":
+            return "." + fields[i] + "".join("." + x for x in steps)
+        if s != "1":
+            return None
+    return "." + fields[-1] + "".join("." + x for x in steps)
+
+
 def source_clauses(crate, rel):
     """The names of the ensures clauses of the function whose folder below proofs/ is rel, where it has two or more."""
     parts = rel.split(os.sep)
@@ -62,6 +76,41 @@ def source_clauses(crate, rel):
             if m:
                 return re.findall(r"(?m)^ *ensures (\w+) \{", m.group(1)), re.findall(r"(?m)^ *requires (\w+) \{", m.group(1))
     return [], []
+
+
+def requires_of(crate, goal, params):
+    """The names of the requires clauses of the function whose call the goal is about."""
+    best = None
+    for path in params:
+        name = path.split("::")[-1]
+        if goal.startswith(name + "-") and (best is None or len(name) > len(best.split("::")[-1])):
+            best = path
+    if best is None:
+        return []
+    parts = best.split("::")
+    folder = os.path.join(crate, "..", parts[0])
+    if not os.path.isdir(folder):
+        return []
+    return source_clauses(folder, os.sep.join(parts[1:]))[1]
+
+
+def by_clause(expr, fields):
+    """An answer that gave pairs within pairs as a record of the clauses."""
+    if len(fields) < 2:
+        return expr
+    to = as_record(expr, fields)
+    if to != expr:
+        return to
+    flat = re.sub(r"\s+", " ", expr).strip()
+    last = re.split(r" in ", flat)[-1]
+    if re.match(r"(search|omega|grind|record|cc|assumption|rw|simp|elim)\b", last):
+        return expr
+    at = ["h." + "".join("1." for _ in range(i)) + "0" for i in range(len(fields) - 1)] + ["h." + ".".join("1" for _ in range(len(fields) - 1))]
+    body = expr.strip("\n").strip()
+    inner = body.replace("\n", "\n    ")
+    if "let " in body:
+        inner = "(" + inner + ")"
+    return f"\n    let h =\n        {inner} in\n    record {{ " + "; ".join(f"{f} = {a}" for f, a in zip(fields, at)) + " }"
 
 
 def as_record(expr, fields):
@@ -138,9 +187,10 @@ def turn(crate, crate_name, at, rel, path, entry):
 
         def one(m):
             fields = told.get(alias.get(m.group(1), m.group(1)))
-            return f"{m.group(1)}.ensures.{fields[int(m.group(2))]}" if fields and int(m.group(2)) < len(fields) else m.group(0)
+            to = nested(m.group(2), fields) if fields else None
+            return f"{m.group(1)}.ensures{to}" if to else m.group(0)
 
-        return re.sub(rf"({TOKEN}+)\.ensures\.(\d+)", one, expr)
+        return re.sub(rf"({TOKEN}+)\.ensures((?:\.\d+)+)", one, expr)
 
     loops = {}
     for i, group in enumerate(entry["loops"]):
@@ -236,9 +286,13 @@ def turn(crate, crate_name, at, rel, path, entry):
             args = [a for a in args if a not in ("κs", "κ")]
             expr = clauses(fix_paths(expr))
             if len(own_requires) > 1:
-                expr = re.sub(r"\.requires\.(\d+)", lambda m: ".requires." + own_requires[int(m.group(1))] if int(m.group(1)) < len(own_requires) else m.group(0), expr)
+                expr = re.sub(r"\.requires((?:\.\d+)+)", lambda m: ".requires" + (nested(m.group(1), own_requires) or m.group(1)), expr)
+                for pre in re.findall(rf"let (\S+) = {TOKEN}+\.requires in", expr):
+                    expr = re.sub(rf"(?<![\w.-]){re.escape(pre)}((?:\.\d+)+)", lambda m: pre + (nested(m.group(1), own_requires) or m.group(1)), expr)
             if new.startswith("returns"):
-                expr = as_record(expr, own_ensures)
+                expr = by_clause(expr, own_ensures)
+            elif "requires" in new:
+                expr = by_clause(expr, requires_of(crate, new, entry["params"]))
             answers.append((new, plain, "\n".join(comment + [f"pub {new} : goal.{new}"] + unf), ''.join(' ' + a for a in args), mm.group(2) + expr))
             continue
         if re.match(r"pub \S+[-_]spec : ", sig):

@@ -3,9 +3,7 @@ use Prim.Native.Nat.{ℕ, ◌+◌, ◌≤◌}
 use native.Mathlib.Omega.{arith}
 use mathlib.Core.Path.{◌≡◌, refl, sym, ◌∙◌}
 use mathlib.Core.Bool.{Bool, true, false, not}
-use mathlib.Core.List.{List, [], ◌∷◌}
-use denote.Enum.Declared.{tag_of}
-use types.Run.{OneOf, miss}
+use mathlib.Core.List.{List}
 use lib.ListN.{length}
 use borrow.Author.Tests.{not-false}
 use Rattle.layout.specs.Sizes.{fields_most, record_most}
@@ -16,15 +14,14 @@ use Rattle.layout.specs.declared.leader.Leader.{Leader}
 use Rattle.drafts.specs.Draft.{need_of, draft_right}
 use Rattle.drafts.proofs.DraftFacts.{draft_facts}
 use Rattle.store.specs.Reading.{is_settled, leader_at}
-use Rattle.layout.specs.contracts.entry.Mark as mark
 use Rattle.layout.specs.declared.entry.Mark.{Mark}
 use Rattle.layout.specs.declared.entry.Mark.TheVariants.{Settled, Changed, New}
 use Rattle.versions.specs.Asked.{HasSlot, AtEnd, DraftFits, RecordRead}
 use Rattle.store.proofs.Gates.{OpenFacts, KnownFacts}
 
 -- the marks that are left in an `else`
-pub not_settled : (k : Mark) → OneOf (1 ∷ 2 ∷ []) (tag_of mark.the_type k) → is_settled k ≡ false
-not_settled Settled v = absurd (miss (1 ∷ 2 ∷ []) 0 tt v)
+pub not_settled : (k : Mark) → (k ≡ Settled → ⊥) → is_settled k ≡ false
+not_settled Settled v = absurd (v refl)
 not_settled Changed v = refl
 not_settled New v = refl
 
