@@ -2,11 +2,11 @@ use borrow.Author.Rules.{rules}
 use Rattle.views.proofs.ViewAnswers.{refused_within, show_missing, show_fewer, view_answers}
 use Rattle.views.proofs.views.show_field.Goals as goal
 
--- LEFT part-find-field-start : tie.Need-slice-bounds-find-field-start
--- part-find-field-start c = search view_answers
+pub slice_bounds-find_field-start : goal.slice_bounds-find_field-start
+slice_bounds-find_field-start c = search view_answers
 
--- LEFT part-find-field-end : tie.Need-slice-bounds-find-field-end
--- part-find-field-end c = search view_answers
+pub slice_bounds-find_field-end : goal.slice_bounds-find_field-end
+slice_bounds-find_field-end c = search view_answers
 
 pub returns-in_default : goal.returns-in_default
 returns-in_default c = search view_answers
@@ -25,12 +25,12 @@ returns-in-Span c = search view_answers
 
 pub returns-in-Fewer : goal.returns-in-Fewer
 returns-in-Fewer c =
-    let v = c.v-1.given.1 in
+    let v = c.in-Fewer.is in
     let r = c.refused_view-in-Fewer.ensures in
     record { is = show_fewer _ _ _ _ _ _ v _ c.find_field-f.ensures _ _ c.f-in-Fewer-1.given.1 r; within = refused_within _ _ _ _ r }
 
 pub returns-in-Missing : goal.returns-in-Missing
 returns-in-Missing c =
-    let v = c.v-1.given.1 in
+    let v = c.in-Missing.is in
     let r = c.refused_view-in-Missing.ensures in
     record { is = show_missing _ _ _ _ _ _ v _ c.find_field-f.ensures _ c.enum_told-in-Missing-1.given.1 r; within = refused_within _ _ _ _ r }

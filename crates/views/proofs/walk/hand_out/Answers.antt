@@ -2,11 +2,11 @@ use borrow.Author.Rules.{rules}
 use Rattle.views.proofs.WalkAnswers.{walk_answers}
 use Rattle.views.proofs.walk.hand_out.Goals as goal
 
--- LEFT part-field-span-start : tie.Need-slice-bounds-field-span-start
--- part-field-span-start c = search walk_answers
+pub slice_bounds-field_span-start : goal.slice_bounds-field_span-start
+slice_bounds-field_span-start c = search walk_answers
 
--- LEFT part-field-span-end : tie.Need-slice-bounds-field-span-end
--- part-field-span-end c = search walk_answers
+pub slice_bounds-field_span-end : goal.slice_bounds-field_span-end
+slice_bounds-field_span-end c = search walk_answers
 
 pub returns-in_default : goal.returns-in_default
 returns-in_default c = search walk_answers
