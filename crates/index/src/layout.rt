@@ -17,7 +17,7 @@ const ORDER_MOST: u16 = 16;
 
 // The records of a node or a leaf file: the tree's type, the bytes before the entries, the key's width, the bytes of an entry, and how
 // many entries there are.
-#[derive(Drop)]
+#[derive(Clone, Copy)]
 pub struct Shape {
     pub kind: u16,
     pub head: usize,

@@ -6,9 +6,8 @@ use Rattle.terms.proofs.key.below_by.Goals as goal
 
 pub returns-then-x-y : goal.returns-then-x-y
 returns-then-x-y c =
-    let start = c in
-    let a = start.args in
-    let p = start.requires in
+    let a = c.args in
+    let p = c.requires in
     let x = eight_first _ _ _ (λ m. (c.type_inv.a m).fits) p.1 p.0 p.3 in
     let y = eight_first _ _ _ (λ m. (c.type_inv.b m).fits) p.2 p.0 p.4 in
     let l = c.if-x-y.true in
@@ -16,9 +15,8 @@ returns-then-x-y c =
 
 pub returns-then-y-x : goal.returns-then-y-x
 returns-then-y-x c =
-    let start = c in
-    let a = start.args in
-    let p = start.requires in
+    let a = c.args in
+    let p = c.requires in
     let x = eight_first _ _ _ (λ m. (c.type_inv.a m).fits) p.1 p.0 p.3 in
     let y = eight_first _ _ _ (λ m. (c.type_inv.b m).fits) p.2 p.0 p.4 in
     let l = c.if-y-x.true in
@@ -26,9 +24,8 @@ returns-then-y-x c =
 
 pub below_rest-requires : goal.below_rest-requires
 below_rest-requires c =
-    let start = c in
-    let a = start.args in
-    let p = start.requires in
+    let a = c.args in
+    let p = c.requires in
     let x = eight_first _ _ _ (λ m. (c.type_inv.a m).fits) p.1 p.0 p.3 in
     let y = eight_first _ _ _ (λ m. (c.type_inv.b m).fits) p.2 p.0 p.4 in
     (p.0, p.1, p.2, agree_more a.a.now a.b.now a.i a.j 0 _ _ x y refl (omega (arith, c.if-x-y.false, c.if-y-x.false)))

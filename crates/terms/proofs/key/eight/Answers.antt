@@ -7,6 +7,5 @@ use Rattle.terms.proofs.key.eight.Goals as goal
 
 pub returns : goal.returns
 returns c =
-    let start = c in
     c.swapped.ensures ∙ ap (λ (v : ℕ). big (le 8 v)) c.u64_at.ensures
-    ∙ ap big (u64_back start.args.s.now start.args.at (λ m. (c.type_inv.s m).fits) start.requires)
+    ∙ ap big (u64_back c.args.s.now c.args.at (λ m. (c.type_inv.s m).fits) c.requires)

@@ -1,7 +1,6 @@
 use Prim.Native.Nat.{◌+◌, ◌-◌}
 use native.Mathlib.Omega.{arith}
 use mathlib.Core.Path.{◌≡◌}
-use Rattle.std.proofs.lemmas.Bool.{not_from_true, not_from_false}
 use Rattle.terms.proofs.Ascending.{run_more, run_one, run_start, run_done, run_stop, run_next}
 use Rattle.terms.proofs.key.keys_ascend.Goals as goal
 
@@ -25,49 +24,41 @@ loop-left-init c =
 
 pub overflow_add-next : goal.overflow_add-next
 overflow_add-next c =
-    let start = c in
     let l = c.loop-left in
-    let m = run_more l.left start.args.step c.loop-left-test.true in
-    let o = run_one (l.left - 1) start.args.step in
-    omega (arith, m, o, l.invariant.0, start.requires.1, start.well_formed.0.1)
+    let m = run_more l.left c.args.step c.loop-left-test.true in
+    let o = run_one (l.left - 1) c.args.step in
+    omega (arith, m, o, l.invariant.0, c.requires.1, c.well_formed.0.1)
 
 pub eight-y-requires : goal.eight-y-requires
 eight-y-requires c =
-    let start = c in
     let l = c.loop-left in
-    let m = run_more l.left start.args.step c.loop-left-test.true in
-    let o = run_one (l.left - 1) start.args.step in
-    omega (arith, m, o, l.invariant.0, start.requires.0, start.requires.1)
+    let m = run_more l.left c.args.step c.loop-left-test.true in
+    let o = run_one (l.left - 1) c.args.step in
+    omega (arith, m, o, l.invariant.0, c.requires.0, c.requires.1)
 
 pub below_by-requires : goal.below_by-requires
 below_by-requires c =
-    let start = c in
     let l = c.loop-left in
-    let m = run_more l.left start.args.step c.loop-left-test.true in
-    let o = run_one (l.left - 1) start.args.step in
-    (start.requires.0, omega (arith, m, o, l.invariant.0, start.requires.1), omega (arith, m, o, l.invariant.0, start.requires.1), l.invariant.2, c.eight-y.ensures)
+    let m = run_more l.left c.args.step c.loop-left-test.true in
+    let o = run_one (l.left - 1) c.args.step in
+    (c.requires.0, omega (arith, m, o, l.invariant.0, c.requires.1), omega (arith, m, o, l.invariant.0, c.requires.1), l.invariant.2, c.eight-y.ensures)
 
 pub returns-then-not-below_by : goal.returns-then-not-below_by
 returns-then-not-below_by c =
-    let w = c in
-    let start = w in
-    let l = w.loop-left in
-    run_stop start.args.file.now start.args.step start.args.width _ l.key l.left l.invariant.1 _ w.loop-left-test.true c.below_by.ensures
-    (not_from_false _ c.if-not-below_by.true)
+    let l = c.loop-left in
+    run_stop c.args.file.now c.args.step c.args.width _ l.key l.left l.invariant.1 _ c.loop-left-test.true c.below_by.ensures
+    c.if-not-below_by.true
 
 pub loop-left-preserved : goal.loop-left-preserved
 loop-left-preserved c =
-    let w = c in
-    let start = w in
-    let l = w.loop-left in
-    let m = run_more l.left start.args.step w.loop-left-test.true in (
+    let l = c.loop-left in
+    let m = run_more l.left c.args.step c.loop-left-test.true in (
       omega (arith, m, l.invariant.0),
-      run_next start.args.file.now start.args.step start.args.width _ l.key l.left l.invariant.1 _ w.loop-left-test.true
-          c.below_by.ensures (not_from_true _ c.if-not-below_by.false),
+      run_next c.args.file.now c.args.step c.args.width _ l.key l.left l.invariant.1 _ c.loop-left-test.true
+          c.below_by.ensures c.if-not-below_by.false,
       c.eight-y.ensures,
     )
 
 pub returns : goal.returns
 returns c =
-    let start = c in
-    run_done start.args.file.now start.args.step start.args.width _ c.loop-left.key c.loop-left.left c.loop-left.invariant.1 (omega arith)
+    run_done c.args.file.now c.args.step c.args.width _ c.loop-left.key c.loop-left.left c.loop-left.invariant.1 (omega arith)
