@@ -20,7 +20,7 @@ use terms::term::width_of;
 use word::integer::u32_at;
 
 // How far a walk is: stopped at a broken rule, before the first leaf, or after a leaf, whose last key is at `key` and whose successor is `next`.
-#[derive(Drop)]
+#[derive(Clone, Copy)]
 enum Progress {
     Stopped,
     Before,
