@@ -3,10 +3,10 @@ use Prim.Native.Nat.{ℕ, zero, suc, ◌+◌, ◌-◌, ◌<◌, ◌≤◌}
 use native.Mathlib.Nat.{sub-zero}
 use native.Mathlib.Omega.{arith}
 use mathlib.Core.Path.{◌≡◌, refl, ap, ◌∙◌}
-use mathlib.Core.Bool.{Bool, true, false, not, cond}
+use mathlib.Core.Bool.{Bool, true, false, cond}
 use mathlib.Core.List.{List}
 use lib.Dec.{eqb}
-use borrow.Author.Tests.{eq-eqb, ne_eqb, ltb-false, not-true, not-false}
+use borrow.Author.Tests.{eq-eqb, ne_eqb, ltb-false}
 use Rattle.terms.specs.Key.{same, below}
 use Rattle.terms.proofs.Order.{by_cases}
 use Rattle.index.specs.Inner.{way_on, way_end}
@@ -42,13 +42,13 @@ module _ (f : List ℕ) (s : Shape) (key : List ℕ) (n count : ℕ) where
       equal_more q = rw (equal_step h, ← e, q)
 
 module _ (f : List ℕ) (s : Shape) (key : List ℕ) (n : ℕ) (b : Bool) (e : b ≡ record_right f s n) where
-  pub leaf_broken : not b ≡ true → BadIndex ≡ leaf_answer f s key n
+  pub leaf_broken : b ≡ false → BadIndex ≡ leaf_answer f s key n
   unfolding leaf_answer
-  leaf_broken q = rw (← e, not-true b q)
+  leaf_broken q = rw (← e, q)
 
-  pub leaf_rest : (r : Found) → not b ≡ false → r ≡ first_equal key (entries_of f s n) → r ≡ leaf_answer f s key n
+  pub leaf_rest : (r : Found) → b ≡ true → r ≡ first_equal key (entries_of f s n) → r ≡ leaf_answer f s key n
   unfolding leaf_answer
-  leaf_rest r q p = rw (← e, not-false b q, p)
+  leaf_rest r q p = rw (← e, q, p)
 
 -- ---- the last key not above
 
@@ -62,11 +62,11 @@ module _ (f : List ℕ) (s : Shape) (key : List ℕ) (n r i : ℕ) (inv : r ≡ 
   last_step h = let e : i ≡ suc (i - 1) = omega arith in inv ∙ ap (last_punt f s key n) e
 
   module _ (b : Bool) (h : 0 < i) (e : b ≡ below key (key_at f s n (i - 1))) where
-    pub last_here : (p : ℕ) → not b ≡ true → p ≡ punt_at f s n (i - 1) → p ≡ r
-    last_here p q t = rw (last_step h, ← e, not-true b q, t)
+    pub last_here : (p : ℕ) → b ≡ false → p ≡ punt_at f s n (i - 1) → p ≡ r
+    last_here p q t = rw (last_step h, ← e, q, t)
 
-    pub last_more : not b ≡ false → r ≡ last_punt f s key n (i - 1)
-    last_more q = rw (last_step h, ← e, not-false b q)
+    pub last_more : b ≡ true → r ≡ last_punt f s key n (i - 1)
+    last_more q = rw (last_step h, ← e, q)
 
 -- ---- the way down, as a number
 
@@ -81,22 +81,22 @@ module _ (f : List ℕ) (s : Shape) (key : List ℕ) (left n : ℕ) where
   way_step h = let e : left ≡ suc (left - 1) = omega arith in ap (λ (k : ℕ). way_end f s key k n) e
 
   module _ (b : Bool) (h : left ≡ 0 → ⊥) (e : b ≡ node_right f s n) where
-    pub way_broken : not b ≡ true → 1 ≡ way_end f s key left n
-    way_broken q = rw (way_step h, ← e, not-true b q)
+    pub way_broken : b ≡ false → 1 ≡ way_end f s key left n
+    way_broken q = rw (way_step h, ← e, q)
 
-    module _ (punt : ℕ) (q : not b ≡ false) (p : punt ≡ last_punt f s key n (ock_at f s n)) where
+    module _ (punt : ℕ) (q : b ≡ true) (p : punt ≡ last_punt f s key n (ock_at f s n)) where
       pub way_absent : punt ≡ 0 → 0 ≡ way_end f s key left n
       unfolding way_on
-      way_absent z = rw (way_step h, ← e, not-false b q, ← p, eq-eqb _ _ z)
+      way_absent z = rw (way_step h, ← e, q, ← p, eq-eqb _ _ z)
 
       module _ (a : Bool) (z : punt ≡ 0 → ⊥) (i : a ≡ is_node punt) where
         pub way_node : (r : ℕ) → a ≡ true → r ≡ way_end f s key (left - 1) punt → r ≡ way_end f s key left n
         unfolding way_on
-        way_node r y d = rw (way_step h, ← e, not-false b q, ← p, ne_eqb _ _ z, ← i, y, d)
+        way_node r y d = rw (way_step h, ← e, q, ← p, ne_eqb _ _ z, ← i, y, d)
 
         pub way_leaf : a ≡ false → punt ≡ way_end f s key left n
         unfolding way_on
-        way_leaf y = rw (way_step h, ← e, not-false b q, ← p, ne_eqb _ _ z, ← i, y)
+        way_leaf y = rw (way_step h, ← e, q, ← p, ne_eqb _ _ z, ← i, y)
 
 -- ---- what the number says
 

@@ -2,11 +2,11 @@
 use Prim.Native.Nat.{ℕ, ◌≤◌}
 use native.Mathlib.Omega.{arith}
 use mathlib.Core.Path.{◌≡◌, refl, sym, ap, ◌∙◌}
-use mathlib.Core.Bool.{Bool, true, false, not, cond}
+use mathlib.Core.Bool.{Bool, true, false, cond}
 use mathlib.Core.List.{List}
 use lib.Dec.{eqb}
 use lib.ListN.{length, replicate}
-use borrow.Author.Tests.{ne_eqb, eqb-true, eqb-false, not-true, not-false}
+use borrow.Author.Tests.{ne_eqb, eqb-true, eqb-false}
 use Rattle.word.specs.Overwrite.{overwrite, part}
 use Rattle.terms.specs.Term.{term_right, kind_for, width_of, padded}
 use Rattle.terms.proofs.Padding.{term_fits, width_high, short_fits, long_kind, key_padded}
@@ -84,19 +84,19 @@ module _ (cnt nodes leaves : List ℕ) (kind : ℕ) (term : List ℕ) (p : Part)
 -- ---- in the index
 
 -- a right term is no longer than the keys of its tree
-pub kind_fits : (term : List ℕ) (b : Bool) → b ≡ term_right term → (kind : ℕ) → not b ≡ false → kind ≡ kind_for term
+pub kind_fits : (term : List ℕ) (b : Bool) → b ≡ term_right term → (kind : ℕ) → b ≡ true → kind ≡ kind_for term
     → (1 ≤ kind) × (kind ≤ 2) × (length term ≤ width_of kind)
 kind_fits term b e kind q k =
     by_cases (eqb kind 1)
     (λ h. let z : kind ≡ 1 = eqb-true kind 1 h in rw z (omega arith, omega arith, short_fits term (sym k ∙ z)))
-    (λ h. let z : kind ≡ 2 = k ∙ long_kind term (λ y. eqb-false kind 1 h (k ∙ y)) in rw z (omega arith, omega arith, term_fits term (sym e ∙ not-false b q)))
+    (λ h. let z : kind ≡ 2 = k ∙ long_kind term (λ y. eqb-false kind 1 h (k ∙ y)) in rw z (omega arith, omega arith, term_fits term (sym e ∙ q)))
 
 module _ (cnt n01 l01 n02 l02 term : List ℕ) (b : Bool) (e : b ≡ term_right term) where
-  pub lookup_bad : not b ≡ true → BadTerm ≡ lookup_of (index cnt n01 l01 n02 l02) term
+  pub lookup_bad : b ≡ false → BadTerm ≡ lookup_of (index cnt n01 l01 n02 l02) term
   unfolding lookup_of
-  lookup_bad q = rw (← e, not-true b q)
+  lookup_bad q = rw (← e, q)
 
-  pub lookup_rest : not b ≡ false → (kind : ℕ) → kind ≡ kind_for term → (r : Found) → r ≡ lookup_in (index cnt n01 l01 n02 l02) kind term
+  pub lookup_rest : b ≡ true → (kind : ℕ) → kind ≡ kind_for term → (r : Found) → r ≡ lookup_in (index cnt n01 l01 n02 l02) kind term
       → r ≡ lookup_of (index cnt n01 l01 n02 l02) term
   unfolding lookup_of
-  lookup_rest q kind k r d = rw (← e, not-false b q, ← k) d
+  lookup_rest q kind k r d = rw (← e, q, ← k) d

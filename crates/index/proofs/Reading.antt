@@ -5,7 +5,7 @@ use native.Mathlib.Nat.{add-zero, add_assoc}
 use native.Mathlib.Omega.{arith}
 use mathlib.Core.Path.{◌≡◌, refl, sym, ap, ◌∙◌}
 use mathlib.Core.Logic.{◌↔◌}
-use mathlib.Core.Bool.{Bool, true, false, not, ◌&&◌, cond, and_true, and-false, and_assoc}
+use mathlib.Core.Bool.{Bool, true, false, not, ◌&&◌, cond, and-true, and-false, and_assoc}
 use mathlib.Core.List.{List, [], ◌∷◌}
 use lib.Dec.{eqb}
 use lib.ListN.{length}
@@ -32,7 +32,7 @@ use Rattle.index.proofs.Records.{part_fits}
 module _ (f : List ℕ) (s : Shape) (key : List ℕ) (n : ℕ) where
   below_last : (k i : ℕ) → below_all key (keys_from f s n (suc k) i) ≡ (below_all key (keys_from f s n k i) && below key (key_at f s n (i + k)))
   unfolding below_all keys_from
-  below_last zero i = rw add-zero (and_true (below key (key_at f s n i)))
+  below_last zero i = rw add-zero (and-true (below key (key_at f s n i)))
   below_last (suc k) i =
       let e : i + 1 + k ≡ i + suc k = omega arith in
       ap (λ (b : Bool). below key (key_at f s n i) && b) (below_last k (i + 1) ∙ ap (λ (j : ℕ). below_all key (keys_from f s n k (i + 1)) && below key (key_at f s n j)) e)

@@ -4,11 +4,11 @@ use native.Mathlib.Nat.{add-zero, add-suc, suc-mul}
 use native.Mathlib.Numerals.{add-one}
 use native.Mathlib.Omega.{arith}
 use mathlib.Core.Path.{◌≡◌, refl, sym, ap, subst, ◌∙◌}
-use mathlib.Core.Bool.{Bool, true, false, not, cond, and-false}
+use mathlib.Core.Bool.{Bool, true, false, cond, and-false}
 use mathlib.Core.List.{List}
 use lib.Dec.{eqb, leb}
 use lib.ListN.{length}
-use borrow.Author.Tests.{eq-eqb, ne_eqb, le-leb, lt-leb, lt-ltb, le-ltb, not-true, not-false}
+use borrow.Author.Tests.{eq-eqb, ne_eqb, le-leb, lt-leb, lt-ltb, le-ltb}
 use Rattle.word.specs.Integer.{u16_at, u32_at}
 use Rattle.terms.specs.Key.{ascending}
 use Rattle.terms.specs.Inner.{keys_run}
@@ -42,14 +42,14 @@ module _ (cnt : List ℕ) (kind : ℕ) where
   unfolding part_of part_right
   part_type id e h = rw (← e, ne_eqb _ _ h, and-false)
 
-  module _ (n : ℕ) (b : Bool) (r : b ≡ order_right n) (h : not b ≡ true) where
+  module _ (n : ℕ) (b : Bool) (r : b ≡ order_right n) (h : b ≡ false) where
     pub part_ordn : n ≡ u16_at cnt (part_place kind + 2) → Wrong ≡ part_of cnt kind
     unfolding part_of part_right
-    part_ordn e = rw (← e, ← r, not-true b h, and-false)
+    part_ordn e = rw (← e, ← r, h, and-false)
 
     pub part_ordf : n ≡ u16_at cnt (part_place kind + 4) → Wrong ≡ part_of cnt kind
     unfolding part_of part_right
-    part_ordf e = rw (← e, ← r, not-true b h, and-false)
+    part_ordf e = rw (← e, ← r, h, and-false)
 
 pub ruleset part_answers = (order_none, order_rest, part_length, part_type, part_ordn, part_ordf)
 
@@ -69,23 +69,23 @@ module _ (f : List ℕ) (s : Shape) (n : ℕ) where
   there_rest size h k e = rw (le-leb _ _ h, lt-ltb n 2147483648 (omega arith), e)
 
   module _ (b : Bool) (r : b ≡ record_there f s n) where
-    pub right_not_there : not b ≡ true → false ≡ record_right f s n
+    pub right_not_there : b ≡ false → false ≡ record_right f s n
     unfolding record_right
-    right_not_there h = rw (← r, not-true b h)
+    right_not_there h = rw (← r, h)
 
-    pub is_there : not b ≡ false → record_there f s n ≡ true
-    is_there h = sym r ∙ not-false b h
+    pub is_there : b ≡ true → record_there f s n ≡ true
+    is_there h = sym r ∙ h
 
   module _ (at : ℕ) (e : at ≡ place_of s n) where
     pub right_number : (pos : ℕ) → pos ≡ u32_at f at → (pos ≡ n → ⊥) → false ≡ record_right f s n
     unfolding record_right
     right_number pos p h = rw (← e, ← p, ne_eqb _ _ h, and-false)
 
-    pub right_rest : (b : Bool) (pos count kind : ℕ) → b ≡ record_there f s n → not b ≡ false → pos ≡ u32_at f at → pos ≡ n
+    pub right_rest : (b : Bool) (pos count kind : ℕ) → b ≡ record_there f s n → b ≡ true → pos ≡ u32_at f at → pos ≡ n
         → count ≡ ock_at f s n → 1 ≤ count → count ≤ s.most → kind ≡ u16_at f (at + 6) → eqb kind s.kind ≡ record_right f s n
     unfolding record_right
     right_rest b pos count kind r h p q k l m i =
-        rw (← k, ← e, ← p, ← i, ← r, not-false b h, eq-eqb _ _ q, le-leb _ _ l, le-leb _ _ m)
+        rw (← k, ← e, ← p, ← i, ← r, h, eq-eqb _ _ q, le-leb _ _ l, le-leb _ _ m)
 
   module _ (count : ℕ) (k : count ≡ ock_at f s n) where
     pub right_empty : count < 1 → false ≡ record_right f s n
@@ -101,16 +101,16 @@ module _ (f : List ℕ) (s : Shape) (n : ℕ) where
     punts_done i h l inv = let z : count ≡ i = omega arith in rw (← k, z, inv)
 
   module _ (b : Bool) (r : b ≡ record_right f s n) where
-    pub node_not : not b ≡ true → false ≡ node_right f s n
+    pub node_not : b ≡ false → false ≡ node_right f s n
     unfolding node_right
-    node_not h = rw (← r, not-true b h)
+    node_not h = rw (← r, h)
 
-    pub node_rest : (p : Bool) → not b ≡ false → p ≡ punts_right f s n (ock_at f s n) → p ≡ node_right f s n
+    pub node_rest : (p : Bool) → b ≡ true → p ≡ punts_right f s n (ock_at f s n) → p ≡ node_right f s n
     unfolding node_right
-    node_rest p h e = rw (← r, not-false b h, e)
+    node_rest p h e = rw (← r, h, e)
 
-    pub is_right : not b ≡ false → record_right f s n ≡ true
-    is_right h = sym r ∙ not-false b h
+    pub is_right : b ≡ true → record_right f s n ≡ true
+    is_right h = sym r ∙ h
 
   pub punts_more : (i punt : ℕ) → punts_right f s n i ≡ true → punt ≡ punt_at f s n i → (punt ≡ 0 → ⊥) → punts_right f s n (i + 1) ≡ true
   unfolding punts_right
@@ -132,12 +132,12 @@ pub ruleset record_answers = (there_none, there_negative, there_rest, right_not_
 -- ---- CNT's part is right
 
 pub part_right_lem : (cnt : List ℕ) (kind id n m w root : ℕ) (a b : Bool) (x y : Shape) → length cnt ≡ 52 → id ≡ u16_at cnt (part_place kind) → id ≡ kind
-    → n ≡ u16_at cnt (part_place kind + 2) → a ≡ order_right n → not a ≡ false → m ≡ u16_at cnt (part_place kind + 4) → b ≡ order_right m → not b ≡ false
+    → n ≡ u16_at cnt (part_place kind + 2) → a ≡ order_right n → a ≡ true → m ≡ u16_at cnt (part_place kind + 4) → b ≡ order_right m → b ≡ true
     → w ≡ width_of kind → x ≡ node_shape kind w (2 * n) → y ≡ leaf_shape kind w (2 * m) → root ≡ u32_at cnt (part_place kind + 12)
     → Right (record { nodes = x; leaves = y; root = root }) ≡ part_of cnt kind
 unfolding part_of part_right tree_of
 part_right_lem cnt kind id n m w root a b x y l i j p q r s t u v d e z =
-    rw (d, e, z, v, ← p, ← s, ← i, eq-eqb _ _ l, eq-eqb _ _ j, ← q, ← t, not-false a r, not-false b u)
+    rw (d, e, z, v, ← p, ← s, ← i, eq-eqb _ _ l, eq-eqb _ _ j, ← q, ← t, r, u)
 
 -- ---- the keys of a record, one after the other
 
@@ -161,9 +161,9 @@ module _ (f : List ℕ) (s : Shape) (n at count : ℕ) (e : at ≡ key_place s n
   run_keys b d = d ∙ rw (e, k) (ap ascending (keys_run_lem f s n (ock_at f s n) 0))
 
 -- a right node is a right record
-pub node_record : (f : List ℕ) (s : Shape) (n : ℕ) (b : Bool) → b ≡ node_right f s n → not b ≡ false → record_right f s n ≡ true
+pub node_record : (f : List ℕ) (s : Shape) (n : ℕ) (b : Bool) → b ≡ node_right f s n → b ≡ true → record_right f s n ≡ true
 unfolding node_right
-node_record f s n b e q = and_left _ _ (sym e ∙ not-false b q)
+node_record f s n b e q = and_left _ _ (sym e ∙ q)
 
 -- ---- the tree that CNT's part describes
 

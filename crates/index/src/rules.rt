@@ -76,6 +76,7 @@ pub fn leaf_number(punt: u32) -> u32
 }
 
 // Whether no active PUNT of node `n` is 0.
+#[tactic(auto, using(crate::proofs::Records::punts_zero))]
 fn punts_right(file: &[u8], s: Shape, n: u32) -> bool
     requires { (ShapeFits s) × (record_right file.now s n ≡ true) }
     ensures { result ≡ punts_right file.now s n (ock_at file.now s n) }

@@ -1,9 +1,8 @@
 -- The two trees of the check: what a tree, and the whole index, answers.
 use Prim.Native.Nat.{ℕ}
 use mathlib.Core.Path.{◌≡◌, ap, ◌∙◌}
-use mathlib.Core.Bool.{Bool, true, false, not}
+use mathlib.Core.Bool.{Bool, true, false}
 use mathlib.Core.List.{List}
-use borrow.Author.Tests.{not-true, not-false}
 use Rattle.index.specs.Files.{index}
 use Rattle.index.specs.Rules.{part_of}
 use Rattle.index.specs.declared.layout.Tree.{Tree}
@@ -30,15 +29,15 @@ module _ (cnt nodes leaves : List ℕ) (kind : ℕ) (p : Part) (e : p ≡ part_o
       rw (← e, q) (f ∙ ap ended d ∙ pass_sound nodes leaves t (walk nodes t.nodes 16 t.root))
 
 module _ (cnt n01 l01 n02 l02 : List ℕ) (a : Bool) (e : a ≡ tree_sound n01 l01 (part_of cnt 1)) where
-  pub check_first : not a ≡ true → 21 ≡ index_answer (index cnt n01 l01 n02 l02)
+  pub check_first : a ≡ false → 21 ≡ index_answer (index cnt n01 l01 n02 l02)
   unfolding sound_of
-  check_first q = rw (← e, not-true a q)
+  check_first q = rw (← e, q)
 
-  module _ (b : Bool) (q : not a ≡ false) (f : b ≡ tree_sound n02 l02 (part_of cnt 2)) where
-    pub check_second : not b ≡ true → 21 ≡ index_answer (index cnt n01 l01 n02 l02)
+  module _ (b : Bool) (q : a ≡ true) (f : b ≡ tree_sound n02 l02 (part_of cnt 2)) where
+    pub check_second : b ≡ false → 21 ≡ index_answer (index cnt n01 l01 n02 l02)
     unfolding sound_of
-    check_second p = rw (← e, not-false a q, ← f, not-true b p)
+    check_second p = rw (← e, q, ← f, p)
 
-    pub check_both : not b ≡ false → 0 ≡ index_answer (index cnt n01 l01 n02 l02)
+    pub check_both : b ≡ true → 0 ≡ index_answer (index cnt n01 l01 n02 l02)
     unfolding sound_of
-    check_both p = rw (← e, not-false a q, ← f, not-false b p)
+    check_both p = rw (← e, q, ← f, p)

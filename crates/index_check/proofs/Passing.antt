@@ -4,11 +4,11 @@ use native.Mathlib.Nat.{add-zero, add-suc}
 use native.Mathlib.Numerals.{add-one}
 use native.Mathlib.Omega.{arith}
 use mathlib.Core.Path.{◌≡◌, refl, sym, ap, ◌∙◌}
-use mathlib.Core.Bool.{Bool, true, false, not, ◌&&◌, cond, and-false}
+use mathlib.Core.Bool.{Bool, true, false, ◌&&◌, cond, and-false}
 use mathlib.Core.List.{List, [], ◌∷◌, ◌++◌}
 use lib.Dec.{eqb}
 use lib.ListN.{length}
-use borrow.Author.Tests.{eq-eqb, ne_eqb, eqb-true, not-true, not-false}
+use borrow.Author.Tests.{eq-eqb, ne_eqb, eqb-true}
 use Rattle.word.specs.Overwrite.{part}
 use Rattle.terms.specs.Key.{same, below, ascending, ascending_after}
 use Rattle.terms.specs.Inner.{keys_run}
@@ -87,43 +87,43 @@ module _ (leaves : List ℕ) (s : Shape) (n : ℕ) where
       none = simp and-false
 
   module _ (a : Bool) (e : a ≡ record_right leaves s n) where
-    pub leaf_broken : (w : Progress) → not a ≡ true → Stopped ≡ leaf_step leaves s n w
+    pub leaf_broken : (w : Progress) → a ≡ false → Stopped ≡ leaf_step leaves s n w
     unfolding leaf_sound
     leaf_broken w q = step_stopped w broken
       where
         broken : leaf_sound leaves s w n ≡ false
-        broken = rw (← e, not-true a q)
+        broken = rw (← e, q)
 
-    module _ (key : List ℕ) (w : Progress) (q : not a ≡ false) (b : Bool) (d : b ≡ same key (key_at leaves s n 0)) where
+    module _ (key : List ℕ) (w : Progress) (q : a ≡ true) (b : Bool) (d : b ≡ same key (key_at leaves s n 0)) where
       is_right : record_right leaves s n ≡ true
-      is_right = sym e ∙ not-false a q
+      is_right = sym e ∙ q
 
-      pub leaf_unpointed : not b ≡ true → Stopped ≡ leaf_step leaves s n (led (begins key leaves s n) w)
-      leaf_unpointed o = rw (led_off (begins key leaves s n) w (begins_is leaves s n is_right key ∙ sym d ∙ not-true b o)) no_step
+      pub leaf_unpointed : b ≡ false → Stopped ≡ leaf_step leaves s n (led (begins key leaves s n) w)
+      leaf_unpointed o = rw (led_off (begins key leaves s n) w (begins_is leaves s n is_right key ∙ sym d ∙ o)) no_step
 
-      module _ (o : not b ≡ false) (c : Bool) (g : c ≡ follows leaves s w n) where
+      module _ (o : b ≡ true) (c : Bool) (g : c ≡ follows leaves s w n) where
         here : led (begins key leaves s n) w ≡ w
-        here = led_on (begins key leaves s n) w (begins_is leaves s n is_right key ∙ sym d ∙ not-false b o)
+        here = led_on (begins key leaves s n) w (begins_is leaves s n is_right key ∙ sym d ∙ o)
 
-        pub leaf_unfollowing : not c ≡ true → Stopped ≡ leaf_step leaves s n (led (begins key leaves s n) w)
+        pub leaf_unfollowing : c ≡ false → Stopped ≡ leaf_step leaves s n (led (begins key leaves s n) w)
         unfolding leaf_sound
         leaf_unfollowing u = rw here (step_stopped w broken)
           where
             broken : leaf_sound leaves s w n ≡ false
-            broken = rw (← g, not-true c u, and-false)
+            broken = rw (← g, u, and-false)
 
-        module _ (u : not c ≡ false) (k : Bool) (m : k ≡ ascending (keys_of leaves s n)) where
-          pub leaf_unordered : not k ≡ true → Stopped ≡ leaf_step leaves s n (led (begins key leaves s n) w)
+        module _ (u : c ≡ true) (k : Bool) (m : k ≡ ascending (keys_of leaves s n)) where
+          pub leaf_unordered : k ≡ false → Stopped ≡ leaf_step leaves s n (led (begins key leaves s n) w)
           unfolding leaf_sound
           leaf_unordered v = rw here (step_stopped w broken)
             where
               broken : leaf_sound leaves s w n ≡ false
-              broken = rw (← m, not-true k v, and-false)
+              broken = rw (← m, v, and-false)
 
-          pub leaf_on : (at ps count : ℕ) → not k ≡ false → count ≡ ock_at leaves s n → at ≡ key_place s n (count - 1) → ps ≡ ps_at leaves s n
+          pub leaf_on : (at ps count : ℕ) → k ≡ true → count ≡ ock_at leaves s n → at ≡ key_place s n (count - 1) → ps ≡ ps_at leaves s n
               → After at ps ≡ leaf_step leaves s n (led (begins key leaves s n) w)
           unfolding leaf_step leaf_sound
-          leaf_on at ps count v x y z = rw (here, is_right, ← m, not-false k v, ← g, not-false c u, y, z, x)
+          leaf_on at ps count v x y z = rw (here, is_right, ← m, v, ← g, u, y, z, x)
 
 -- ---- the pointers of a node
 
@@ -183,10 +183,10 @@ module _ (f : List ℕ) (s : Shape) (n own count : ℕ) where
     order_done h = run_done f s.step s.width _ own (count - 1 - i) inv (omega arith)
 
     module _ (b : Bool) (h : i + 1 < count) (e : b ≡ below (part f own s.width) (part f (own + s.step) s.width)) where
-      pub order_stop : not b ≡ true → false ≡ ascending (keys_of f s n)
+      pub order_stop : b ≡ false → false ≡ ascending (keys_of f s n)
       order_stop q = run_stop f s.step s.width _ own (count - 1 - i) inv b (omega arith) e q
 
-      pub order_next : not b ≡ false
+      pub order_next : b ≡ true
           → ascending (keys_of f s n)
           ≡ ascending_after (part f (own + s.step) s.width) (keys_run f (own + s.step + s.step) s.step s.width (count - 1 - (i + 1)))
       order_next q =
@@ -253,11 +253,11 @@ module _ (nodes leaves : List ℕ) (t : Tree) where
 
   -- which begins with the key that points to it, or does not
   module _ (f : List ℕ) (s : Shape) (key n : ℕ) (ms : List Met) (w : Progress) (b : Bool) (e : b ≡ pointed f s key n) where
-    pub over_unpointed : not b ≡ true → Stopped ≡ pass nodes leaves t ms (led (pointed f s key n) w)
-    over_unpointed q = sym (ap (pass nodes leaves t ms) (led_off (pointed f s key n) w (sym e ∙ not-true b q)) ∙ pass_stopped ms)
+    pub over_unpointed : b ≡ false → Stopped ≡ pass nodes leaves t ms (led (pointed f s key n) w)
+    over_unpointed q = sym (ap (pass nodes leaves t ms) (led_off (pointed f s key n) w (sym e ∙ q)) ∙ pass_stopped ms)
 
-    pub over_pointed : (r : Progress) → not b ≡ false → r ≡ pass nodes leaves t ms w → r ≡ pass nodes leaves t ms (led (pointed f s key n) w)
-    over_pointed r q d = d ∙ ap (pass nodes leaves t ms) (sym (led_on (pointed f s key n) w (sym e ∙ not-false b q)))
+    pub over_pointed : (r : Progress) → b ≡ true → r ≡ pass nodes leaves t ms w → r ≡ pass nodes leaves t ms (led (pointed f s key n) w)
+    over_pointed r q d = d ∙ ap (pass nodes leaves t ms) (sym (led_on (pointed f s key n) w (sym e ∙ q)))
 
   pub sound_record : (n : ℕ) → node_sound nodes leaves t n ≡ true → record_right nodes t.nodes n ≡ true
   unfolding node_sound node_right
@@ -288,12 +288,12 @@ module _ (nodes leaves : List ℕ) (t : Tree) where
       sound e = over_step ∙ rw (sound_record n e, e)
 
       -- a record that breaks a rule
-      pub over_broken : (a : Bool) → a ≡ record_right nodes t.nodes n → not a ≡ true → Stopped ≡ pass nodes leaves t (walk nodes t.nodes left n) w
+      pub over_broken : (a : Bool) → a ≡ record_right nodes t.nodes n → a ≡ false → Stopped ≡ pass nodes leaves t (walk nodes t.nodes left n) w
       unfolding node_sound node_right
       over_broken a e q = unsound broken
         where
           broken : node_sound nodes leaves t n ≡ false
-          broken = rw (← e, not-true a q)
+          broken = rw (← e, q)
 
       -- keys that do not ascend
       pub over_unordered : false ≡ ascending (keys_of nodes t.nodes n) → Stopped ≡ pass nodes leaves t (walk nodes t.nodes left n) w

@@ -3,9 +3,8 @@ use Prim.Native.Nat.{ℕ, suc, ◌+◌, ◌*◌, ◌-◌, ◌<◌, ◌≤◌}
 use native.Mathlib.Nat.{suc-mul}
 use native.Mathlib.Omega.{arith}
 use mathlib.Core.Path.{◌≡◌, refl, ap, ◌∙◌}
-use mathlib.Core.Bool.{Bool, true, false, not, ◌&&◌}
+use mathlib.Core.Bool.{Bool, true, false, ◌&&◌}
 use mathlib.Core.List.{List}
-use borrow.Author.Tests.{not-true, not-false}
 use Rattle.word.specs.Overwrite.{part}
 use Rattle.terms.specs.Key.{below, ascending, ascending_after}
 use Rattle.terms.specs.Inner.{keys_run}
@@ -47,8 +46,8 @@ module _ (f : List ℕ) (step width : ℕ) where
         inv ∙ ap (λ (k : ℕ). ascending_after (part f key width) (keys_run f (key + step) step width k)) z ∙ after (part f key width) (key + step) (left - 1)
 
     module _ (b : Bool) (h : 0 < left) (e : b ≡ below (part f key width) (part f (key + step) width)) where
-      pub run_stop : not b ≡ true → false ≡ r
-      run_stop q = rw (run_step h, ← e, not-true b q)
+      pub run_stop : b ≡ false → false ≡ r
+      run_stop q = rw (run_step h, ← e, q)
 
-      pub run_next : not b ≡ false → r ≡ ascending_after (part f (key + step) width) (keys_run f (key + step + step) step width (left - 1))
-      run_next q = rw (run_step h, ← e, not-false b q)
+      pub run_next : b ≡ true → r ≡ ascending_after (part f (key + step) width) (keys_run f (key + step + step) step width (left - 1))
+      run_next q = rw (run_step h, ← e, q)
