@@ -144,6 +144,27 @@ def as_record(expr, fields):
         else:
             cur += ch
     parts.append(cur)
+    while len(parts) < len(fields) and len(parts) > 1:
+        last = parts[-1].strip()
+        if not (last.startswith("(") and last.endswith(")")):
+            break
+        more, depth, cur = [], 0, ""
+        for ch in last[1:-1]:
+            if ch in "({[":
+                depth += 1
+            elif ch in ")}]":
+                depth -= 1
+            if depth < 0:
+                return expr
+            if ch == "," and depth == 0:
+                more.append(cur)
+                cur = ""
+            else:
+                cur += ch
+        more.append(cur)
+        if len(more) < 2:
+            break
+        parts = parts[:-1] + more
     if len(parts) != len(fields):
         return expr
     return t[:i] + "record { " + "; ".join(f"{f} = {p.strip()}" for f, p in zip(fields, parts)) + " }"
@@ -190,6 +211,10 @@ def turn(crate, crate_name, at, rel, path, entry):
             to = nested(m.group(2), fields) if fields else None
             return f"{m.group(1)}.ensures{to}" if to else m.group(0)
 
+        for m in list(re.finditer(rf"let (\S+) = (?:{TOKEN}+\.)*({TOKEN}+)\.ensures in", expr)):
+            fields = told.get(alias.get(m.group(2), m.group(2)))
+            if fields:
+                expr = re.sub(rf"(?<![\w.-]){re.escape(m.group(1))}((?:\.\d+)+)", lambda k: m.group(1) + (nested(k.group(1), fields) or k.group(1)), expr)
         return re.sub(rf"({TOKEN}+)\.ensures((?:\.\d+)+)", one, expr)
 
     loops = {}

@@ -1,4 +1,3 @@
-use borrow.Author.Rules.{rules}
 use Rattle.views.proofs.VersionAnswers.{version_answers}
 use Rattle.views.proofs.views.current_version.Goals as goal
 

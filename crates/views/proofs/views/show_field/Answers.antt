@@ -1,4 +1,3 @@
-use borrow.Author.Rules.{rules}
 use Rattle.views.proofs.ViewAnswers.{refused_within, show_missing, show_fewer, view_answers}
 use Rattle.views.proofs.views.show_field.Goals as goal
 
@@ -25,12 +24,12 @@ returns-in-Span c = search view_answers
 
 pub returns-in-Fewer : goal.returns-in-Fewer
 returns-in-Fewer c =
-    let v = c.in-Fewer.is in
+    let v = c.in-Begins.is in
     let r = c.refused_view-in-Fewer.ensures in
-    record { is = show_fewer _ _ _ _ _ _ v _ c.find_field-f.ensures _ _ c.f-in-Fewer-1.given.1 r; within = refused_within _ _ _ _ r }
+    record { is = show_fewer _ _ _ _ _ _ v _ c.find_field-f.ensures _ _ c.in-Fewer.is r; within = refused_within _ _ _ _ r }
 
 pub returns-in-Missing : goal.returns-in-Missing
 returns-in-Missing c =
-    let v = c.in-Missing.is in
+    let v = c.in-Begins.is in
     let r = c.refused_view-in-Missing.ensures in
-    record { is = show_missing _ _ _ _ _ _ v _ c.find_field-f.ensures _ c.enum_told-in-Missing-1.given.1 r; within = refused_within _ _ _ _ r }
+    record { is = show_missing _ _ _ _ _ _ v _ c.find_field-f.ensures _ c.in-Missing.is r; within = refused_within _ _ _ _ r }

@@ -1,4 +1,3 @@
-use borrow.Author.Rules.{rules}
 use Rattle.views.proofs.ViewAnswers.{view_answers}
 use Rattle.views.proofs.views.view.Goals as goal
 

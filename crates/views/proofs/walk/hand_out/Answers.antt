@@ -1,4 +1,3 @@
-use borrow.Author.Rules.{rules}
 use Rattle.views.proofs.WalkAnswers.{walk_answers}
 use Rattle.views.proofs.walk.hand_out.Goals as goal
 
