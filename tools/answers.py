@@ -367,6 +367,10 @@ def turn(crate, crate_name, at, rel, path, entry):
         inv_texts.append(f"{c}abbrev pub {kind}-{n} : goal.{kind}-{n}\n{unf}{kind}-{n} l ={mm.group(2)}{expr}")
     negated = rf"({TOKEN}+(?:\.{TOKEN}+)*\.if-not-{TOKEN}+\.(?:true|false))(?![\w.-])"
     answers = [re.sub(negated, r"(ap not \1)", a) for a in answers]
+    for i, a in enumerate(answers):
+        for name in re.findall(rf"let (\S+) = (?:{TOKEN}+\.)*if-not-{TOKEN}+ in", a):
+            a = re.sub(rf"(?<![\w.-])({re.escape(name)}\.(?:true|false))(?![\w.-])", r"(ap not \1)", a)
+        answers[i] = a
     if any("(ap not " in a for a in answers):
         have = " ".join(uses)
         if not re.search(r"[{ ]not[,}]", have):

@@ -2,13 +2,11 @@
 -- there wherever they stand; a step's result is a variable with what the step ensures of it.
 use Prim.Native.Nat.{ℕ, ◌+◌, ◌≤◌, ◌<◌}
 use native.Mathlib.Omega.{arith}
-use mathlib.Core.Path.{◌≡◌, sym, ap, ◌∙◌}
+use mathlib.Core.Path.{refl, ◌≡◌, sym, ap, ◌∙◌}
 use mathlib.Core.Bool.{Bool, true, false, not, cond}
 use mathlib.Core.List.{List, [], ◌∷◌}
 use lib.ListN.{length, take}
 use borrow.Author.Tests.{lt-ltb, le-ltb, eq-eqb, ne_eqb, not-true, not-false}
-use denote.Enum.Declared.{tag_of}
-use types.Run.{OneOf, miss}
 use Rattle.layout.specs.Sizes.{capacity_of}
 use Rattle.files.specs.Control.{next_of, end_of, count_full}
 use Rattle.files.specs.CrossReference.{xrf_block, head_right, slot_free}
@@ -16,7 +14,6 @@ use Rattle.layout.specs.declared.sizes.Mfn.{Mfn}
 use Rattle.layout.specs.declared.entry.Mark.TheVariants.{Settled, Changed, New}
 use Rattle.layout.specs.declared.entry.Place.{Place}
 use Rattle.layout.specs.declared.leader.Leader.{Leader}
-use Rattle.layout.specs.contracts.entry.Mark as mark
 use Rattle.drafts.specs.Draft.{need_of, draft_right, draft_fields, draft}
 use Rattle.drafts.specs.Bytes.{need_for}
 use Rattle.drafts.proofs.Draftable.{draft_need}
@@ -36,7 +33,6 @@ use Rattle.store.specs.declared.gate.Known.{Known}
 use Rattle.store.specs.declared.gate.Known.TheVariants.{Record, Refused}
 use Rattle.store.specs.declared.gate.Reached.{Reached}
 use Rattle.store.specs.declared.gate.Reached.TheVariants.{There, Refused as Unreached}
-use Rattle.store.specs.contracts.answer.Answer as answer
 use Rattle.versions.proofs.Told.{draft_fits, not_settled}
 use Rattle.store.proofs.Gates.{Refusing, refused_is, done_is, gate_shut, opened, Planned, both_refused, BothFacts, both_facts}
 use Rattle.store.proofs.Reaching.{reach_refused, reached_facts, whole_length, lent_open, lent_as}
@@ -44,9 +40,9 @@ use Rattle.store.specs.Store.{Store, store}
 
 -- ---- variants that are left in an `else`
 
-pub not_done : (a : Answer) → OneOf (1 ∷ 2 ∷ 3 ∷ 4 ∷ 5 ∷ 6 ∷ 7 ∷ 8 ∷ 9 ∷ 10 ∷ 11 ∷ 12 ∷ 13 ∷ 14 ∷ 15 ∷ 16 ∷ []) (tag_of answer.the_type a) → Refusing a
+pub not_done : (a : Answer) → (a ≡ Done → ⊥) → Refusing a
 unfolding number_of
-not_done Done v = absurd (miss (1 ∷ 2 ∷ 3 ∷ 4 ∷ 5 ∷ 6 ∷ 7 ∷ 8 ∷ 9 ∷ 10 ∷ 11 ∷ 12 ∷ 13 ∷ 14 ∷ 15 ∷ 16 ∷ []) 0 tt v)
+not_done Done v = absurd (v refl)
 not_done BadLength v = λ z. omega arith
 not_done BadControl v = λ z. omega arith
 not_done BadDraft v = λ z. omega arith
@@ -153,7 +149,7 @@ module _ (mst xrf tags lens bytes : List ℕ) (g : Gate) (p : g ≡ gate_of (sto
             let o = opened mst xrf g p next end q in
             asks ∙ rw (o.lengths, o.control, ← w, clear, ← e, h, own) (sym s)
 
-        pub create_no_slot : OneOf (1 ∷ 2 ∷ 3 ∷ 4 ∷ 5 ∷ 6 ∷ 7 ∷ 8 ∷ 9 ∷ 10 ∷ 11 ∷ 12 ∷ 13 ∷ 14 ∷ 15 ∷ 16 ∷ []) (tag_of answer.the_type a)
+        pub create_no_slot : (a ≡ Done → ⊥)
             → Unwritten a ≡ create_plan (store mst xrf) (draft tags lens bytes)
         unfolding create_plan
         create_no_slot v = refused_is (create_answer (store mst xrf) (draft tags lens bytes)) _ Unwritten a through (not_done a v)
@@ -193,7 +189,7 @@ module _ (mst xrf : List ℕ) (m : ℕ) (r : Reached) (p : r ≡ reached_of (sto
     unfolding settle_plan reached_if number_of
     settle_settled x = refused_is (settle_answer (store mst xrf) m) _ Unreached NotPending (settle_answer_lem ∙ rw x) (λ z. omega arith)
 
-    pub settle_planned : OneOf (1 ∷ 2 ∷ []) (tag_of mark.the_type pl.mark) → There end pl l ≡ settle_plan (store mst xrf) m
+    pub settle_planned : (pl.mark ≡ Settled → ⊥) → There end pl l ≡ settle_plan (store mst xrf) m
     unfolding settle_plan reached_if
     settle_planned x =
         let f = settling.1.found in

@@ -1,5 +1,4 @@
 use Rattle.writing.proofs.Plans.{slot_answers}
-use borrow.Author.Rules.{rules}
 use Rattle.writing.proofs.create.create_slot.Goals as goal
 
 pub returns-then-k-capacity : goal.returns-then-k-capacity

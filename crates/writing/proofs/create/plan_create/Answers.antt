@@ -1,6 +1,5 @@
 use Rattle.versions.proofs.Told.{draft_counted}
 use Rattle.writing.proofs.Plans.{create_full, create_plans}
-use borrow.Author.Rules.{rules}
 use mathlib.Core.Bool.{not}
 use mathlib.Core.Path.{ap}
 use Rattle.writing.proofs.create.plan_create.Goals as goal
@@ -14,9 +13,9 @@ count_full-requires c = search create_plans
 pub returns-then-count_full : goal.returns-then-count_full
 returns-then-count_full c =
     let open-gate = c.open_gate-g in
-    let the-g = c.g-1 in
+    let the-g = c.in-Open in
     let args = c.args in
-    create_full _ _ args.tags.now args.lens.now args.«data».now _ open-gate.ensures _ _ the-g.given.1 _ c.count_full.ensures c.if-count_full.true
+    create_full _ _ args.tags.now args.lens.now args.«data».now _ open-gate.ensures _ _ the-g.is _ c.count_full.ensures c.if-count_full.true
 
 pub returns-then-not-draft_right : goal.returns-then-not-draft_right
 returns-then-not-draft_right c = search create_plans

@@ -1,5 +1,4 @@
 use Rattle.writing.proofs.Plans.{revert_full, revert_plans}
-use borrow.Author.Rules.{rules}
 use Rattle.writing.proofs.settling.plan_revert.Goals as goal
 
 pub returns-in_default : goal.returns-in_default
@@ -11,9 +10,9 @@ count_full-requires c = search revert_plans
 pub returns-then-count_full : goal.returns-then-count_full
 returns-then-count_full c =
     let open-gate = c.open_gate-g in
-    let the-g = c.g-1 in
+    let the-g = c.in-Open in
     let args = c.args in
-    revert_full _ _ args.m.0 _ open-gate.ensures _ _ the-g.given.1 _ c.count_full.ensures c.if-count_full.true
+    revert_full _ _ args.m.0 _ open-gate.ensures _ _ the-g.is _ c.count_full.ensures c.if-count_full.true
 
 pub slice_bounds-find_both-end : goal.slice_bounds-find_both-end
 slice_bounds-find_both-end c = search revert_plans

@@ -1,4 +1,3 @@
-use borrow.Author.Rules.{rules}
 use Rattle.writing.proofs.Plans.{settle_plans}
 use Rattle.writing.proofs.settling.plan_settle.Goals as goal
 
