@@ -6,7 +6,7 @@ ghost use Rattle.postings.specs.Cursor.{InBlock, SettledFrom, run_size, past_of}
 
 use crate::segment::{Header, read_header};
 
-#[derive(Drop)]
+#[derive(Clone, Copy)]
 pub struct Cursor {
     // Where the segment's next posting stands, and how many are left in it.
     pub at: usize,

@@ -13,7 +13,7 @@ use posting::answer::Answer;
 use posting::codec::posting_at;
 
 // The cursor before a list's first posting, and its total.
-#[derive(Drop)]
+#[derive(Clone, Copy)]
 pub struct Opened {
     pub total: u32,
     pub cursor: Cursor,
