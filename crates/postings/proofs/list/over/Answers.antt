@@ -1,4 +1,0 @@
-use Rattle.postings.proofs.list.over.Goals as goal
-
-pub returns-then-whole : goal.returns-then-whole
-returns-then-whole c = rw c.if-whole.true

@@ -1,8 +1,0 @@
-use lib.Dec.{leb-zero}
-use Rattle.postings.proofs.list.rises.Goals as goal
-
-pub returns-then-any : goal.returns-then-any
-returns-then-any c = rw c.if-any.true
-
-pub returns : goal.returns
-returns c = rw (c.if-any.false, leb-zero)
