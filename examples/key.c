@@ -9,7 +9,7 @@
  * occur. On a key, each call that writes would follow one touch of the sensor;
  * firmware/main.c does so. It compiles unchanged for both:
  *
- *   cc -std=c11 -Wall -Wextra -Werror -Iinclude examples/key.c target/staticlib/libisis.a -o key
+ *   cc -std=c11 -Wall -Wextra -Werror -Iinclude examples/key.c crates/isis/out/libisis.a -o key
  *   firmware/run cortex-m0 examples/key.c
  */
 #include "isis.h"

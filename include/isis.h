@@ -41,7 +41,7 @@
  * entered again while it runs, from an interrupt or another thread, as long as no
  * call writes a buffer that another one is using.
  *
- * The archive. `rt staticlib isis` writes it for x86-64, `./key-archive` for
+ * The archive. `rt lib` in crates/isis writes it for x86-64, `./key-archive` for
  * cortex-m0, cortex-m3, cortex-m4 and 64-bit Arm, all from one proved module.
  * Lengths have 64 bits on every one of them, see isis_size. What it needs from
  * the program that it is linked into:

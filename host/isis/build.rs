@@ -1,5 +1,5 @@
 //! Finds the archive of the proved library, `libisis.a`: in the folder that
-//! ISIS_ARCHIVE_DIR names, or else where `rt staticlib isis` writes it.
+//! ISIS_ARCHIVE_DIR names, or else where `rt lib` in `crates/isis` writes it.
 
 use std::env;
 use std::path::{Path, PathBuf};
@@ -10,13 +10,13 @@ fn main() {
     let folder = match env::var_os("ISIS_ARCHIVE_DIR") {
         Some(folder) => PathBuf::from(folder),
         None => Path::new(&env::var_os("CARGO_MANIFEST_DIR").expect("cargo sets it"))
-            .join("../../target/staticlib"),
+            .join("../../crates/isis/out"),
     };
     let archive = folder.join("libisis.a");
     println!("cargo:rerun-if-changed={}", archive.display());
     if !archive.is_file() {
         println!(
-            "cargo:warning=no {}: run `rt staticlib isis` at the root of the repository, \
+            "cargo:warning=no {}: run `rt lib` in crates/isis, \
              or name the archive's folder in ISIS_ARCHIVE_DIR",
             archive.display()
         );

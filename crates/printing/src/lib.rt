@@ -1,119 +1,119 @@
 // Prints what a replay reports: why it stopped and how many calls it ran; of each call the answer, the MFN returned, the length of the field shown,
 // the count, how many answers are listed, then the field and those answers; and NXTMFN, NXTMFB and NXTMFP afterwards.
+//
+// Each function ends with the error of the first write that fails.
 
 #![tactic(auto)]
 
-ghost use Rattle.std.specs.Prelude.{◌+◌, ◌≤◌, length};
+ghost use Rattle.std.specs.Prelude.{◌+◌, ◌≤◌, IfOk, length};
 ghost use Rattle.script.specs.Report.{outcome_size};
 
-use libc::STDOUT_FILENO;
 use lists::numbers::at_most;
 use script::report::{OUTCOME_SIZE, Replayed, Stop};
+use std::io;
 
-fn print_number(n: u32) {
-    io::print_decimal(STDOUT_FILENO, n as u64);
+fn print_number(rt: &impl Print, n: u32) -> io::Result<()> {
+    print!(rt; "{n}")
 }
 
-fn print_stop(stop: Stop) {
+fn print_stop(rt: &impl Print, stop: Stop) -> io::Result<()> {
     match stop {
-        Stop::Ended => {
-            io::write_all(STDOUT_FILENO, b"ended ");
-        }
-        Stop::BadLength => {
-            io::write_all(STDOUT_FILENO, b"bad length ");
-        }
-        Stop::Malformed => {
-            io::write_all(STDOUT_FILENO, b"malformed ");
-        }
-        Stop::NoRoom => {
-            io::write_all(STDOUT_FILENO, b"no room ");
-        }
+        Stop::Ended => print!(rt; "ended "),
+        Stop::BadLength => print!(rt; "bad length "),
+        Stop::Malformed => print!(rt; "malformed "),
+        Stop::NoRoom => print!(rt; "no room "),
     }
 }
 
 // Prints the field of so many bytes that stands at `from`, and gives where the next one stands.
-fn print_field(shown: &[u8], from: usize, len: u32) -> usize
+fn print_field(rt: &impl Print, shown: &[u8], from: usize, len: u32) -> io::Result<usize>
     requires { from ≤ length shown.now }
-    ensures { result ≤ length shown.now }
+    ensures { IfOk result (λ to. to ≤ length shown.now) }
 {
     let to = from + at_most(len, shown.len() - from);
     if from < to {
-        io::write_all(STDOUT_FILENO, b" ");
-        io::write_all(STDOUT_FILENO, &shown[from..to]);
+        print!(rt; " ")?;
+        rt.write_all(&shown[from..to])?;
     }
-    to
+    Ok(to)
 }
 
 // Prints a number behind another.
-fn print_next(n: u32) {
-    io::write_all(STDOUT_FILENO, b" ");
-    print_number(n);
+fn print_next(rt: &impl Print, n: u32) -> io::Result<()> {
+    print!(rt; " ")?;
+    print_number(rt, n)
 }
 
 // Prints the five numbers of the outcome that stands at `i`.
-fn print_numbers(answers: &[u32], i: usize)
+fn print_numbers(rt: &impl Print, answers: &[u32], i: usize) -> io::Result<()>
     requires { i + outcome_size ≤ length answers.now }
 {
-    print_number(answers[i]);
-    print_next(answers[i + 1]);
-    print_next(answers[i + 2]);
-    print_next(answers[i + 3]);
-    print_next(answers[i + 4]);
+    print_number(rt, answers[i])?;
+    print_next(rt, answers[i + 1])?;
+    print_next(rt, answers[i + 2])?;
+    print_next(rt, answers[i + 3])?;
+    print_next(rt, answers[i + 4])
 }
 
 // Prints so many numbers from `from` on, ends the line, and gives where the next outcome stands.
-fn print_listed(answers: &[u32], from: usize, count: u32) -> usize
+fn print_listed(rt: &impl Print, answers: &[u32], from: usize, count: u32) -> io::Result<usize>
     requires { from ≤ length answers.now }
-    ensures { result ≤ length answers.now }
+    ensures { IfOk result (λ to. to ≤ length answers.now) }
 {
     let to = from + at_most(count, answers.len() - from);
     let mut i = from;
     while i < to {
-        print_next(answers[i]);
+        print_next(rt, answers[i])?;
         i += 1;
     }
-    io::write_all(STDOUT_FILENO, b"\n");
-    to
+    println!(rt)?;
+    Ok(to)
 }
 
 // Prints the outcomes of so many calls, one after the other.
-fn print_outcomes(calls: usize, answers: &[u32], shown: &[u8]) {
+fn print_outcomes(rt: &impl Print, calls: usize, answers: &[u32], shown: &[u8]) -> io::Result<()> {
     let mut left = calls;
     let mut i = 0;
     let mut from = 0;
     while 0 < left {
         if answers.len() - i < OUTCOME_SIZE {
-            return;
+            return Ok(());
         }
-        print_numbers(answers, i);
-        from = print_field(shown, from, answers[i + 2]);
-        i = print_listed(answers, i + OUTCOME_SIZE, answers[i + 4]);
+        print_numbers(rt, answers, i)?;
+        from = print_field(rt, shown, from, answers[i + 2])?;
+        i = print_listed(rt, answers, i + OUTCOME_SIZE, answers[i + 4])?;
         left -= 1;
     }
+    Ok(())
 }
 
-fn print_control(mst: &[u8]) {
+fn print_control(rt: &impl Print, mst: &[u8]) -> io::Result<()> {
     if mst.len() < 14 {
-        return;
+        return Ok(());
     }
-    io::write_all(STDOUT_FILENO, b"NXTMFN ");
-    print_number(word::integer::u32_at(mst, 4));
-    io::write_all(STDOUT_FILENO, b" NXTMFB ");
-    print_number(word::integer::u32_at(mst, 8));
-    io::write_all(STDOUT_FILENO, b" NXTMFP ");
-    print_number(word::integer::u16_at(mst, 12) as u32);
-    io::write_all(STDOUT_FILENO, b"\n");
+    print!(rt; "NXTMFN ")?;
+    print_number(rt, word::integer::u32_at(mst, 4))?;
+    print!(rt; " NXTMFB ")?;
+    print_number(rt, word::integer::u32_at(mst, 8))?;
+    print!(rt; " NXTMFP ")?;
+    print_number(rt, word::integer::u16_at(mst, 12) as u32)?;
+    println!(rt)
 }
 
 // Prints what a replay reports. Where a length is not permitted there is no control record.
-pub fn print_replayed(r: Replayed, answers: &[u32], shown: &[u8], mst: &[u8]) {
+pub fn print_replayed(
+    rt: &impl Print,
+    r: Replayed,
+    answers: &[u32],
+    shown: &[u8],
+    mst: &[u8],
+) -> io::Result<()> {
     let stop = r.stop;
-    print_stop(stop);
-    io::print_decimal(STDOUT_FILENO, r.calls as u64);
-    io::write_all(STDOUT_FILENO, b"\n");
-    print_outcomes(r.calls, answers, shown);
+    print_stop(rt, stop)?;
+    println!(rt; "{}", r.calls)?;
+    print_outcomes(rt, r.calls, answers, shown)?;
     let Stop::BadLength = stop else {
-        print_control(mst);
-        return;
+        return print_control(rt, mst);
     };
+    Ok(())
 }

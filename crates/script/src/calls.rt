@@ -98,6 +98,7 @@ fn view_op(settled: bool, m: u32, tag: u32, occurrence: u32) -> Op
 }
 
 // The call that five numbers stand for.
+#[tactic(auto, using(crate::proofs::Decoding::op_none), unfolding(crate::specs::Ops::op_named))]
 fn op_named(call: u32, m: u32, x: u32, y: u32, z: u32) -> Op
     ensures { result ≡ op_named call m x y z }
 {

@@ -66,7 +66,7 @@ fn here(file: &str) -> String {
     run(Command::new("cc")
         .current_dir(root())
         .args(["-std=c99", "-Wall", "-Wextra", "-Werror", "-Iinclude", file])
-        .args(["target/staticlib/libisis.a", "-o"])
+        .args(["crates/isis/out/libisis.a", "-o"])
         .arg(&program));
     run(&mut Command::new(&program))
 }

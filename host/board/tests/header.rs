@@ -164,7 +164,7 @@ fn said_to_need(target: &str) -> BTreeSet<String> {
 fn the_archives_need_what_the_header_says() {
     let key = |target: &str| root().join("target/key").join(target).join("libisis.a");
     assert_eq!(undefined(&key("aarch64")), said_to_need("aarch64"));
-    let here = root().join("target/staticlib/libisis.a");
+    let here = root().join("crates/isis/out/libisis.a");
     assert_eq!(undefined(&here), said_to_need("x86-64"));
     let readme = fs::read_to_string(root().join("README.md")).unwrap();
     for core in CORES {

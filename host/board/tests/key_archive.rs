@@ -18,12 +18,10 @@ fn refused(core: &str, kit: &Path) -> String {
     String::from_utf8(output.stderr).unwrap()
 }
 
-/// A folder with the programs that a kit has for this machine, each printing some text.
+/// A folder with the programs of a kit's toolchain, each printing some text.
 fn kit(name: &str, programs: &[(&str, &str)]) -> PathBuf {
     let kit = Path::new(env!("CARGO_TARGET_TMPDIR")).join(name);
-    let machine = Command::new("uname").arg("-m").output().unwrap().stdout;
-    let machine = String::from_utf8(machine).unwrap();
-    let bin = kit.join("on").join(machine.trim()).join("toolchain/bin");
+    let bin = kit.join("toolchain/bin");
     fs::create_dir_all(&bin).unwrap();
     for (program, text) in programs {
         let path = bin.join(program);

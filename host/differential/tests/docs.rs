@@ -31,15 +31,18 @@ fn words(page: &str) -> BTreeSet<String> {
     words
 }
 
-/// Every file below a folder that is not a page and was not made by a command.
+/// Every file below a folder that is not a page or a patch and was not made by a command.
 fn files(folder: &Path, all: &mut Vec<PathBuf>) {
     for entry in fs::read_dir(folder).unwrap().map(Result::unwrap) {
         let (path, name) = (entry.path(), entry.file_name());
         if entry.file_type().unwrap().is_dir() {
-            if name != "target" && name != ".git" {
+            if name != "target" && name != "out" && name != ".git" {
                 files(&path, all);
             }
-        } else if path.extension().is_none_or(|kind| kind != "md") {
+        } else if path
+            .extension()
+            .is_none_or(|kind| kind != "md" && kind != "patch")
+        {
             all.push(path);
         }
     }
