@@ -217,9 +217,9 @@ fn every_must_fail_edit_is_named_with_a_promise() {
 #[test]
 fn names_that_point_nowhere_are_found() {
     for wrong in [
-        "writing/specs/Calls.noSuchDefinition",
+        "writing/specs/Calls.no_such_definition",
         "store/specs/NoSuchFile",
-        "ledger/proofs/Theorem.no-such-law",
+        "ledger/proofs/Theorem.no_such_law",
         "writing/must-fail/no_such_edit",
         "model/tests/answers::no_such_test",
         "views::views::no_such_function",
@@ -232,14 +232,14 @@ fn names_that_point_nowhere_are_found() {
         assert!(missing(wrong).is_some(), "{wrong} was found");
     }
     for right in [
-        "views/specs/Views.viewOf",
-        "layout/specs/Entry.wellPlaced",
+        "views/specs/Views.view_of",
+        "layout/specs/Entry.well_placed",
         "ledger/specs/Ledger.Item",
-        "ledger/proofs/Theorem.demand-3",
+        "ledger/proofs/Theorem.demand_3",
         "views::views::view",
         "layout::sizes::Mfn",
         "differential/tests/docs::names_that_point_nowhere_are_found",
-        "viewOf",
+        "view_of",
         "isis_view",
         "isis.h",
     ] {
