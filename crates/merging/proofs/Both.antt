@@ -2,11 +2,10 @@
 use Prim.Native.Nat.{ℕ, suc, ◌+◌, ◌≤◌, ◌<◌}
 use native.Mathlib.Omega.{arith}
 use mathlib.Core.Path.{◌≡◌, refl, sym, ◌∙◌}
-use mathlib.Core.Bool.{Bool, true, false, not, cond, and-false}
+use mathlib.Core.Bool.{Bool, true, false, cond, and-false}
 use mathlib.Core.List.{List, [], ◌∷◌}
 use lib.Dec.{ltb, eqb}
 use lib.ListN.{length}
-use borrow.Author.Tests.{not-true, not-false}
 use Rattle.word.specs.Overwrite.{overwrite}
 use Rattle.word.proofs.Tests.{and_iff}
 use Rattle.posting.specs.Posting.{mfn_of}
@@ -111,20 +110,20 @@ unfolding keeps_rules
 keeps_ascends f o e = let q = simp and_iff at e in q.0.1
 
 module _ (f : List ℕ) (p q : Place) (both : Bool) (a b : Opened) (s : OpenedAt f p a) (t : OpenedAt f q b) (out : List ℕ) where
-  pub mfns_first : (r : Bool) → r ≡ keeps_rules f a.cursor a.total 0 → not r ≡ true
+  pub mfns_first : (r : Bool) → r ≡ keeps_rules f a.cursor a.total 0 → r ≡ false
       → Answered (both_right f p q) (merged_of both f p q) out (record { answer = Broken; count = 0 }) out
-  mfns_first r g n = answered_broken _ _ out (rw (← s.0, ← g, not-true r n))
+  mfns_first r g n = answered_broken _ _ out (rw (← s.0, ← g, n))
 
-  pub mfns_second : (r : Bool) → r ≡ keeps_rules f b.cursor b.total 0 → not r ≡ true
+  pub mfns_second : (r : Bool) → r ≡ keeps_rules f b.cursor b.total 0 → r ≡ false
       → Answered (both_right f p q) (merged_of both f p q) out (record { answer = Broken; count = 0 }) out
-  mfns_second r g n = answered_broken _ _ out (rw (← t.0, ← g, not-true r n, and-false))
+  mfns_second r g n = answered_broken _ _ out (rw (← t.0, ← g, n, and-false))
 
-  module _ (r u : Bool) (g : r ≡ keeps_rules f a.cursor a.total 0) (h : u ≡ keeps_rules f b.cursor b.total 0) (n : not r ≡ false) (m : not u ≡ false) where
+  module _ (r u : Bool) (g : r ≡ keeps_rules f a.cursor a.total 0) (h : u ≡ keeps_rules f b.cursor b.total 0) (n : r ≡ true) (m : u ≡ true) where
     right_a : keeps_rules f a.cursor a.total 0 ≡ true
-    right_a = sym g ∙ not-false r n
+    right_a = sym g ∙ n
 
     right_b : keeps_rules f b.cursor b.total 0 ≡ true
-    right_b = sym h ∙ not-false u m
+    right_b = sym h ∙ m
 
     pub mfns_asked : (most : ℕ) → most ≡ most_of both a.total b.total → most ≤ 8589934592
         → Reads f a.cursor × Reads f b.cursor

@@ -68,24 +68,6 @@ module _ (a b c d : ℕ) (ha : a < 256) (hb : b < 256) (hc : c < 256) (hd : d < 
   quad_fourth : (((a * 256 + b) * 256 + c) * 256 + d) % 256 ≡ d
   quad_fourth = omega arith
 
--- the number of the same four bytes in the other order, written with the lowest first
-pub swapped_bytes : (v x : ℕ) → x ≡ high_first 0 (le 4 v) → le 4 x ≡ quad_bytes v
-swapped_bytes v x e =
-    let a : ℕ = v % 256 in
-    let b : ℕ = v / 256 % 256 in
-    let c : ℕ = v / 65536 % 256 in
-    let d : ℕ = v / 16777216 % 256 in
-    let is : x ≡ ((a * 256 + b) * 256 + c) * 256 + d =
-    e ∙ rw (div-div-eq-div-mul v 256 256, div-div-eq-div-mul v 65536 256) (omega arith) in
-    rw (div-div-eq-div-mul x 256 256, div-div-eq-div-mul x 65536 256, is) (
-    rw (
-      quad_first a b c d (omega arith) (omega arith) (omega arith) (omega arith),
-      quad_second a b c d (omega arith) (omega arith) (omega arith) (omega arith),
-      quad_third a b c d (omega arith) (omega arith) (omega arith) (omega arith),
-      quad_fourth a b c d (omega arith) (omega arith) (omega arith) (omega arith),
-    )
-    )
-
 -- the bytes at the front of a list
 pub posting_written : (p : ℕ) (rest : List ℕ) → p < 18446744073709551616 → posting_at (posting_bytes p ++ rest) 0 ≡ p
 unfolding posting_at posting_bytes quad_at
@@ -168,11 +150,6 @@ module _ (s : List ℕ) (b : Bytes s) where
       ∙ ap (λ (xs : List ℕ). xs ++ quad_bytes (quad_at s 4)) (quad_items 0)
       ∙ ap (λ (xs : List ℕ). (get_or s 0 0 ∷ get_or s 1 0 ∷ get_or s 2 0 ∷ get_or s 3 0 ∷ []) ++ xs) (quad_items 4)
       ∙ sym (part_items s 0 8 h)
-
--- eight bytes have 64 bits
-pub high_small : (a b c d e g h i : ℕ) → a < 256 → b < 256 → c < 256 → d < 256 → e < 256 → g < 256 → h < 256 → i < 256
-    → (((((((a * 256 + b) * 256 + c) * 256 + d) * 256 + e) * 256 + g) * 256 + h) * 256) + i < 18446744073709551616
-high_small a b c d e g h i x0 x1 x2 x3 x4 x5 x6 x7 = omega arith
 
 -- ---- there and back
 

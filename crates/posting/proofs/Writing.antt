@@ -1,12 +1,11 @@
--- The ways through `fits` and `write`, and the two halves of what is written.
+-- The ways through `write`, and the two halves of what is written.
 use Prim.Native.Nat.{ℕ, ◌/◌, ◌%◌, ◌≤◌, ◌<◌}
 use native.Mathlib.Omega.{arith}
 use mathlib.Core.Path.{◌≡◌, sym, ap, ◌∙◌}
-use mathlib.Core.Bool.{Bool, true, false, not, and-false}
+use mathlib.Core.Bool.{Bool, true, false}
 use mathlib.Core.List.{List}
-use lib.Dec.{ltb}
 use lib.ListN.{length}
-use borrow.Author.Tests.{lt-ltb, le-ltb, not-true, not-false}
+use borrow.Author.Tests.{lt-ltb, le-ltb}
 use Rattle.word.specs.Overwrite.{overwrite}
 use Rattle.word.proofs.Overwrite.{overwrite_next}
 use Rattle.posting.specs.Answer.{leaves}
@@ -26,41 +25,22 @@ pub narrow_facts : (m t o s : ℕ) → narrow m t o s ≡ true → (m < 16777216
 unfolding narrow
 narrow_facts m t o s e = let q = simp tests at e in (q.0.0.0, q.0.0.1, q.0.1, q.1)
 
--- ---- the ways through `fits`
-
-module _ (m t o s : ℕ) where
-  pub wide_mfn : 16777216 ≤ m → false ≡ narrow m t o s
-  unfolding narrow
-  wide_mfn h = rw (le-ltb m 16777216 h)
-
-  pub wide_tag : 65536 ≤ t → false ≡ narrow m t o s
-  unfolding narrow
-  wide_tag h = rw (le-ltb t 65536 h, and-false)
-
-  pub wide_occurrence : 256 ≤ o → false ≡ narrow m t o s
-  unfolding narrow
-  wide_occurrence h = rw (le-ltb o 256 h, and-false)
-
-  pub wide_sequence : m < 16777216 → t < 65536 → o < 256 → ltb s 65536 ≡ narrow m t o s
-  unfolding narrow
-  wide_sequence h g i = rw (lt-ltb m 16777216 h, lt-ltb t 65536 g, lt-ltb o 256 i)
-
 -- ---- the ways through `write`
 
 module _ (m t o s : ℕ) (out : List ℕ) (b : Bool) (e : b ≡ narrow m t o s) where
-  pub write_wide : not b ≡ true → (Broken ≡ write_answer m t o s out) × (out ≡ write_out m t o s out)
+  pub write_wide : b ≡ false → (Broken ≡ write_answer m t o s out) × (out ≡ write_out m t o s out)
   unfolding write_answer write_out leaves
-  write_wide n = (rw (← e, not-true b n), rw (← e, not-true b n))
+  write_wide n = (rw (← e, n), rw (← e, n))
 
-  module _ (n : not b ≡ false) where
+  module _ (n : b ≡ true) where
     pub write_full : length out < 8 → (NoRoom ≡ write_answer m t o s out) × (out ≡ write_out m t o s out)
     unfolding write_answer write_out leaves
-    write_full h = (rw (← e, not-false b n, lt-ltb _ _ h), rw (← e, not-false b n, lt-ltb _ _ h))
+    write_full h = (rw (← e, n, lt-ltb _ _ h), rw (← e, n, lt-ltb _ _ h))
 
     pub write_asked : (m < 16777216) × (t < 65536) × (o < 256) × (s < 65536)
-    write_asked = narrow_facts m t o s (sym e ∙ not-false b n)
+    write_asked = narrow_facts m t o s (sym e ∙ n)
 
     pub write_done : (p : ℕ) (last : List ℕ) → 8 ≤ length out → p ≡ posting_of m t o s → last ≡ overwrite out 0 (posting_bytes p)
         → (Done ≡ write_answer m t o s out) × (last ≡ write_out m t o s out)
     unfolding write_answer write_out leaves
-    write_done p last h i l = (rw (← e, not-false b n, le-ltb _ _ h), rw (← e, not-false b n, le-ltb _ _ h, l, i))
+    write_done p last h i l = (rw (← e, n, le-ltb _ _ h), rw (← e, n, le-ltb _ _ h, l, i))

@@ -12,6 +12,7 @@ pub enum Answer {
 }
 
 // The number of an answer.
+#[tactic(auto, unfolding(crate::specs::Answer::number_of))]
 pub fn number(a: Answer) -> u32
     ensures { result ≡ number_of a }
 {

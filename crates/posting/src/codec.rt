@@ -58,6 +58,7 @@ pub fn mfn_at(s: &[u8], at: usize) -> u32
 }
 
 // The four numbers of the posting in the first eight bytes.
+#[tactic(auto, unfolding(crate::specs::Posting::read_of))]
 pub fn read(bytes: &[u8]) -> Posting
     ensures { result ≡ read_of bytes.now }
 {
@@ -81,6 +82,7 @@ pub fn read(bytes: &[u8]) -> Posting
 }
 
 // Whether the four numbers fit their bits.
+#[tactic(auto, unfolding(crate::specs::Posting::narrow))]
 fn fits(mfn: u32, tag: u32, occurrence: u32, sequence: u32) -> bool
     ensures { result ≡ narrow mfn tag occurrence sequence }
 {

@@ -2,11 +2,11 @@
 use Prim.Native.Nat.{ℕ, suc, ◌+◌, ◌*◌, ◌-◌, ◌≤◌, ◌<◌}
 use native.Mathlib.Omega.{arith}
 use mathlib.Core.Path.{◌≡◌, refl, sym, ap, ◌∙◌}
-use mathlib.Core.Bool.{Bool, true, false, not, ◌&&◌, and_true, and-false}
+use mathlib.Core.Bool.{Bool, true, false, ◌&&◌, and-true, and-false}
 use mathlib.Core.List.{List, []}
 use lib.Dec.{leb, eqb}
 use lib.ListN.{length}
-use borrow.Author.Tests.{leb-true, lt-leb, le-leb, eq-eqb, ne_eqb, eqb-true, eqb-false, not-true, not-false}
+use borrow.Author.Tests.{leb-true, lt-leb, le-leb, eq-eqb, ne_eqb, eqb-true, eqb-false}
 use Rattle.word.proofs.Tests.{false_true, and_iff}
 use Rattle.posting.specs.Posting.{posting_at}
 use Rattle.postings.specs.Rules.{above}
@@ -31,7 +31,7 @@ module _ (f : List ℕ) (k at last p : ℕ) (is : p ≡ posting_at f at) where
 
 pub only_climbs : (f : List ℕ) (at last p : ℕ) → p ≡ posting_at f at → leb (suc last) p ≡ above (suc last) (row f 1 at)
 unfolding row above
-only_climbs f at last p is = sym (rw (← is, and_true))
+only_climbs f at last p is = sym (rw (← is, and-true))
 
 -- ---- the loop over a run
 
@@ -67,12 +67,12 @@ module _ (f : List ℕ) (start n first : ℕ) where
         e
         ∙ rw (k, row_append f 4 (n - (i + 4)) (start + 8 * i), row_above f 4 (start + 8 * i) 3 (suc last) (row f (n - (i + 4)) (start + 8 * i + 8 * 4)) refl, is, a, b)
 
-    pub climb_four_falls : not t ≡ true → false ≡ above (suc first) (row f n start)
-    climb_four_falls g = sym (fours ∙ rw (not-true t g))
+    pub climb_four_falls : t ≡ false → false ≡ above (suc first) (row f n start)
+    climb_four_falls g = sym (fours ∙ rw (g))
 
-    pub climb_four : not t ≡ false → (p : ℕ) → p ≡ posting_at f (start + 8 * i + 24)
+    pub climb_four : t ≡ true → (p : ℕ) → p ≡ posting_at f (start + 8 * i + 24)
         → above (suc first) (row f n start) ≡ above (suc p) (row f (n - (i + 4)) (start + 8 * (i + 4)))
-    climb_four g p q = fours ∙ rw (not-false t g, q)
+    climb_four g p q = fours ∙ rw (g, q)
 
   pub climb_done : (last i : ℕ) → n ≤ i → above (suc first) (row f n start) ≡ above (suc last) (row f (n - i) (start + 8 * i))
       → true ≡ above (suc first) (row f n start)
@@ -94,12 +94,12 @@ module _ (f : List ℕ) (at n floor : ℕ) (some : 1 ≤ n) where
   ask_outside h = rw (lt-leb (at + 8 * n) (length f) h)
 
   module _ (p : ℕ) (is : p ≡ posting_at f at) (r : Bool) (e : r ≡ leb floor p) where
-    pub ask_falls : not r ≡ true → false ≡ (leb (at + 8 * n) (length f) && above floor (row f n at))
-    ask_falls t = rw (run_first, ← is, ← e, not-true r t, and-false)
+    pub ask_falls : r ≡ false → false ≡ (leb (at + 8 * n) (length f) && above floor (row f n at))
+    ask_falls t = rw (run_first, ← is, ← e, t, and-false)
 
-    pub ask_climbs : not r ≡ false → at + 8 * n ≤ length f → (b : Bool) → b ≡ above (suc p) (row f (n - 1) (at + 8))
+    pub ask_climbs : r ≡ true → at + 8 * n ≤ length f → (b : Bool) → b ≡ above (suc p) (row f (n - 1) (at + 8))
         → b ≡ (leb (at + 8 * n) (length f) && above floor (row f n at))
-    ask_climbs t h b g = g ∙ rw (run_first, ← is, ← e, not-false r t, le-leb (at + 8 * n) (length f) h)
+    ask_climbs t h b g = g ∙ rw (run_first, ← is, ← e, t, le-leb (at + 8 * n) (length f) h)
 
 -- ---- what is still to come
 
@@ -175,17 +175,17 @@ module _ (f : List ℕ) (c : Cursor) (s : Settled) (t : SettledFrom f c s) (due 
     right_short h = sym (keeps_short f s.cursor n t.in_block left_some is due floor h) ∙ same_keeps
 
     module _ (r : Bool) (e : r ≡ (leb (s.cursor.at + 8 * n) (length f) && above floor (row f n s.cursor.at))) where
-      pub right_wrong : not r ≡ true → false ≡ b
-      right_wrong z = sym (keeps_wrong f s.cursor n t.in_block left_some is due floor (sym e ∙ not-true r z)) ∙ same_keeps
+      pub right_wrong : r ≡ false → false ≡ b
+      right_wrong z = sym (keeps_wrong f s.cursor n t.in_block left_some is due floor (sym e ∙ z)) ∙ same_keeps
 
-      pub right_inside : not r ≡ false → s.cursor.at + 8 * n ≤ length f
-      right_inside z = leb-true _ _ ((and_iff _ _).0 (sym e ∙ not-false r z)).0
+      pub right_inside : r ≡ true → s.cursor.at + 8 * n ≤ length f
+      right_inside z = leb-true _ _ ((and_iff _ _).0 (sym e ∙ z)).0
 
-      pub right_again : not r ≡ false → n ≤ due → (last : ℕ) → last ≡ posting_at f (s.cursor.at + 8 * (n - 1))
+      pub right_again : r ≡ true → n ≤ due → (last : ℕ) → last ≡ posting_at f (s.cursor.at + 8 * (n - 1))
           → keeps_rules f (past_of s.cursor n) (due - n) (suc last) ≡ b
       right_again z l last q =
           ap (λ (k : ℕ). keeps_rules f (past_of s.cursor n) (due - n) (suc k)) q
-          ∙ sym (keeps_taken f s.cursor n t.in_block left_some is due floor (sym e ∙ not-false r z) l)
+          ∙ sym (keeps_taken f s.cursor n t.in_block left_some is due floor (sym e ∙ z) l)
           ∙ same_keeps
 
     pub right_less : length (rest_of f (past_of s.cursor n)) < length (rest_of f c)

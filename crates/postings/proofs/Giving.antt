@@ -2,10 +2,10 @@
 use Prim.Native.Nat.{ℕ, ◌+◌, ◌*◌, ◌≤◌, ◌<◌}
 use native.Mathlib.Omega.{arith}
 use mathlib.Core.Path.{◌≡◌, sym, ap, ◌∙◌}
-use mathlib.Core.Bool.{Bool, true, false, not}
+use mathlib.Core.Bool.{Bool, true, false}
 use mathlib.Core.List.{List}
 use lib.ListN.{length, set}
-use borrow.Author.Tests.{eqb-true, not-true, not-false}
+use borrow.Author.Tests.{eqb-true}
 use Rattle.word.specs.Overwrite.{overwrite}
 use Rattle.word.proofs.Overwrite.{overwrite_none, overwrite_more}
 use Rattle.word.proofs.Tests.{and_iff}
@@ -45,12 +45,12 @@ unfolding keeps_rules
 keeps_reads f o e = let q = simp and_iff at e in (q.0.0, eqb-true o.total (length (rest_of f o.cursor)) q.1)
 
 module _ (f : List ℕ) (p : Place) (o : Opened) (t : OpenedAt f p o) (r : Bool) (g : r ≡ keeps_rules f o.cursor o.total 0) (out : List ℕ) where
-  pub postings_broken : not r ≡ true → Answered (list_right f p) (list_of f p) out (record { answer = Broken; count = 0 }) out
-  postings_broken n = answered_broken (list_right f p) (list_of f p) out (sym t.0 ∙ sym g ∙ not-true r n)
+  pub postings_broken : r ≡ false → Answered (list_right f p) (list_of f p) out (record { answer = Broken; count = 0 }) out
+  postings_broken n = answered_broken (list_right f p) (list_of f p) out (sym t.0 ∙ sym g ∙ n)
 
-  module _ (n : not r ≡ false) where
+  module _ (n : r ≡ true) where
     postings_right : keeps_rules f o.cursor o.total 0 ≡ true
-    postings_right = sym g ∙ not-false r n
+    postings_right = sym g ∙ n
 
     list_true : list_right f p ≡ true
     list_true = sym t.0 ∙ postings_right

@@ -2,11 +2,11 @@
 use Prim.Native.Nat.{ℕ, ◌+◌, ◌≤◌, ◌<◌}
 use native.Mathlib.Omega.{arith}
 use mathlib.Core.Path.{◌≡◌, refl, sym, ◌∙◌}
-use mathlib.Core.Bool.{Bool, true, false, not, ◌&&◌, cond, and-false}
+use mathlib.Core.Bool.{Bool, true, false, ◌&&◌, cond, and-false}
 use mathlib.Core.List.{List}
 use lib.Dec.{leb}
 use lib.ListN.{length}
-use borrow.Author.Tests.{lt-ltb, le-leb, le-ltb, not-true, not-false}
+use borrow.Author.Tests.{lt-ltb, le-leb, le-ltb}
 use Rattle.word.specs.Integer.{u32_at}
 use Rattle.word.proofs.Tests.{tests}
 use Rattle.postings.specs.Segment.{Place, spot, word_offset, offset_of, header_inside, count_right, header_of, count_of, total_of, next_of, first_of}
@@ -31,9 +31,9 @@ unfolding header_inside
 inside_yes len b w at l h i a = rw (← a, le-leb 1 b l, lt-ltb b 2147483648 h, le-leb w 120 i)
 
 -- what the readers of words ask for
-module _ (len b w : ℕ) (inside : Bool) (i : inside ≡ header_inside len (spot b w)) (n : not inside ≡ false) where
+module _ (len b w : ℕ) (inside : Bool) (i : inside ≡ header_inside len (spot b w)) (n : inside ≡ true) where
   inside_facts : HeaderFacts len (spot b w)
-  inside_facts = header_facts len (spot b w) (sym i ∙ not-false inside n)
+  inside_facts = header_facts len (spot b w) (sym i ∙ n)
 
   pub asked_counts : (1 ≤ b) × (word_offset b w + 20 ≤ len)
   asked_counts = (inside_facts.low, inside_facts.file_in)
@@ -65,21 +65,21 @@ module _ (f : List ℕ) (b w at count cap : ℕ) (a : at ≡ word_offset b w) (p
 -- ---- the header
 
 module _ (f : List ℕ) (b w : ℕ) (inside : Bool) (i : inside ≡ header_inside (length f) (spot b w)) where
-  pub header_outside : not inside ≡ true → Bad ≡ header_of f (spot b w)
+  pub header_outside : inside ≡ false → Bad ≡ header_of f (spot b w)
   unfolding header_of
-  header_outside n = rw (← i, not-true inside n)
+  header_outside n = rw (← i, n)
 
   module _ (right : Bool) (r : right ≡ count_right f (spot b w)) where
-    pub header_wrong : not right ≡ true → Bad ≡ header_of f (spot b w)
+    pub header_wrong : right ≡ false → Bad ≡ header_of f (spot b w)
     unfolding header_of
-    header_wrong n = rw (← r, not-true right n, and-false)
+    header_wrong n = rw (← r, n, and-false)
 
-    pub header_at : (at count total nb nw : ℕ) → not inside ≡ false → not right ≡ false → at ≡ word_offset b w → count ≡ u32_at f (at + 12)
+    pub header_at : (at count total nb nw : ℕ) → inside ≡ true → right ≡ true → at ≡ word_offset b w → count ≡ u32_at f (at + 12)
         → total ≡ u32_at f (at + 8) → nb ≡ u32_at f at → nw ≡ u32_at f (at + 4)
         → At (record { count = count; total = total; nxtb = nb; nxtp = nw; first = at + 20 }) ≡ header_of f (spot b w)
     unfolding header_of
     header_at at count total nb nw n m a c t x y =
-        rw (← i, ← r, not-false inside n, not-false right m, ← a, ← c, ← t, ← x, ← y)
+        rw (← i, ← r, n, m, ← a, ← c, ← t, ← x, ← y)
 
 -- ---- what a header that was read says
 

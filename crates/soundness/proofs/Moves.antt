@@ -3,7 +3,7 @@
 -- MFN, so no step of another MFN is touched: every other entry stands as it stood, and its record and settled version are read as before. What
 -- a write does to the two files is told by two records, `MstMoved`, which names the control integers that it may change, and `XrfMoved`; the
 -- theorem takes those, and each write of the library has a law that gives one.
-use Prim.Native.Nat.{ℕ, ◌+◌, ◌-◌, ◌≤◌, ◌<◌}
+use Prim.Native.Nat.{ℕ, ◌+◌, ◌≤◌, ◌<◌}
 use native.Mathlib.Omega.{arith}
 use native.Mathlib.Decide.{ℕ_discrete}
 use mathlib.Core.Path.{◌≡◌, refl, sym, ap, ◌∙◌}

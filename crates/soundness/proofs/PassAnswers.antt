@@ -25,7 +25,6 @@ use Rattle.layout.specs.declared.entry.Place.{Place}
 use Rattle.layout.specs.declared.entry.Entry.{Entry}
 use Rattle.layout.specs.declared.entry.Entry.TheVariants.{Gone, Malformed, At}
 use Rattle.layout.specs.declared.leader.Leader.{Leader}
-use Rattle.layout.specs.contracts.entry.Entry as entry
 use Rattle.layout.specs.contracts.entry.Mark as mark
 use Rattle.word.proofs.Tests.{and_left}
 use Rattle.layout.proofs.Facts.{well_placed_facts}
@@ -326,11 +325,11 @@ module _ (mst : List ℕ) (p : Place) (s at : ℕ) (e : at ≡ place_address p) 
       unfolding bit names_of elem
       hit_not_back h = rw (elsewhere, c, ne_eqb s (back_address (leader_at mst p)) (λ q. h (back_is ∙ sym q)))
 
-no_names : (mst : List ℕ) (e : Entry) (s : ℕ) → OneOf (0 ∷ 1 ∷ []) (tag_of entry.the_type e) → elem s (names_of mst e) ≡ false
+no_names : (mst : List ℕ) (e : Entry) (s : ℕ) → ((p : Place) → e ≡ At p → ⊥) → elem s (names_of mst e) ≡ false
 unfolding names_of elem
 no_names mst Gone s o = refl
 no_names mst Malformed s o = refl
-no_names mst (At p) s o = ⊎_elim (λ (z : ◌≡◌ {A = ℕ} 2 0). absurd (omega arith)) (λ (z : ◌≡◌ {A = ℕ} 2 1). absurd (omega arith)) o
+no_names mst (At p) s o = absurd (o p refl)
 
 module _ (mst xrf : List ℕ) (next : Mfn) (end : ℕ) (g : gate_of (store mst xrf) ≡ Open next end) (s : ℕ) (l : Leader) (v : l ≡ leader_of (part mst s (end - s)))
     (m : ℕ) (w : m ≡ l.mfn.0) where
@@ -356,7 +355,7 @@ module _ (mst xrf : List ℕ) (next : Mfn) (end : ℕ) (g : gate_of (store mst x
     unfolding hit
     hit_is = rw (← e, open_known mst xrf next end g m lo hi, entry_is)
 
-    pub hit_no_place : OneOf (0 ∷ 1 ∷ []) (tag_of entry.the_type n) → 0 ≡ bit (hit (store mst xrf) s)
+    pub hit_no_place : ((p : Place) → n ≡ At p → ⊥) → 0 ≡ bit (hit (store mst xrf) s)
     unfolding bit
     hit_no_place o = rw (hit_is, no_names mst n s o)
 
