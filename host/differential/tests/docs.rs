@@ -127,7 +127,7 @@ fn missing(word: &str) -> Option<String> {
                 begins(line, test)
             }),
         },
-        ["target", ..] => None,
+        ["target", ..] | ["crates", _, "out", ..] => None,
         _ if word.contains("NAME") => None,
         [_, _, ..] if !word.contains(['…', ' ']) => {
             let there = |folder: &str| root().join(folder).join(word).exists();
