@@ -5,8 +5,9 @@ usage: tools/respell-pages.py [ROOT]      once, in a clone that has the two comm
 
 Right behind the turn (docs/PORT.md, line 2) each file of specs/ and of laws declares as many names as right before it, in the same order; the table is
 their pairs. A name is turned between backticks and in lines of code; elsewhere only where no word of a sentence looks like it: with a capital within.
-Left alone are docs/PORT.md, and docs/changes/C-18.md with the files of text beside it, of a change that has not landed.
+Left alone are docs/PORT.md, and docs/changes/C-18.md, of a change that has not landed.
 """
+import functools
 import importlib.util
 import os
 import re
@@ -86,15 +87,28 @@ def page(text, names):
     return "\n".join(lines)
 
 
-def comments(text, names):
-    return "\n".join(line[: line.find("//")] + between_backticks(line[line.find("//") :], names) if "//" in line else line for line in text.split("\n"))
+def comments(text, names, mark):
+    """A source with the names in its comments turned, which begin with a mark."""
+    lines = text.split("\n")
+    for at, line in enumerate(lines):
+        start = line.find(mark)
+        if start >= 0 and (mark == "//" or not line[:start].strip()):
+            lines[at] = line[:start] + between_backticks(line[start:], names)
+    return "\n".join(lines)
 
 
 def main():
     names = table()
     changed = []
     for path in git("ls-files").split("\n"):
-        how = page if path.endswith(".md") else comments if re.fullmatch(r"crates/\w+/src/.*\.rt|host/.*\.rs", path) else None
+        if path.endswith(".md"):
+            how = page
+        elif re.fullmatch(r"crates/\w+/src/.*\.rt|host/.*\.rs", path):
+            how = functools.partial(comments, mark="//")
+        elif re.fullmatch(r"crates/\w+/(?:specs|proofs)/.*\.antt", path):
+            how = functools.partial(comments, mark="--")
+        else:
+            how = None
         if how is None or path in LEFT or not os.path.isfile(os.path.join(ROOT, path)):
             continue
         with open(os.path.join(ROOT, path), encoding="utf-8") as f:

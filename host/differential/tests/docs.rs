@@ -31,12 +31,15 @@ fn words(page: &str) -> BTreeSet<String> {
     words
 }
 
-/// Every file below a folder that is not a page or a patch and was not made by a command.
+/// Every file below a folder that is not a page, was not made by a command and belongs to no unfinished change.
 fn files(folder: &Path, all: &mut Vec<PathBuf>) {
     for entry in fs::read_dir(folder).unwrap().map(Result::unwrap) {
         let (path, name) = (entry.path(), entry.file_name());
         if entry.file_type().unwrap().is_dir() {
-            if name != "target" && name != "out" && name != ".git" {
+            if !["target", "out", "unfinished", ".git"]
+                .iter()
+                .any(|left| name == *left)
+            {
                 files(&path, all);
             }
         } else if path
