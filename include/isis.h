@@ -43,6 +43,7 @@
  *
  * The archive. `rt lib` in crates/isis writes it for x86-64, `./key-archive` for
  * cortex-m0, cortex-m3, cortex-m4 and 64-bit Arm, all from one proved module.
+ * The one for x86-64 is compiled for x86-64-v2: the processor has SSE4.2 and POPCNT.
  * Lengths have 64 bits on every one of them, see isis_size. What it needs from
  * the program that it is linked into:
  *   x86-64     memcpy memset

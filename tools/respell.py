@@ -49,14 +49,13 @@ def read(path):
         return f.read()
 
 
+def declared_in_order(text):
+    matches = [how.match(line) for line in text.split("\n") for how in (HEAD, RULES, KIND)]
+    return [m.group(1) for m in matches if m]
+
+
 def declared(text):
-    found = set()
-    for line in text.split("\n"):
-        for how in (HEAD, RULES, KIND):
-            m = how.match(line)
-            if m:
-                found.add(m.group(1))
-    return found
+    return set(declared_in_order(text))
 
 
 def main():
@@ -135,4 +134,5 @@ def main():
     print(f"{len(table)} names, {said} places")
 
 
-main()
+if __name__ == "__main__":
+    main()

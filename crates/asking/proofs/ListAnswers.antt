@@ -1,5 +1,5 @@
 -- What the calls that hand out all fields at once list of the version that they read. Each law's premises are what is known at one place of the
--- code, so that `search list-answers` finds them there.
+-- code, so that `search list_answers` finds them there.
 use Prim.Native.Nat.{ℕ, ◌-◌, ◌^◌, ◌≤◌, ◌<◌}
 use native.Mathlib.Omega.{arith}
 use mathlib.Core.Path.{◌≡◌, refl, sym, ◌∙◌}

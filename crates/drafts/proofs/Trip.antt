@@ -1,6 +1,6 @@
 -- A written record reads back: the leader, the fields and the test, whatever follows the record and wherever in a buffer it stands. The
 -- directory and the data are walked together: where entry i begins stand the entries of the fields that are left, and at their POS their
--- data (`entries-read`).
+-- data (`entries_read`).
 use Prim.Native.Nat.{ℕ, ◌+◌, ◌*◌, ◌-◌, ◌≤◌, ◌<◌}
 use native.Mathlib.Nat.{add-zero, add_assoc, le_refl}
 use native.Mathlib.Omega.{arith}

@@ -1,5 +1,5 @@
--- The writes of the record writer, one after the other, make one. `overwrite-next` joins a write to the one before it; a part that is kept
--- is overwritten with what stands there already (`overwrite-same`); and what is lent comes back as an overwrite (`returned-front`).
+-- The writes of the record writer, one after the other, make one. `overwrite_next` joins a write to the one before it; a part that is kept
+-- is overwritten with what stands there already (`overwrite_same`); and what is lent comes back as an overwrite (`returned_front`).
 use Prim.Native.Nat.{ℕ, ◌+◌, ◌*◌, ◌-◌, ◌<◌, ◌≤◌}
 use native.Mathlib.Omega.{arith}
 use mathlib.Core.Path.{◌≡◌, refl, sym, ap, ◌∙◌}

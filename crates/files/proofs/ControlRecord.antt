@@ -1,6 +1,6 @@
 -- The control record: what a right one says, and what each write leaves of it. All that is read of it stands in its first bytes
--- (`controlRead`), so what keeps those and the length keeps all that is read (`control-right-same`). How the end is stored is known here
--- and nowhere above: callers have `end_of`, `withEnd` and their laws.
+-- (`control_read`), so what keeps those and the length keeps all that is read (`control_right_same`). How the end is stored is known here
+-- and nowhere above: callers have `end_of`, `with_end` and their laws.
 use Prim.Native.Nat.{ℕ, ◌+◌, ◌%◌, ◌≤◌, ◌<◌}
 use native.Mathlib.Omega.{arith}
 use mathlib.Core.Path.{◌≡◌, refl, sym, ap, ◌∙◌}

@@ -1,5 +1,5 @@
 -- RECCNT: its bits as a signed number, what each write leaves of it, and that a write of it leaves all else. Where the control record stands
--- is known in this crate alone: callers have `count_of`, `withCount` and these laws.
+-- is known in this crate alone: callers have `count_of`, `with_count` and these laws.
 use Prim.Native.Nat.{ℕ, suc, ◌+◌, ◌-◌, ◌≤◌, ◌<◌}
 use native.Mathlib.Omega.{arith}
 use mathlib.Core.Path.{◌≡◌, refl, sym, ap, ◌∙◌}

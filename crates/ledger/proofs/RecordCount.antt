@@ -1,5 +1,5 @@
 -- RECCNT and the ledger: of a sound store it is the number of the ledger's items that are neither deleted nor gone, and so after every list of calls.
--- What an item that is set or added makes of that number is a law on lists. THE HISTORY KNOWS THAT NUMBER (`counts-history`): along a list of calls
+-- What an item that is set or added makes of that number is a law on lists. THE HISTORY KNOWS THAT NUMBER (`counts_history`): along a list of calls
 -- it says of every MFN created whether it is deleted, and how many are not; each accepted call keeps both, and a refused one changes neither.
 use Prim.Native.Nat.{ℕ, zero, suc, ◌+◌, ◌-◌, ◌≤◌, ◌<◌}
 use native.Mathlib.Omega.{arith}

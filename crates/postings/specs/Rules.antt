@@ -1,5 +1,5 @@
 -- The segments of a list, its postings in stored order, and the rules of answer 23, one definition each. Document 02, C-14.
--- A word outside the file reads as 0 here; a list with such a header is refused by `headersInside`.
+-- A word outside the file reads as 0 here; a list with such a header is refused by `headers_inside`.
 use Rattle.std.specs.Prelude.{ℕ, zero, suc, ◌+◌, ◌*◌, ◌-◌, ◌/◌, Bool, true, false, not, ◌&&◌, ◌||◌, cond, List, [], ◌∷◌, ◌++◌, leb, eqb, length}
 use Rattle.postings.specs.Segment.{Place, next_of, total_of, count_of, not_negative, is_end, header_inside, count_right, first_of, run, run_inside}
 
@@ -84,7 +84,7 @@ unfoldable pub each_once : List Place → Bool
 each_once [] = true
 each_once (p ∷ ps) = not (among_segments (word_number p) ps) && each_once ps
 
--- no rule of 23 is broken, in the paper's words: `listRight` with "no segment twice" for "the list ends". Theorems.antt has that they are
+-- no rule of 23 is broken, in the paper's words: `list_right` with "no segment twice" for "the list ends". Theorems.antt has that they are
 -- the same. The first header has a line of its own for the file that has not one word, in which nothing is among the segments
 unfoldable pub paper_right : List ℕ → Place → Bool
 paper_right f p =

@@ -14,13 +14,13 @@ FollowsWithin = (b w : ℕ) → w + 4 ≤ 127 → follow (word_offset b w) ≡ w
 unfoldable pub FollowsNext : Type 0
 FollowsNext = (b w : ℕ) → 1 ≤ b → w ≤ 126 → 127 < w + 4 → follow (word_offset b w) ≡ word_offset (b + 1) 0
 
--- posting i of a run is the one at `standsAt` of its first
+-- posting i of a run is the one at `stands_at` of its first
 unfoldable pub StandsAt : Type 0
 StandsAt = (f : List ℕ) (k i at : ℕ) → i < k → get_or (run f k at) i 0 ≡ posting_at f (stands_at at i)
 
 -- ---- a segment twice
 
--- headers inside the file that have the same number stand at the same place, so `eachOnce` is said of segments
+-- headers inside the file that have the same number stand at the same place, so `each_once` is said of segments
 unfoldable pub NumbersPlaces : Type 0
 NumbersPlaces =
     (len : ℕ) (p q : Place) → header_inside len p ≡ true → header_inside len q ≡ true → word_number p ≡ word_number q

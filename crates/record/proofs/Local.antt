@@ -1,5 +1,5 @@
 -- A record is read from its own MFRL bytes only: its leader, and behind the leader the directory and the data. Two lists with the same bytes
--- behind the leader have directories that are right together, and the same fields (`same-directory`, `same-fields`). So a list whose first
+-- behind the leader have directories that are right together, and the same fields (`same_directory`, `same_fields`). So a list whose first
 -- MFRL bytes are those of a right record is read as that record is, whatever follows; and so is a record whose leader alone was written
 -- anew. What is read stands in one record, `ReadsAs`, and each law takes one and gives one.
 use Prim.Native.Nat.{ℕ, zero, suc, ◌+◌, ◌*◌, ◌-◌, ◌≤◌, ◌<◌}

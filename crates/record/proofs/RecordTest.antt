@@ -1,5 +1,5 @@
 -- What the functions of the record test return, by what their tests found. Each law's premises are what is known at one `return`, so that
--- `search test-answers` finds them there. And what a test that passed tells the caller.
+-- `search test_answers` finds them there. And what a test that passed tells the caller.
 use Prim.Native.Nat.{ℕ, ◌+◌, ◌*◌, ◌-◌, ◌<◌, ◌≤◌}
 use native.Mathlib.Omega.{arith}
 use mathlib.Core.Path.{◌≡◌, refl, sym, ap, ◌∙◌}

@@ -1,5 +1,5 @@
 -- WHICH ENTRY the record test tells. The entries from i on, after the lengths of the first i, are all right and the number is 0, or there is a first
--- that is not, and the number is its: one induction (`broken-cases`). That and what makes a directory right give every claim.
+-- that is not, and the number is its: one induction (`broken_cases`). That and what makes a directory right give every claim.
 use Prim.Native.Nat.{ℕ, zero, suc, ◌+◌, ◌-◌, ◌≤◌, ◌<◌}
 use native.Mathlib.Nat.{eq-or-lt_of_le}
 use native.Mathlib.Omega.{arith}

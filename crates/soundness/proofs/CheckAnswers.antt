@@ -1,5 +1,5 @@
 -- What the check and the recount answer, by what the gate and the passes found: one law for each `return` of `sound_apart`, `count_live`, `check` and
--- `recount`. That a tally with the walk's answer is whether every entry is sound is `walk-decides`.
+-- `recount`. That a tally with the walk's answer is whether every entry is sound is `walk_decides`.
 use Prim.Native.Nat.{ℕ, ◌+◌, ◌-◌, ◌≤◌}
 use native.Mathlib.Omega.{arith}
 use mathlib.Core.Path.{◌≡◌, refl, sym, ap, ◌∙◌}

@@ -1,6 +1,6 @@
 -- Counting in the place of searching. Each of 1 to n names some addresses, and at each of these its own number is written. So a step can be
 -- named by one number alone, the one that is written there, and the steps that are named are as many as the names that are steps
--- (`double`). Hence as many steps are named as there are names exactly if each name is a step (`named-all`). Before it, `allTo` and what a
+-- (`double`). Hence as many steps are named as there are names exactly if each name is a step (`named_all`). Before it, `all_to` and what a
 -- loop that tests 1, 2, .. in turn knows; counts over a list.
 use Prim.Native.Nat.{ℕ, zero, suc, ◌+◌, ◌-◌, ◌≤◌, ◌<◌}
 use native.Mathlib.Omega.{arith}

@@ -1,6 +1,6 @@
 -- The counts of the two passes decide whether every entry is sound. An entry is sound if it is right but for the steps and names steps only
--- (`entries-split`). A well-formed record holds its own MFN, and a changed one has its settled version elsewhere; so entries that are right but
--- for the steps are a `Naming`, and the counting law makes of the walk's count whether they name steps only (`walk-decides`).
+-- (`entries_split`). A well-formed record holds its own MFN, and a changed one has its settled version elsewhere; so entries that are right but
+-- for the steps are a `Naming`, and the counting law makes of the walk's count whether they name steps only (`walk_decides`).
 use Prim.Native.Nat.{ℕ, ◌-◌, ◌≤◌}
 use native.Mathlib.Omega.{arith}
 use mathlib.Core.Path.{◌≡◌, refl, sym, ap, ◌∙◌}

@@ -1,7 +1,7 @@
 -- What a write leaves of a sound store. `Leaves` tells it: the new end and NXTMFN, what is read of m, and that every other MFN is read as before.
 -- A write is a move of `Moves`, and where the record that it wrote reads back, and under the changed mark the settled version is at a step that
 -- was not touched, m's new entry stands and the store is sound again (`leaves`). There are two kinds: a record at the end, with whatever control
--- integers are written besides (`end_leaves`), and bytes within m's own record that keep its MFRL (`within-leaves`).
+-- integers are written besides (`end_leaves`), and bytes within m's own record that keep its MFRL (`within_leaves`).
 use Prim.Native.Nat.{ℕ, ◌+◌, ◌-◌, ◌%◌, ◌≤◌, ◌<◌}
 use native.Mathlib.Omega.{arith}
 use mathlib.Core.Path.{◌≡◌, ap, sym, ◌∙◌}

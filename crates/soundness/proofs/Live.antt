@@ -1,4 +1,4 @@
--- RECCNT and the number of live entries. A sum changes where one summand does by what that does (`Sums.sum-other`); so a call that sets one
+-- RECCNT and the number of live entries. A sum changes where one summand does by what that does (`Sums.sum_other`); so a call that sets one
 -- entry, or adds one, changes the number of live entries by what it does to that entry, and each call writes RECCNT by as much. On a sound store
 -- RECCNT is below 2,147,483,647, and above 0 where an entry is live, so that it bars no call there.
 use Prim.Native.Nat.{ℕ, suc, ◌+◌, ◌-◌, ◌≤◌, ◌<◌}

@@ -1,5 +1,5 @@
 -- A write of RECCNT leaves all that is read of a store but RECCNT itself: it is a move that touches no step. So what a call leaves of a sound store
--- it leaves as well where RECCNT is written behind it (`counted-leaves`).
+-- it leaves as well where RECCNT is written behind it (`counted_leaves`).
 use Prim.Native.Nat.{ℕ, ◌≤◌, ◌<◌}
 use native.Mathlib.Omega.{arith}
 use mathlib.Core.Path.{◌≡◌, ap, ◌∙◌}

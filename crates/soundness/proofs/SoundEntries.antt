@@ -1,4 +1,4 @@
--- A sound store as facts. `soundOf` is a chain of tests; `stands` turns it into a record of what each test says, `sound` turns the record back,
+-- A sound store as facts. `sound_of` is a chain of tests; `stands` turns it into a record of what each test says, `sound` turns the record back,
 -- and laws about sound stores speak of the record alone. From it follows what a call asks on a sound store: control record, entry and record
 -- are never wrong there, so that answers 2, 6, 8 and 14 do not come.
 use Prim.Native.Nat.{ℕ, ◌+◌, ◌-◌, ◌/◌, ◌≤◌, ◌<◌}
@@ -53,7 +53,7 @@ pub data EntryStands (mst xrf : List ℕ) (m : ℕ) : Type 0 where
   is_gone_lem : entry_for (store mst xrf) m ≡ Gone → EntryStands mst xrf m
   is_at : (p : Place) → entry_for (store mst xrf) m ≡ At p → PlaceStands mst m p → EntryStands mst xrf m
 
--- a store that is sound apart from RECCNT, fact by fact: what `soundApart` tests
+-- a store that is sound apart from RECCNT, fact by fact: what `sound_apart` tests
 pub record Sound (mst xrf : List ℕ) : Type 0 where
   pub lengths : lengths_permitted (store mst xrf) ≡ true
   pub control : control_fine (store mst xrf) ≡ true

@@ -1,5 +1,5 @@
 -- Stepping through the file. The specification's walks carry a count of the steps that are left; `walk_any` says that any count will do
--- that reaches the end, once for both walks, and from there on they are followed by `steps-more`, `steps-end` and `walk-ind` with no count
+-- that reaches the end, once for both walks, and from there on they are followed by `steps_more`, `steps_end` and `walk_ind` with no count
 -- in sight. Then the facts of a step, and what a write does to the steps: one that keeps each MFRL keeps them, and a record at the end adds
 -- one.
 use Prim.Native.Nat.{ℕ, zero, suc, ◌≤◌, ◌<◌, ◌+◌, ◌-◌, ◌%◌}

@@ -1,4 +1,4 @@
--- Sums over 1 to n. One law says how a sum changes where one summand does (`sum-other`); that of a sum of which all but one summand are 0 is a
+-- Sums over 1 to n. One law says how a sum changes where one summand does (`sum_other`); that of a sum of which all but one summand are 0 is a
 -- case of it.
 use Prim.Native.Nat.{ℕ, zero, suc, ◌+◌, ◌-◌, ◌≤◌}
 use native.Mathlib.Omega.{arith}

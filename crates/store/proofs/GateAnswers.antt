@@ -1,5 +1,5 @@
 -- What the functions of the gate return, by what their steps found. Each law's premises are what is known at one place of the code, so that
--- `search gate-answers` finds them there; a callee's result is a variable with what the callee ensures of it.
+-- `search gate_answers` finds them there; a callee's result is a variable with what the callee ensures of it.
 use Prim.Native.Nat.{ℕ, ◌-◌, ◌≤◌, ◌<◌}
 use native.Mathlib.Omega.{arith}
 use mathlib.Core.Path.{◌≡◌, refl, sym, ap, ◌∙◌}

@@ -356,7 +356,7 @@ pub record RefusedFacts (mst xrf : List ℕ) (m : ℕ) (ok : Bool) (a : Answer) 
   pub refusing : Refusing a
   pub answers : (rest : List Refusal) → lowest (named (store mst xrf) m ok rest) ≡ a
 
--- what `knownIf` is of these
+-- what `known_if` is of these
 abbrev chosen : Answer → (Entry → Leader) → Entry → Known
 chosen a l e = after a (Record (place_in e) (l e)) (Refused a)
 

@@ -1,5 +1,5 @@
 -- Which version a call shows, by what its steps found, and that a version which was found can be read. Each law's premises are what is known
--- at one place of the code, so that `search version-answers` finds them there; a callee's result is a variable with what the callee ensures
+-- at one place of the code, so that `search version_answers` finds them there; a callee's result is a variable with what the callee ensures
 -- of it.
 use Prim.Native.Nat.{ℕ, ◌+◌, ◌-◌, ◌≤◌, ◌<◌}
 use native.Mathlib.Omega.{arith}

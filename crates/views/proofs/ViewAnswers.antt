@@ -1,5 +1,5 @@
 -- What the views show of the version that they read. Each law's premises are what is known at one place of the code, so that
--- `search view-answers` finds them there; a callee's result is a variable with what the callee ensures of it.
+-- `search view_answers` finds them there; a callee's result is a variable with what the callee ensures of it.
 use Prim.Native.Nat.{ℕ, ◌+◌, ◌-◌, ◌^◌, ◌≤◌, ◌<◌}
 use native.Mathlib.Omega.{arith}
 use mathlib.Core.Path.{◌≡◌, sym, ◌∙◌}

@@ -178,7 +178,7 @@ module _ (f : Spot → ℕ) (rec : List ℕ) (d : List ℕ) where
         rw e at (overwrite_more d 0 (map f (spots_before rec k)) (f (spot_at rec k)) (omega (arith, seen)))
         ∙ rw (← map_snoc f (spots_before rec k) (spot_at rec k), before_more rec k)
 
--- ---- the steps: `search walk-answers` finds the premises among what was read
+-- ---- the steps: `search walk_answers` finds the premises among what was read
 
 pub count_is_lem : (rec : List ℕ) (nvf : ℕ) → nvf ≡ u16_at rec 14 → nvf ≡ (leader_of rec).nvf
 unfolding leader_of

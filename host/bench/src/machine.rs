@@ -9,7 +9,7 @@ pub fn run() {
         "- safe Rust: {}, release, one codegen unit, link-time optimisation",
         env!("BENCH_RUSTC")
     );
-    println!("- library: {}, compiled for x86-64", kit());
+    println!("- library: {}, compiled for x86-64-v2", kit());
 }
 
 /// The processor's name, as Linux tells it.

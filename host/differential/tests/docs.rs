@@ -31,12 +31,15 @@ fn words(page: &str) -> BTreeSet<String> {
     words
 }
 
-/// Every file below a folder that is not a page or a patch and was not made by a command.
+/// Every file below a folder that is not a page, was not made by a command and belongs to no unfinished change.
 fn files(folder: &Path, all: &mut Vec<PathBuf>) {
     for entry in fs::read_dir(folder).unwrap().map(Result::unwrap) {
         let (path, name) = (entry.path(), entry.file_name());
         if entry.file_type().unwrap().is_dir() {
-            if name != "target" && name != "out" && name != ".git" {
+            if !["target", "out", "unfinished", ".git"]
+                .iter()
+                .any(|left| name == *left)
+            {
                 files(&path, all);
             }
         } else if path
@@ -127,7 +130,7 @@ fn missing(word: &str) -> Option<String> {
                 begins(line, test)
             }),
         },
-        ["target", ..] => None,
+        ["target", ..] | ["crates", _, "out", ..] => None,
         _ if word.contains("NAME") => None,
         [_, _, ..] if !word.contains(['…', ' ']) => {
             let there = |folder: &str| root().join(folder).join(word).exists();
@@ -217,9 +220,9 @@ fn every_must_fail_edit_is_named_with_a_promise() {
 #[test]
 fn names_that_point_nowhere_are_found() {
     for wrong in [
-        "writing/specs/Calls.noSuchDefinition",
+        "writing/specs/Calls.no_such_definition",
         "store/specs/NoSuchFile",
-        "ledger/proofs/Theorem.no-such-law",
+        "ledger/proofs/Theorem.no_such_law",
         "writing/must-fail/no_such_edit",
         "model/tests/answers::no_such_test",
         "views::views::no_such_function",
@@ -232,14 +235,14 @@ fn names_that_point_nowhere_are_found() {
         assert!(missing(wrong).is_some(), "{wrong} was found");
     }
     for right in [
-        "views/specs/Views.viewOf",
-        "layout/specs/Entry.wellPlaced",
+        "views/specs/Views.view_of",
+        "layout/specs/Entry.well_placed",
         "ledger/specs/Ledger.Item",
-        "ledger/proofs/Theorem.demand-3",
+        "ledger/proofs/Theorem.demand_3",
         "views::views::view",
         "layout::sizes::Mfn",
         "differential/tests/docs::names_that_point_nowhere_are_found",
-        "viewOf",
+        "view_of",
         "isis_view",
         "isis.h",
     ] {
