@@ -7,15 +7,12 @@ use mathlib.Core.List.{List, [], ◌∷◌}
 use lib.Dec.{ltb}
 use lib.ListN.{length}
 use borrow.Author.Tests.{lt-ltb, le-ltb, not-false}
-use denote.Enum.Declared.{tag_of}
-use types.Run.{OneOf}
 use Rattle.layout.specs.Sizes.{mst_most, record_most}
 use Rattle.files.specs.Control.{end_of, count_none}
 use Rattle.layout.specs.declared.sizes.Mfn.{Mfn}
 use Rattle.layout.specs.declared.entry.Mark.TheVariants.{Settled}
 use Rattle.layout.specs.declared.entry.Place.{Place}
 use Rattle.layout.specs.declared.leader.Leader.{Leader}
-use Rattle.layout.specs.contracts.entry.Mark as mark
 use Rattle.drafts.specs.Draft.{need_of, draft_right, draft_fields, draft}
 use Rattle.drafts.specs.Bytes.{need_for}
 use Rattle.drafts.proofs.Draftable.{draft_need}
@@ -37,7 +34,6 @@ use Rattle.store.specs.declared.gate.Reached.{Reached}
 use Rattle.store.specs.declared.gate.Reached.TheVariants.{There, Refused as Unreached}
 use Rattle.updating.specs.declared.changes.Plan.{Plan}
 use Rattle.updating.specs.declared.changes.Plan.TheVariants.{NewVersion, Refuse}
-use Rattle.store.specs.contracts.answer.Answer as answer
 use Rattle.versions.proofs.Told.{draft_fits, read_known, not_settled}
 use Rattle.store.proofs.Gates.{Refusing, refused_is, done_is, gate_shut, known_refused, known_facts, gate_is, opened, Planned}
 use Rattle.store.proofs.Reaching.{reach_refused, reached_facts}
@@ -86,7 +82,7 @@ module _ (p : Place) (l : Leader) (need : ℕ) where
   unfolding update_appends
   appends_settled e = rw e
 
-  pub appends_pending : OneOf (1 ∷ 2 ∷ []) (tag_of mark.the_type p.mark) → ltb l.mfrl need ≡ update_appends p l need
+  pub appends_pending : (p.mark ≡ Settled → ⊥) → ltb l.mfrl need ≡ update_appends p l need
   unfolding update_appends
   appends_pending v = rw (not_settled p.mark v)
 
@@ -206,7 +202,7 @@ module _ (mst xrf : List ℕ) (m : ℕ) (r : Reached) (p : r ≡ reached_of (sto
       pub own_room_asked : (need : ℕ) → (need ≡ need_for (current_fields mst pl)) × (18 ≤ need) × (need ≤ record_most) → (end ≤ mst_most) × (need ≤ 65536)
       own_room_asked need h = let o = reached.1.gate in let e = reached.0 in let k = h.2 in (omega arith, omega arith)
 
-      pub delete_in_place : OneOf (1 ∷ 2 ∷ []) (tag_of mark.the_type pl.mark) → NewVersion end pl l false ≡ delete_plan (store mst xrf) m
+      pub delete_in_place : (pl.mark ≡ Settled → ⊥) → NewVersion end pl l false ≡ delete_plan (store mst xrf) m
       unfolding delete_plan plan_if
       delete_in_place x =
           let o = reached.1.gate in

@@ -1,4 +1,3 @@
-use borrow.Author.Rules.{rules}
 use Rattle.updating.proofs.Plans.{room_plans}
 use Rattle.updating.proofs.changes.plan_room.Goals as goal
 

@@ -1,6 +1,5 @@
 use Rattle.versions.proofs.Told.{draft_counted}
 use Rattle.updating.proofs.Plans.{draft_room_asked, update_plans}
-use borrow.Author.Rules.{rules}
 use mathlib.Core.Bool.{not}
 use mathlib.Core.Path.{ap}
 use Rattle.updating.proofs.changes.plan_update.Goals as goal
@@ -29,10 +28,10 @@ need-need-requires c =
 pub plan_room-requires : goal.plan_room-requires
 plan_room-requires c =
     let open-gate = c.open_gate-g in
-    let the-g = c.g-1 in
+    let the-g = c.in-Open in
     let draft-right = c.draft_right in
     let if1 = c.if-not-draft_right in
-    draft_room_asked _ _ _ open-gate.ensures _ _ the-g.given.1 _ _ _ _ _ draft-right.ensures (ap not if1.false) c.need-need.ensures
+    draft_room_asked _ _ _ open-gate.ensures _ _ the-g.is _ _ _ _ _ draft-right.ensures (ap not if1.false) c.need-need.ensures
 
 pub returns : goal.returns
 returns c = search update_plans

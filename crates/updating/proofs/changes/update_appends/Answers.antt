@@ -1,5 +1,4 @@
 use Rattle.updating.proofs.Plans.{append_tests}
-use borrow.Author.Rules.{rules}
 use Rattle.updating.proofs.changes.update_appends.Goals as goal
 
 pub returns-in_default : goal.returns-in_default
