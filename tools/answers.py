@@ -144,6 +144,8 @@ def as_record(expr, fields):
         else:
             cur += ch
     parts.append(cur)
+    if not parts[-1].strip():
+        parts.pop()
     while len(parts) < len(fields) and len(parts) > 1:
         last = parts[-1].strip()
         if not (last.startswith("(") and last.endswith(")")):

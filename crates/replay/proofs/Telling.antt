@@ -80,7 +80,7 @@ module _ (mst xrf mst₁ xrf₁ : List ℕ) (a : Answer) (ea : a ≡ format_answ
 
   -- it is refused, and nothing is run
   pub replay_refused : (answers shown : List ℕ) (p : Script)
-      → OneOf (1 ∷ 2 ∷ 3 ∷ 4 ∷ 5 ∷ 6 ∷ 7 ∷ 8 ∷ 9 ∷ 10 ∷ 11 ∷ 12 ∷ 13 ∷ 14 ∷ 15 ∷ 16 ∷ []) (tag_of answer.the_type a)
+      → (a ≡ Done → ⊥)
       → Replays (store mst xrf) p answers shown (record { stop = BadLength; calls = 0 }) (store mst₁ xrf₁) answers shown
   unfolding after_s
   replay_refused answers shown p v =

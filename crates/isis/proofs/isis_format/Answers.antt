@@ -1,0 +1,7 @@
+use mathlib.Core.Path.{ap, ◌∙◌}
+use Rattle.store.specs.Answer.{number_of}
+use Rattle.isis.proofs.isis_format.Goals as goal
+
+pub returns : goal.returns
+returns c =
+    record { answers = c.number.ensures ∙ ap number_of c.format.ensures.answers; left = c.format.ensures.left }

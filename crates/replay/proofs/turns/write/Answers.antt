@@ -1,0 +1,27 @@
+use Rattle.replay.proofs.Turning.{written_answers}
+use borrow.Author.Rules.{rules}
+use Rattle.replay.proofs.turns.write.Goals as goal
+
+pub returns-in-Format : goal.returns-in-Format
+returns-in-Format c = search written_answers
+
+pub returns-in-Create : goal.returns-in-Create
+returns-in-Create c = search written_answers
+
+pub returns-in-Update : goal.returns-in-Update
+returns-in-Update c = search written_answers
+
+pub returns-in-Delete : goal.returns-in-Delete
+returns-in-Delete c = search written_answers
+
+pub returns-in-Settle : goal.returns-in-Settle
+returns-in-Settle c = search written_answers
+
+pub returns-in-Revert : goal.returns-in-Revert
+returns-in-Revert c = search written_answers
+
+pub returns-in-Migrate : goal.returns-in-Migrate
+returns-in-Migrate c = search written_answers
+
+pub returns-in-Recount : goal.returns-in-Recount
+returns-in-Recount c = search written_answers

@@ -1,0 +1,6 @@
+use Rattle.replay.proofs.Turning.{written_at}
+use borrow.Author.Rules.{rules}
+use Rattle.replay.proofs.turns.write_at.Goals as goal
+
+pub returns : goal.returns
+returns c = written_at _ _ _ _ _ _ _ _ _ c.write.ensures
