@@ -19,7 +19,7 @@ RULES = re.compile(r"^ *(?:pub )?ruleset (\S+) =")
 KIND = re.compile(r"^ *(?:pub )?(?:data|record) (\S+)")
 
 # Two definitions of specs/ that would fall together.
-BY_HAND = {"place-in": "place_inside", "at-end": "is_at_end", "calls-in": "calls_left", "settled-fields": "settled_all"}
+BY_HAND = {"place-in": "place_inside", "at-end": "is_at_end", "calls-in": "calls_within", "settled-fields": "settled_all"}
 
 
 def crates():

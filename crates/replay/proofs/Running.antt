@@ -128,7 +128,7 @@ module _ (ops mfns tags lens bytes : List ℕ) where
               ops_in = omega arith;
               mfns_in = omega arith;
               drafts_in = record { tags_in = omega arith; lens_in = omega arith; bytes_in = omega arith };
-              room_in = record { reported = record { calls_left = omega arith; numbers_in = omega arith }; shown_in = omega arith };
+              room_in = record { reported = record { calls_within = omega arith; numbers_in = omega arith }; shown_in = omega arith };
             };
         answers_long = refl;
         shown_long = refl;
@@ -222,7 +222,7 @@ module _ (ops mfns tags lens bytes : List ℕ) where
               ops_in = omega arith;
               mfns_in = omega arith;
               drafts_in = record { tags_in = omega arith; lens_in = omega arith; bytes_in = omega arith };
-              room_in = record { reported = record { calls_left = omega arith; numbers_in = omega arith }; shown_in = omega arith };
+              room_in = record { reported = record { calls_within = omega arith; numbers_in = omega arith }; shown_in = omega arith };
             }
 
         numbers_next : overwrite answers at.numbers (numbers_of o) ≡ overwrite answers₀ 0 (outcome_numbers (g.done ++ (o ∷ [])))

@@ -41,7 +41,7 @@ pub record DraftWithin (tags lens bytes : List ℕ) (at : Cursor) (n : Counts) :
 
 -- the calls reported have so many numbers each, and these lie within their room
 pub record NumbersWithin (answers : List ℕ) (at : Cursor) : Type 0 where
-  pub calls_left : outcome_size * at.calls ≤ at.numbers
+  pub calls_within : outcome_size * at.calls ≤ at.numbers
   pub numbers_in : at.numbers ≤ length answers
 
 -- and their bytes within theirs
