@@ -18,7 +18,7 @@ HEAD = re.compile(r"^ *(?:(?:abbrev|unfoldable|pub|pattern) )*([^\s(){}.;,@\"Â«Â
 RULES = re.compile(r"^ *(?:pub )?ruleset (\S+) =")
 KIND = re.compile(r"^ *(?:pub )?(?:data|record) (\S+)")
 
-# Two definitions of specs/ that would fall together.
+# Fields of specs/ that would meet a name beside them.
 BY_HAND = {"place-in": "place_inside", "at-end": "is_at_end", "calls-in": "calls_within", "settled-fields": "settled_all"}
 
 
@@ -74,7 +74,7 @@ def main():
     for n in sorted(names):
         if not re.match(r"[A-Za-z]", n):
             continue
-        to = turned(n)
+        to = BY_HAND.get(n, turned(n))
         if to != n:
             table[n] = to
     # what falls together in some file: a definition of specs/ keeps the plain name, and a law gets '_lem'
@@ -95,7 +95,7 @@ def main():
             continue
         keep = min(olds, key=lambda o: (o not in spec_names, o != new, "-" in o, o))
         for i, o in enumerate(sorted(olds - {keep})):
-            table[o] = BY_HAND.get(o, new + "_lem" + ("" if i == 0 else str(i + 1)))
+            table[o] = new + "_lem" + ("" if i == 0 else str(i + 1))
             where = "specs" if o in spec_names else "proofs" if o in law_names else "elsewhere"
             print(f"falls together: {keep} keeps {new}; {o} ({where}) becomes {table[o]}: {list(met[new].values())[:2]}")
     said = 0
