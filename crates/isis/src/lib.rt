@@ -52,9 +52,9 @@ pub extern "C" fn isis_view(
     occurrences: &mut u32,
 ) -> u32
     ensures answers { result ≡ number_of (view_of (store mst.now xrf.now) mfn tag occurrence).answer }
-    ensures first { start.exit.now ≡ (view_of (store mst.entry.now xrf.entry.now) mfn tag occurrence).start }
-    ensures size { len.exit.now ≡ (view_of (store mst.entry.now xrf.entry.now) mfn tag occurrence).len }
-    ensures counted { occurrences.exit.now ≡ (view_of (store mst.entry.now xrf.entry.now) mfn tag occurrence).occurrences }
+    ensures first { start.new ≡ (view_of (store mst.now xrf.now) mfn tag occurrence).start }
+    ensures size { len.new ≡ (view_of (store mst.now xrf.now) mfn tag occurrence).len }
+    ensures counted { occurrences.new ≡ (view_of (store mst.now xrf.now) mfn tag occurrence).occurrences }
 {
     let shown = views::views::view(mst, xrf, Mfn(mfn), Tag(tag), occurrence);
     *start = shown.start;
@@ -77,9 +77,9 @@ pub extern "C" fn isis_view_settled(
     occurrences: &mut u32,
 ) -> u32
     ensures answers { result ≡ number_of (settled_view_of (store mst.now xrf.now) mfn tag occurrence).answer }
-    ensures first { start.exit.now ≡ (settled_view_of (store mst.entry.now xrf.entry.now) mfn tag occurrence).start }
-    ensures size { len.exit.now ≡ (settled_view_of (store mst.entry.now xrf.entry.now) mfn tag occurrence).len }
-    ensures counted { occurrences.exit.now ≡ (settled_view_of (store mst.entry.now xrf.entry.now) mfn tag occurrence).occurrences }
+    ensures first { start.new ≡ (settled_view_of (store mst.now xrf.now) mfn tag occurrence).start }
+    ensures size { len.new ≡ (settled_view_of (store mst.now xrf.now) mfn tag occurrence).len }
+    ensures counted { occurrences.new ≡ (settled_view_of (store mst.now xrf.now) mfn tag occurrence).occurrences }
 {
     let shown = views::views::view_settled(mst, xrf, Mfn(mfn), Tag(tag), occurrence);
     *start = shown.start;
@@ -101,9 +101,9 @@ pub extern "C" fn isis_field(
     len: &mut usize,
 ) -> u32
     ensures answers { result ≡ number_of (field_of (store mst.now xrf.now) mfn index).answer }
-    ensures tagged { tag.exit.now ≡ (field_of (store mst.entry.now xrf.entry.now) mfn index).tag.0 }
-    ensures first { start.exit.now ≡ (field_of (store mst.entry.now xrf.entry.now) mfn index).start }
-    ensures size { len.exit.now ≡ (field_of (store mst.entry.now xrf.entry.now) mfn index).len }
+    ensures tagged { tag.new ≡ (field_of (store mst.now xrf.now) mfn index).tag.0 }
+    ensures first { start.new ≡ (field_of (store mst.now xrf.now) mfn index).start }
+    ensures size { len.new ≡ (field_of (store mst.now xrf.now) mfn index).len }
 {
     let shown = views::walk::field_at(mst, xrf, Mfn(mfn), index);
     *tag = shown.tag.0;
@@ -125,9 +125,9 @@ pub extern "C" fn isis_field_settled(
     len: &mut usize,
 ) -> u32
     ensures answers { result ≡ number_of (settled_field_of (store mst.now xrf.now) mfn index).answer }
-    ensures tagged { tag.exit.now ≡ (settled_field_of (store mst.entry.now xrf.entry.now) mfn index).tag.0 }
-    ensures first { start.exit.now ≡ (settled_field_of (store mst.entry.now xrf.entry.now) mfn index).start }
-    ensures size { len.exit.now ≡ (settled_field_of (store mst.entry.now xrf.entry.now) mfn index).len }
+    ensures tagged { tag.new ≡ (settled_field_of (store mst.now xrf.now) mfn index).tag.0 }
+    ensures first { start.new ≡ (settled_field_of (store mst.now xrf.now) mfn index).start }
+    ensures size { len.new ≡ (settled_field_of (store mst.now xrf.now) mfn index).len }
 {
     let shown = views::walk::settled_field_at(mst, xrf, Mfn(mfn), index);
     *tag = shown.tag.0;
@@ -149,8 +149,8 @@ pub extern "C" fn isis_fields(
     count: &mut usize,
 ) -> u32
     ensures answers { result ≡ number_of (all_fields_of (store mst.now xrf.now) mfn (lists tags.old starts.old lens.old)).answer }
-    ensures counts { count.exit.now ≡ (all_fields_of (store mst.entry.now xrf.entry.now) mfn (lists tags.entry.now starts.entry.now lens.entry.now)).count }
-    ensures left { lists tags.exit.now starts.exit.now lens.exit.now ≡ all_fields_leaves (store mst.entry.now xrf.entry.now) mfn (lists tags.entry.now starts.entry.now lens.entry.now) }
+    ensures counts { count.new ≡ (all_fields_of (store mst.now xrf.now) mfn (lists tags.old starts.old lens.old)).count }
+    ensures left { lists tags.new starts.new lens.new ≡ all_fields_leaves (store mst.now xrf.now) mfn (lists tags.old starts.old lens.old) }
 {
     let listed = asking::listing::fields(mst, xrf, Mfn(mfn), tags, starts, lens);
     *count = listed.count;
@@ -170,8 +170,8 @@ pub extern "C" fn isis_fields_settled(
     count: &mut usize,
 ) -> u32
     ensures answers { result ≡ number_of (settled_all_fields_of (store mst.now xrf.now) mfn (lists tags.old starts.old lens.old)).answer }
-    ensures counts { count.exit.now ≡ (settled_all_fields_of (store mst.entry.now xrf.entry.now) mfn (lists tags.entry.now starts.entry.now lens.entry.now)).count }
-    ensures left { lists tags.exit.now starts.exit.now lens.exit.now ≡ settled_all_fields_leaves (store mst.entry.now xrf.entry.now) mfn (lists tags.entry.now starts.entry.now lens.entry.now) }
+    ensures counts { count.new ≡ (settled_all_fields_of (store mst.now xrf.now) mfn (lists tags.old starts.old lens.old)).count }
+    ensures left { lists tags.new starts.new lens.new ≡ settled_all_fields_leaves (store mst.now xrf.now) mfn (lists tags.old starts.old lens.old) }
 {
     let listed = asking::listing::fields_settled(mst, xrf, Mfn(mfn), tags, starts, lens);
     *count = listed.count;
@@ -203,8 +203,8 @@ pub extern "C" fn isis_state(
     deleted: &mut u32,
 ) -> u32
     ensures answers { result ≡ number_of (state_of (store mst.now xrf.now) mfn).answer }
-    ensures marked { mark.exit.now ≡ mark_number (state_of (store mst.entry.now xrf.entry.now) mfn).mark }
-    ensures dead { deleted.exit.now ≡ deleted_number (state_of (store mst.entry.now xrf.entry.now) mfn).deleted }
+    ensures marked { mark.new ≡ mark_number (state_of (store mst.now xrf.now) mfn).mark }
+    ensures dead { deleted.new ≡ deleted_number (state_of (store mst.now xrf.now) mfn).deleted }
 {
     let shown = asking::state::state(mst, xrf, Mfn(mfn));
     let k = shown.mark;
@@ -226,7 +226,7 @@ pub extern "C" fn isis_create(
 ) -> u32
     ensures answers { result ≡ number_of (create_of (store mst.old xrf.old) (draft tags.now lens.now «data».now)).answer }
     ensures returned { mfn.new ≡ (create_of (store mst.old xrf.old) (draft tags.now lens.now «data».now)).mfn.0 }
-    ensures left { store mst.exit.now xrf.exit.now ≡ create_leaves (store mst.entry.now xrf.entry.now) (draft tags.entry.now lens.entry.now «data».entry.now) }
+    ensures left { store mst.new xrf.new ≡ create_leaves (store mst.old xrf.old) (draft tags.now lens.now «data».now) }
 {
     let made = writing::create::create(mst, xrf, tags, lens, data);
     *mfn = made.mfn.0;
@@ -245,7 +245,7 @@ pub extern "C" fn isis_update(
     data: &[u8],
 ) -> u32
     ensures answers { result ≡ number_of (update_answer (store mst.old xrf.old) mfn (draft tags.now lens.now «data».now)) }
-    ensures left { store mst.exit.now xrf.exit.now ≡ update_leaves (store mst.entry.now xrf.entry.now) mfn (draft tags.entry.now lens.entry.now «data».entry.now) }
+    ensures left { store mst.new xrf.new ≡ update_leaves (store mst.old xrf.old) mfn (draft tags.now lens.now «data».now) }
 {
     number(updating::changes::update(mst, xrf, Mfn(mfn), tags, lens, data))
 }
@@ -315,7 +315,7 @@ pub extern "C" fn isis_recount(mst: &mut [u8], xrf: &mut [u8]) -> u32
 #[unsafe(no_mangle)]
 pub extern "C" fn isis_record_test(rec: &[u8], mfn: u32, deleted: u32, entry: &mut u32) -> u32
     ensures answers { result ≡ number_of (record_test_of rec.now mfn (is_deleted deleted)).answer }
-    ensures entries { entry.exit.now ≡ (record_test_of rec.entry.now mfn (is_deleted deleted)).entry }
+    ensures entries { entry.new ≡ (record_test_of rec.now mfn (is_deleted deleted)).entry }
 {
     let tested = asking::record_test::test(rec, Mfn(mfn), deleted != 0);
     *entry = tested.entry;
@@ -378,9 +378,9 @@ pub extern "C" fn isis_posting_read(
 ) -> u32
     ensures answers { result ≡ posting-answer.number_of (read_of bytes.now).answer }
     ensures mfns { mfn.new ≡ (read_of bytes.now).mfn }
-    ensures tags { tag.exit.now ≡ (read_of bytes.entry.now).tag }
-    ensures occurrences { occurrence.exit.now ≡ (read_of bytes.entry.now).occurrence }
-    ensures sequences { sequence.exit.now ≡ (read_of bytes.entry.now).sequence }
+    ensures tags { tag.new ≡ (read_of bytes.now).tag }
+    ensures occurrences { occurrence.new ≡ (read_of bytes.now).occurrence }
+    ensures sequences { sequence.new ≡ (read_of bytes.now).sequence }
 {
     let p = posting::codec::read(bytes);
     *mfn = p.mfn;
@@ -401,7 +401,7 @@ pub extern "C" fn isis_posting_write(
     out: &mut [u8],
 ) -> u32
     ensures answers { result ≡ posting-answer.number_of (write_answer mfn tag occurrence sequence out.old) }
-    ensures writes { out.exit.now ≡ write_out mfn tag occurrence sequence out.entry.now }
+    ensures writes { out.new ≡ write_out mfn tag occurrence sequence out.old }
 {
     posting::answer::number(posting::codec::write(mfn, tag, occurrence, sequence, out))
 }

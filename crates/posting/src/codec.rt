@@ -129,7 +129,7 @@ fn joined_posting(mfn: u32, tag: u32, occurrence: u32, sequence: u32) -> u64
 // Writes the posting of four numbers into the first eight bytes.
 pub fn write(mfn: u32, tag: u32, occurrence: u32, sequence: u32, out: &mut [u8]) -> Answer
     ensures answers { result ≡ write_answer mfn tag occurrence sequence out.old }
-    ensures writes { out.exit.now ≡ write_out mfn tag occurrence sequence out.entry.now }
+    ensures writes { out.new ≡ write_out mfn tag occurrence sequence out.old }
 {
     if !fits(mfn, tag, occurrence, sequence) {
         return Answer::Broken;
