@@ -5,7 +5,7 @@ usage: tools/respell-pages.py [ROOT]      once, in a clone that has the two comm
 
 Right behind the turn (docs/PORT.md, line 2) each file of specs/ and of laws declares as many names as right before it, in the same order; the table is
 their pairs. A name is turned between backticks and in lines of code; elsewhere only where no word of a sentence looks like it: with a capital within.
-Left alone are docs/PORT.md, and docs/changes/C-18.md, of a change that has not landed.
+Left alone are docs/PORT.md, and docs/unfinished, a change that has not landed.
 """
 import functools
 import importlib.util
@@ -16,7 +16,7 @@ import sys
 
 HERE = os.path.dirname(os.path.abspath(__file__))
 ROOT = sys.argv[1] if len(sys.argv) > 1 else "."
-LEFT = {"docs/PORT.md", "docs/changes/C-18.md"}
+LEFT = ("docs/PORT.md", "docs/unfinished")
 DECLARES = re.compile(r"crates/\w+/(?:specs/.*|proofs/[^/]+)\.antt")
 
 
@@ -109,7 +109,7 @@ def main():
             how = functools.partial(comments, mark="--")
         else:
             how = None
-        if how is None or path in LEFT or not os.path.isfile(os.path.join(ROOT, path)):
+        if how is None or path.startswith(LEFT) or not os.path.isfile(os.path.join(ROOT, path)):
             continue
         with open(os.path.join(ROOT, path), encoding="utf-8") as f:
             text = f.read()
