@@ -58,23 +58,17 @@ def nested(path, fields):
 
 
 def source_clauses(crate, rel):
-    """The names of the ensures clauses of the function whose folder below proofs/ is rel, where it has two or more."""
-    parts = rel.split(os.sep)
-    name = parts[-1].lstrip("+")
-    for at, _, files in os.walk(os.path.join(crate, "src")):
-        for f in files:
-            if not f.endswith(".rt"):
-                continue
-            stem = f[:-3]
-            if len(parts) > 1 and stem != parts[-2] and stem not in ("lib", "main"):
-                continue
-            if len(parts) == 1 and stem not in ("lib", "main"):
-                continue
-            t = open(os.path.join(at, f), encoding="utf-8").read()
-            m = re.search(rf"\bfn {re.escape(name)}\b[^{{]*?\n?(.*?)\n\{{\n", t, re.S)
-            m = re.search(rf"(?m)^ *(?:pub(?:\(crate\))? )?(?:extern \"C\" )?fn {re.escape(name)}\b(.*?)^ *\{{$", t, re.S | re.M)
-            if m:
-                return re.findall(r"(?m)^ *ensures (\w+) \{", m.group(1)), re.findall(r"(?m)^ *requires (\w+) \{", m.group(1))
+    """The names of the ensures and of the requires clauses of the function whose folder below proofs/ is rel."""
+    *modules, name = rel.split(os.sep)
+    for module in [*modules[-1:], "lib", "main"]:
+        path = os.path.join(crate, "src", module + ".rt")
+        if not os.path.isfile(path):
+            continue
+        with open(path, encoding="utf-8") as f:
+            t = f.read()
+        m = re.search(rf"(?m)^ *(?:pub(?:\(crate\))? )?(?:extern \"C\" )?fn {re.escape(name.lstrip('+'))}\b(.*?)^ *\{{$", t, re.S | re.M)
+        if m:
+            return tuple(re.findall(rf"(?m)^ *{kind} (\w+) \{{", m.group(1)) for kind in ("ensures", "requires"))
     return [], []
 
 
@@ -113,6 +107,20 @@ def by_clause(expr, fields):
     return f"\n    let h =\n        {inner} in\n    record {{ " + "; ".join(f"{f} = {a}" for f, a in zip(fields, at)) + " }"
 
 
+def at_commas(text):
+    """The parts of a text between its commas that stand in no bracket; none where a bracket closes that is not open."""
+    parts, depth = [""], 0
+    for ch in text:
+        depth += (ch in "({[") - (ch in ")}]")
+        if depth < 0:
+            return []
+        if ch == "," and depth == 0:
+            parts.append("")
+        else:
+            parts[-1] += ch
+    return parts
+
+
 def as_record(expr, fields):
     """The last tuple of an answer as a record of its clauses."""
     if len(fields) < 2:
@@ -132,41 +140,16 @@ def as_record(expr, fields):
     before = t[:i].rstrip()
     if before and not re.search(r"(\bin|=|^)$", before):
         return expr
-    inner, parts, depth, cur = t[i + 1:-1], [], 0, ""
-    for ch in inner:
-        if ch in "({[":
-            depth += 1
-        elif ch in ")}]":
-            depth -= 1
-        if ch == "," and depth == 0:
-            parts.append(cur)
-            cur = ""
-        else:
-            cur += ch
-    parts.append(cur)
-    if not parts[-1].strip():
+    parts = at_commas(t[i + 1:-1])
+    if parts and not parts[-1].strip():
         parts.pop()
-    while len(parts) < len(fields) and len(parts) > 1:
+    # pairs within pairs: the last part is cut on
+    while 1 < len(parts) < len(fields):
         last = parts[-1].strip()
-        if not (last.startswith("(") and last.endswith(")")):
-            break
-        more, depth, cur = [], 0, ""
-        for ch in last[1:-1]:
-            if ch in "({[":
-                depth += 1
-            elif ch in ")}]":
-                depth -= 1
-            if depth < 0:
-                return expr
-            if ch == "," and depth == 0:
-                more.append(cur)
-                cur = ""
-            else:
-                cur += ch
-        more.append(cur)
+        more = at_commas(last[1:-1]) if last.startswith("(") and last.endswith(")") else []
         if len(more) < 2:
-            break
-        parts = parts[:-1] + more
+            return expr
+        parts[-1:] = more
     if len(parts) != len(fields):
         return expr
     return t[:i] + "record { " + "; ".join(f"{f} = {p.strip()}" for f, p in zip(fields, parts)) + " }"
@@ -220,9 +203,7 @@ def turn(crate, crate_name, at, rel, path, entry):
         return re.sub(rf"({TOKEN}+)\.ensures((?:\.\d+)+)", one, expr)
 
     loops = {}
-    for i, group in enumerate(entry["loops"]):
-        (o, n), vars_ = group[0], group[1]
-        ch = entry["changed"][i]
+    for ((o, n), vars_), ch in zip(entry["loops"], entry["changed"]):
         loops[squash(o)] = (n, vars_, ch)
     head, uses, helpers, invs, answers, said = [], [], [], [], [], []
     local = {}
@@ -269,25 +250,14 @@ def turn(crate, crate_name, at, rel, path, entry):
                 helpers.append("\n".join(tail))
             continue
         sig = rest[0]
-        m = re.match(rf"(?:abbrev )?(?:pub )?(\S+) : tie\.(?:invariant|InvT)-(\S+)", sig)
+        m = re.match(r"(?:abbrev )?(?:pub )?\S+ : tie\.(invariant|InvT|decreases|MeasureT)-(\S+)", sig)
         if m:
-            key = squash(m.group(2))
-            if key not in loops:
-                said.append(f"invariant {m.group(2)}")
+            kind = "invariant" if m.group(1) in ("invariant", "InvT") else "decreases"
+            if squash(m.group(2)) in loops:
+                invs.append(("\n".join(comment), kind, *loops[squash(m.group(2))], rest[1:]))
+            else:
+                said.append(f"{kind} {m.group(2)}")
                 helpers.append(b)
-                continue
-            n, vars_, ch = loops[key]
-            invs.append(("\n".join(comment), "invariant", n, rest[1:], vars_, ch))
-            continue
-        m = re.match(rf"(?:abbrev )?(?:pub )?(\S+) : tie\.(?:decreases|MeasureT)-(\S+)", sig)
-        if m:
-            key = squash(m.group(2))
-            if key not in loops:
-                said.append(f"measure {m.group(2)}")
-                helpers.append(b)
-                continue
-            n, vars_, ch = loops[key]
-            invs.append(("\n".join(comment), "decreases", n, rest[1:], vars_, ch))
             continue
         m = re.match(rf"(\S+) : tie\.Need-(\S+)(.*)$", sig)
         if m:
@@ -342,7 +312,7 @@ def turn(crate, crate_name, at, rel, path, entry):
     answers = [f"{sig}\n{new}{args} ={expr}" for new, plain, sig, args, expr in answers if not plain or new in cited]
     # invariants
     inv_texts = []
-    for comment, kind, n, body, vars_, ch in invs:
+    for comment, kind, n, vars_, ch, body in invs:
         t = "\n".join(body)
         unf = ""
         while t.startswith("unfolding"):

@@ -36,7 +36,7 @@ def files(folder, end):
 
 
 def turned(name):
-    if name[:1].isupper() or name[:2] in ("Is",):
+    if name[:1].isupper():
         # a type: camel case throughout
         parts = re.split(r"[-_]", name)
         return parts[0] + "".join(p[:1].upper() + p[1:] for p in parts[1:])
@@ -96,7 +96,7 @@ def main():
         keep = min(olds, key=lambda o: (o not in spec_names, o != new, "-" in o, o))
         for i, o in enumerate(sorted(olds - {keep})):
             table[o] = new + "_lem" + ("" if i == 0 else str(i + 1))
-            where = "specs" if o in spec_names else "proofs" if o in law_names else "elsewhere"
+            where = "specs" if o in spec_names else "proofs"
             print(f"falls together: {keep} keeps {new}; {o} ({where}) becomes {table[o]}: {list(met[new].values())[:2]}")
     said = 0
     for c in crates():
