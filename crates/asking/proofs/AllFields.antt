@@ -1,6 +1,7 @@
 -- The calls that hand out all fields at once. Where one is done, the fronts of the lists name exactly the fields of the version that it reads, in
 -- directory order, as many as it counts, and what stood behind them stands there still; where it is refused, it counts nothing and leaves
 -- the lists as they were.
+use Rattle.std.specs.Prelude.{Ok}
 use Prim.Native.Nat.{ℕ, ◌+◌, ◌-◌, ◌≤◌, zero-le}
 use native.Mathlib.Omega.{arith}
 use mathlib.Core.Path.{◌≡◌, refl, sym, ◌∙◌, ap}
@@ -18,11 +19,10 @@ use Rattle.walking.specs.declared.walker.Spot.{Spot}
 use Rattle.record.proofs.FieldData.{fields_count}
 use Rattle.record.proofs.Facts.{readable_facts}
 use Rattle.walking.proofs.Walking.{spots_are, spots_length, Within, spots_within}
-use Rattle.store.specs.Answer.{number_of, refuse, after}
+use Rattle.store.specs.Answer.{number_of, refuse, after, Answer}
 use Rattle.store.specs.Reading.{place_for, record_at, shown_settled, current_fields}
 use Rattle.store.specs.Store.{store}
-use Rattle.store.specs.declared.answer.Answer.{Answer}
-use Rattle.store.specs.declared.answer.Answer.TheVariants.{Done, NoRoomInList}
+use Rattle.store.specs.declared.answer.Refusal.TheVariants.{NoRoomInList}
 use Rattle.store.proofs.Gates.{Refusing, after_refused, after_cases}
 use Rattle.views.specs.Views.{settled_address}
 use Rattle.asking.specs.Listing.{Lists, short_for, counted, leaves, all_fields_answer, all_fields_of, all_fields_leaves, settled_all_fields_answer, settled_all_fields_of, settled_all_fields_leaves, fields_named, NamesAll}
@@ -57,7 +57,7 @@ module _ (mst : List ℕ) (at end : ℕ) where
       behind : drop n (overwrite d 0 (map f (spots_of rec))) ≡ drop n d
       behind = overwrite_drop_after d 0 (map f (spots_of rec)) n (omega (arith, long))
 
-    names_all : NamesAll mst (fields_of rec) (counted Done rec).count l (leaves Done at rec l)
+    names_all : NamesAll mst (fields_of rec) (counted (Ok tt) rec).count l (leaves (Ok tt) at rec l)
     unfolding after number_of
     names_all =
         record {
@@ -73,12 +73,12 @@ module _ (mst : List ℕ) (at end : ℕ) where
 -- ---- of the version that a call reads
 
 -- where one more answer makes no refusal, there was none before it
-done_before : (a last : Answer) → after a last a ≡ Done → a ≡ Done
+done_before : (a last : Answer) → after a last a ≡ Ok tt → a ≡ Ok tt
 done_before a last e = ⊎_elim (λ d. d.0) (λ r. sym r.1 ∙ e) (after_cases a last a)
 
 module _ (mst xrf : List ℕ) (m : ℕ) (l : Lists) where
   -- the current version's fields are named
-  pub all_fields_named : all_fields_answer (store mst xrf) m l ≡ Done
+  pub all_fields_named : all_fields_answer (store mst xrf) m l ≡ Ok tt
       → NamesAll mst (current_fields mst (place_for (store mst xrf) m)) (all_fields_of (store mst xrf) m l).count l (all_fields_leaves (store mst xrf) m l)
   unfolding all_fields_answer all_fields_of all_fields_leaves
   all_fields_named e =
@@ -86,7 +86,7 @@ module _ (mst xrf : List ℕ) (m : ℕ) (l : Lists) where
       rw e (names_all mst (place_address (place_for (store mst xrf) m)) (end_of mst) (current_readable mst xrf m d) l)
 
   -- and of the settled view's record
-  pub settled_all_fields_named : settled_all_fields_answer (store mst xrf) m l ≡ Done
+  pub settled_all_fields_named : settled_all_fields_answer (store mst xrf) m l ≡ Ok tt
       → NamesAll mst (fields_of (shown_settled mst (place_for (store mst xrf) m))) (settled_all_fields_of (store mst xrf) m l).count l (settled_all_fields_leaves (store mst xrf) m l)
   unfolding settled_all_fields_answer settled_all_fields_of settled_all_fields_leaves
   settled_all_fields_named e =

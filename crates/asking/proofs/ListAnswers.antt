@@ -1,5 +1,6 @@
 -- What the calls that hand out all fields at once list of the version that they read. Each law's premises are what is known at one place of the
 -- code, so that `search list_answers` finds them there.
+use Rattle.std.specs.Prelude.{Ok, Err}
 use Prim.Native.Nat.{ℕ, ◌-◌, ◌^◌, ◌≤◌, ◌<◌}
 use native.Mathlib.Omega.{arith}
 use mathlib.Core.Path.{◌≡◌, refl, sym, ◌∙◌}
@@ -18,11 +19,10 @@ use Rattle.layout.specs.declared.entry.Place.{Place}
 use Rattle.record.proofs.Facts.{readable_facts}
 use Rattle.walking.specs.Inner.{Listable}
 use Rattle.walking.specs.Walker.{tags_of, starts_of, lengths_of}
-use Rattle.store.specs.Answer.{number_of, refuse, lowest, after}
+use Rattle.store.specs.Answer.{number_of, refuse, lowest, after, Answer}
 use Rattle.store.specs.Reading.{place_for, record_at, record_from}
 use Rattle.store.specs.Store.{store}
-use Rattle.store.specs.declared.answer.Answer.{Answer}
-use Rattle.store.specs.declared.answer.Answer.TheVariants.{Done, NoRoomInList}
+use Rattle.store.specs.declared.answer.Refusal.TheVariants.{NoRoomInList}
 use Rattle.store.proofs.Gates.{Refusing, after_refused}
 use Rattle.views.specs.Views.{on_current, on_settled, settled_address}
 use Rattle.asking.specs.Listing.{Lists, lists, all_at_least, short_for, counted, leaves, all_fields_answer, all_fields_of, all_fields_leaves, settled_all_fields_answer, settled_all_fields_of, settled_all_fields_leaves}
@@ -58,7 +58,7 @@ module _ (n a b c : ℕ) where
 -- ---- the fields of a record
 
 module _ (rec : List ℕ) (at : ℕ) (ts ss ls : List ℕ) (n : ℕ) (w : Bool) (c : n ≡ (leader_of rec).nvf) (x : w ≡ all_at_least n (length ts) (length ss) (length ls)) where
-  pub list_short : (r : Listed) → not w ≡ true → r ≡ refused_list NoRoomInList → r ≡ listed_of rec (lists ts ss ls)
+  pub list_short : (r : Listed) → not w ≡ true → r ≡ refused_list (Err NoRoomInList) → r ≡ listed_of rec (lists ts ss ls)
   unfolding listed_of after number_of
   list_short r h s = rw (s, ← c, ← x, h)
 
@@ -67,7 +67,7 @@ module _ (rec : List ℕ) (at : ℕ) (ts ss ls : List ℕ) (n : ℕ) (w : Bool) 
   left_short h = rw (← c, ← x, h)
 
   module _ (h : not w ≡ false) where
-    pub list_done : (k : ℕ) → k ≡ (leader_of rec).nvf → record { answer = Done; count = k } ≡ listed_of rec (lists ts ss ls)
+    pub list_done : (k : ℕ) → k ≡ (leader_of rec).nvf → record { answer = Ok tt; count = k } ≡ listed_of rec (lists ts ss ls)
     unfolding listed_of after number_of
     list_done k d = rw (d, ← c, ← x, h)
 
@@ -121,12 +121,12 @@ module _ (mst xrf : List ℕ) (m : ℕ) (l : Lists) (v : Version) where
   counted_refused : (a : Answer) (rec : List ℕ) → Refusing a → refused_list a ≡ counted a rec
   counted_refused a rec h = rw (after_refused {A = ℕ} a (leader_of rec).nvf 0 h)
 
-  version_listed : (a b : Answer) (at : ℕ) → v ≡ version_if a at (end_of mst) → b ≡ after a (lastly NoRoomInList (short_for (record_from mst at) l)) a
+  version_listed : (a b : Answer) (at : ℕ) → v ≡ version_if a at (end_of mst) → b ≡ after a (lastly (Err NoRoomInList) (short_for (record_from mst at) l)) a
       → (listed_in mst v l ≡ counted b (record_from mst at)) × (left_in mst v l ≡ leaves b at (record_from mst at) l)
   unfolding listed_in left_in listed_of left_of
   version_listed a b at e t =
       let rec : List ℕ = record_from mst at in
-      let last : Answer = lastly NoRoomInList (short_for rec l) in (
+      let last : Answer = lastly (Err NoRoomInList) (short_for rec l) in (
         rw (e, t) (version_shows (λ u. listed_in mst u l) (λ c. counted c rec) a last at (end_of mst) refl (counted_refused a rec)),
         rw (e, t) (version_shows (λ u. left_in mst u l) (λ c. leaves c at rec l) a last at (end_of mst) refl (λ h. sym (after_refused {A = Lists} a _ l h))),
       )

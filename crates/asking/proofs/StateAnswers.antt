@@ -1,4 +1,5 @@
 -- What the calls show that ask for the next MFN and for the state of a record, by what the gate and the record's test found.
+use Rattle.std.specs.Prelude.{Ok}
 use Prim.Native.Nat.{ℕ}
 use mathlib.Core.Path.{◌≡◌, sym, ap, ◌∙◌}
 use mathlib.Core.Bool.{Bool, false}
@@ -9,12 +10,10 @@ use Rattle.layout.specs.declared.entry.Mark.{Mark}
 use Rattle.layout.specs.declared.entry.Mark.TheVariants.{Settled}
 use Rattle.layout.specs.declared.entry.Place.{Place}
 use Rattle.layout.specs.declared.leader.Leader.{Leader}
-use Rattle.store.specs.Answer.{number_of, after}
+use Rattle.store.specs.Answer.{number_of, after, Answer}
 use Rattle.store.specs.Gate.{gate_of, gate_answer, reached_of, reached_answer}
 use Rattle.store.specs.Reading.{place_for}
 use Rattle.store.specs.Store.{store}
-use Rattle.store.specs.declared.answer.Answer.{Answer}
-use Rattle.store.specs.declared.answer.Answer.TheVariants.{Done}
 use Rattle.store.specs.declared.gate.Gate.{Gate}
 use Rattle.store.specs.declared.gate.Gate.TheVariants.{Open, Shut}
 use Rattle.store.specs.declared.gate.Reached.{Reached}
@@ -31,7 +30,7 @@ module _ (mst xrf : List ℕ) (g : Gate) (p : g ≡ gate_of (store mst xrf)) whe
       let t : a ≡ b = s ∙ ap gate_answer q in
       rw (t, f.answers [], after_refused {A = ℕ} b (next_of mst) 0 f.refusing, after_refused {A = ℕ} b (end_of mst) 0 f.refusing)
 
-  pub next_found : (next : Mfn) (end : ℕ) → g ≡ Open next end → record { answer = Done; next = next; end = end } ≡ next_free_of (store mst xrf)
+  pub next_found : (next : Mfn) (end : ℕ) → g ≡ Open next end → record { answer = Ok tt; next = next; end = end } ≡ next_free_of (store mst xrf)
   unfolding next_free_of next_free_answer after number_of
   next_found next end q =
       let o = gate_open mst xrf next end (sym p ∙ q) in
@@ -51,7 +50,7 @@ module _ (mst xrf : List ℕ) (m : ℕ) (r : Reached) (p : r ≡ reached_of (sto
       )
 
   pub state_found : (end : ℕ) (pl : Place) (l : Leader) → r ≡ There end pl l
-      → record { answer = Done; mark = pl.mark; deleted = pl.deleted } ≡ state_of (store mst xrf) m
+      → record { answer = Ok tt; mark = pl.mark; deleted = pl.deleted } ≡ state_of (store mst xrf) m
   unfolding state_of state_answer after number_of
   state_found end pl l q =
       let f = (reached_facts mst xrf m end pl l (sym p ∙ q)).1 in

@@ -1,11 +1,12 @@
 -- Inner: serves functions of this crate, no part of what is promised. All fields of a record that begins at an address, and what is enough to list
 -- them.
+use Rattle.std.specs.Prelude.{Err}
 use Rattle.std.specs.Prelude.{ℕ, ◌+◌, ◌-◌, ◌<◌, ◌^◌, List}
 use Rattle.word.specs.Overwrite.{part}
 use Rattle.layout.specs.Leader.{leader_of}
 use Rattle.record.specs.Record.{Readable}
-use Rattle.store.specs.declared.answer.Answer.{Answer}
-use Rattle.store.specs.declared.answer.Answer.TheVariants.{NoRoomInList}
+use Rattle.store.specs.Answer.{Answer}
+use Rattle.store.specs.declared.answer.Refusal.TheVariants.{NoRoomInList}
 use Rattle.asking.specs.Listing.{Lists, short_for, counted, leaves}
 use Rattle.asking.specs.declared.listing.Listed.{Listed}
 use Rattle.views.specs.declared.views.Version.{Version}
@@ -20,10 +21,10 @@ pub record ListedFrom (rec : List ℕ) (at : ℕ) : Type 0 where
   pub fits : at + (leader_of rec).mfrl < 2 ^ 64
 
 unfoldable pub listed_of : List ℕ → Lists → Listed
-listed_of rec l = counted (lastly NoRoomInList (short_for rec l)) rec
+listed_of rec l = counted (lastly (Err NoRoomInList) (short_for rec l)) rec
 
 unfoldable pub left_of : ℕ → List ℕ → Lists → Lists
-left_of at rec l = leaves (lastly NoRoomInList (short_for rec l)) at rec l
+left_of at rec l = leaves (lastly (Err NoRoomInList) (short_for rec l)) at rec l
 
 unfoldable pub listed_in : List ℕ → Version → Lists → Listed
 listed_in mst (Begins at end) l = listed_of (part mst at (end - at)) l

@@ -8,10 +8,9 @@ use Rattle.layout.specs.Leader.{leader_of}
 use Rattle.record.specs.Fields.{Field}
 use Rattle.walking.specs.Walker.{tags_of, starts_of, lengths_of}
 use Rattle.store.specs.Store.{Store}
-use Rattle.store.specs.Answer.{Refusal, refuse, lowest, after}
+use Rattle.store.specs.Answer.{Row, refuse, lowest, after, Answer}
 use Rattle.store.specs.Reading.{place_for, record_at, shown_settled}
-use Rattle.store.specs.declared.answer.Answer.{Answer}
-use Rattle.store.specs.declared.answer.Answer.TheVariants.{NoRoomInList}
+use Rattle.store.specs.declared.answer.Refusal.TheVariants.{NoRoomInList}
 use Rattle.views.specs.Views.{on_current, on_settled, settled_address}
 use Rattle.asking.specs.declared.listing.Listed.{Listed}
 
@@ -34,13 +33,13 @@ short_for rec l = not (all_at_least (leader_of rec).nvf (length l.tags) (length 
 
 -- ---- refusals, of the current version and of the settled one
 
-abbrev pub all_fields_refusals : Store → ℕ → Lists → List Refusal
+abbrev pub all_fields_refusals : Store → ℕ → Lists → List Row
 all_fields_refusals s m l = on_current s m (refuse NoRoomInList (short_for (record_at s.mst (place_for s m)) l) ∷ [])
 
 unfoldable pub all_fields_answer : Store → ℕ → Lists → Answer
 all_fields_answer s m l = lowest (all_fields_refusals s m l)
 
-abbrev pub settled_all_fields_refusals : Store → ℕ → Lists → List Refusal
+abbrev pub settled_all_fields_refusals : Store → ℕ → Lists → List Row
 settled_all_fields_refusals s m l = on_settled s m (refuse NoRoomInList (short_for (shown_settled s.mst (place_for s m)) l) ∷ [])
 
 unfoldable pub settled_all_fields_answer : Store → ℕ → Lists → Answer

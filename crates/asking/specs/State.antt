@@ -5,16 +5,15 @@ use Rattle.files.specs.Control.{next_of, end_of}
 use Rattle.layout.specs.declared.entry.Mark.{Mark}
 use Rattle.layout.specs.declared.entry.Mark.TheVariants.{Settled, Changed, New}
 use Rattle.store.specs.Store.{Store}
-use Rattle.store.specs.Answer.{Refusal, lowest, after}
+use Rattle.store.specs.Answer.{Row, lowest, after, Answer}
 use Rattle.store.specs.Reading.{place_for}
 use Rattle.store.specs.Refusals.{gated, named, fine}
-use Rattle.store.specs.declared.answer.Answer.{Answer}
 use Rattle.asking.specs.declared.state.NextFree.{NextFree}
 use Rattle.asking.specs.declared.state.RecordState.{RecordState}
 
 -- ---- the next MFN: 1 and 2
 
-abbrev pub next_free_refusals : Store → List Refusal
+abbrev pub next_free_refusals : Store → List Row
 next_free_refusals s = gated s []
 
 unfoldable pub next_free_answer : Store → Answer
@@ -28,7 +27,7 @@ next_free_of s = next_shown (next_free_answer s) s.mst
 
 -- ---- how a record stands: 1, 2, 4, 6, 7 and, of the record itself, 8
 
-abbrev pub state_refusals : Store → ℕ → List Refusal
+abbrev pub state_refusals : Store → ℕ → List Row
 state_refusals s m = gated s (named s m (fine s m) [])
 
 unfoldable pub state_answer : Store → ℕ → Answer

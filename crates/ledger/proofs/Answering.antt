@@ -1,5 +1,6 @@
 -- On a sound store each call's answer is the ledger's. Row by row the two tables ask the same: 2, 6 and 8 never apply, and the other rows
 -- read the same of the bytes and of the ledger.
+use Rattle.std.specs.Prelude.{Ok, Err}
 use Prim.Native.Nat.{ℕ, ◌+◌}
 use native.Mathlib.Omega.{arith}
 use mathlib.Core.Path.{◌≡◌, refl, ap, ◌∙◌}
@@ -18,13 +19,12 @@ use Rattle.record.specs.Fields.{fields_of}
 use Rattle.drafts.specs.Bytes.{need_for}
 use Rattle.store.specs.Reading.{mfn_in_range, entry_for, is_malformed, is_gone, is_settled, is_changed, is_new, record_at, leader_at, record_fine, settled_record, version_fine, current_fields}
 use Rattle.store.specs.Refusals.{fine, both_fine}
-use Rattle.store.specs.Answer.{number_of}
+use Rattle.store.specs.Answer.{number_of, Answer}
 use Rattle.store.proofs.Gates.{after_refused}
-use Rattle.store.specs.declared.answer.Answer.{Answer}
 use Rattle.writing.specs.Refusals.{exceeds, format_answer, create_answer, update_answer, delete_answer, settle_answer, revert_answer}
 use Rattle.versions.specs.Written.{update_appends}
 use Rattle.views.specs.Views.{view_answer, settled_view_answer}
-use Rattle.store.specs.declared.answer.Answer.TheVariants.{Done, BadControl, BadDraft, NoMfn, NoSlot, BadEntry, Gone as GoneAnswer, BadRecord, NoRoom, Deleted}
+use Rattle.store.specs.declared.answer.Refusal.TheVariants.{BadControl, BadDraft, NoMfn, NoSlot, BadEntry, Gone as GoneAnswer, BadRecord, NoRoom, Deleted}
 use Rattle.soundness.specs.Sound.{body_apart, body_sound, check_answer}
 use Rattle.soundness.specs.Recount.{recount_answer}
 use Rattle.writing.proofs.Counted.{create_clear, revert_clear, delete_late}
@@ -89,13 +89,13 @@ module _ (s : Store) (o : Opened s) where
   module _ (m : ℕ) (w : Seen s m) where
     shared : (ok : Bool) (x y : Answer) → ((p : Place) → entry_for s m ≡ At p → record_fine s.mst m p ≡ true → version_fine s.mst m p ≡ true → ok ≡ true)
         → ((p : Place) → mfn_in_range s.mst m ≡ true → entry_for s m ≡ At p → x ≡ y)
-        → cond (not (mfn_in_range s.mst m)) NoMfn (cond (is_malformed (entry_for s m)) BadEntry (cond (is_gone (entry_for s m)) GoneAnswer (cond (not ok) BadRecord x)))
-        ≡ cond (not (mfn_in (ledger_of s) m)) NoMfn (cond (is_gone_item (item_of (ledger_of s) m)) GoneAnswer y)
+        → cond (not (mfn_in_range s.mst m)) (Err NoMfn) (cond (is_malformed (entry_for s m)) (Err BadEntry) (cond (is_gone (entry_for s m)) (Err GoneAnswer) (cond (not ok) (Err BadRecord) x)))
+        ≡ cond (not (mfn_in (ledger_of s) m)) (Err NoMfn) (cond (is_gone_item (item_of (ledger_of s) m)) (Err GoneAnswer) y)
     shared ok x y fits same = go w
       where
         go : Seen s m
-            → cond (not (mfn_in_range s.mst m)) NoMfn (cond (is_malformed (entry_for s m)) BadEntry (cond (is_gone (entry_for s m)) GoneAnswer (cond (not ok) BadRecord x)))
-            ≡ cond (not (mfn_in (ledger_of s) m)) NoMfn (cond (is_gone_item (item_of (ledger_of s) m)) GoneAnswer y)
+            → cond (not (mfn_in_range s.mst m)) (Err NoMfn) (cond (is_malformed (entry_for s m)) (Err BadEntry) (cond (is_gone (entry_for s m)) (Err GoneAnswer) (cond (not ok) (Err BadRecord) x)))
+            ≡ cond (not (mfn_in (ledger_of s) m)) (Err NoMfn) (cond (is_gone_item (item_of (ledger_of s) m)) (Err GoneAnswer) y)
         go (absent k) = rw (mfn_is s o m, k)
         go (physically k e) = rw (mfn_is s o m, k, e, item_gone m k e)
         go (present p k e f v) = rw (mfn_is s o m, k, e, fits p e f v, item_at m p k e) (same p k e)
@@ -130,7 +130,7 @@ module _ (s : Store) (o : Opened s) where
     unfolding update_answer number_l refusals_l update_appends reply_l
     update_answer_lem d =
         rw (o.lengths, o.control, lengths_are s o)
-        (ap (λ (a : Answer). cond (not (is_right d)) BadDraft a)
+        (ap (λ (a : Answer). cond (not (is_right d)) (Err BadDraft) a)
         (shared (fine s m) _ _ fine_fits
         (λ p k e. rw (e, item_at m p k e, appends_is s.mst p p.mark (need_for (fields_in d)), room_is (need_for (fields_in d))))))
 
@@ -145,7 +145,7 @@ module _ (s : Store) (o : Opened s) where
         (λ p k e.
         rw (e, item_at m p k e, settled_mark s.mst p p.mark, room_is (need_for (current_fields s.mst p))) (late p.deleted _ (some p k e))))
       where
-        late : (d : Bool) (x : Answer) → (d ≡ false → count_none s.mst ≡ false) → cond d Deleted (cond (count_none s.mst) BadControl x) ≡ cond d Deleted x
+        late : (d : Bool) (x : Answer) → (d ≡ false → count_none s.mst ≡ false) → cond d (Err Deleted) (cond (count_none s.mst) (Err BadControl) x) ≡ cond d (Err Deleted) x
         late true x f = refl
         late false x f = rw (f refl)
 
@@ -173,10 +173,10 @@ module _ (s : Store) (o : Opened s) where
       (go (eqb (next_of s.mst) (capacity_of (length s.xrf) + 1)) free)
     where
       go : (full : Bool) → (full ≡ false → (head_right s.xrf (xrf_block (next_of s.mst)) && slot_free s.xrf (next_of s.mst)) ≡ true)
-          → cond (not (is_right d)) BadDraft
-          (cond full NoSlot (cond (not (head_right s.xrf (xrf_block (next_of s.mst)) && slot_free s.xrf (next_of s.mst))) BadEntry
-          (cond (exceeds s.mst (need_for (fields_in d))) NoRoom Done)))
-          ≡ cond (not (is_right d)) BadDraft (cond full NoSlot (cond (exceeds s.mst (need_for (fields_in d))) NoRoom Done))
+          → cond (not (is_right d)) (Err BadDraft)
+          (cond full (Err NoSlot) (cond (not (head_right s.xrf (xrf_block (next_of s.mst)) && slot_free s.xrf (next_of s.mst))) (Err BadEntry)
+          (cond (exceeds s.mst (need_for (fields_in d))) (Err NoRoom) (Ok tt))))
+          ≡ cond (not (is_right d)) (Err BadDraft) (cond full (Err NoSlot) (cond (exceeds s.mst (need_for (fields_in d))) (Err NoRoom) (Ok tt)))
       go true f = refl
       go false f = rw (f refl)
 
@@ -189,7 +189,7 @@ module _ (s : Store) (o : Opened s) where
   recount_answer_lem b = rw (o.lengths, o.control, lengths_are s o, b)
 
   -- a store of today is not migrated
-  pub migrate_refuses : migrate_answer s ≡ BadControl
+  pub migrate_refuses : migrate_answer s ≡ Err BadControl
   migrate_refuses = today_refused s o.lengths o.control
 
   pub migrate_answer_lem : migrate_answer s ≡ number_l (ledger_of s) migrate

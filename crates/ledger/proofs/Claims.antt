@@ -1,9 +1,10 @@
 -- THE CLAIMS of specs/History hold of every sound store.
+use Rattle.std.specs.Prelude.{Ok, Err}
 use mathlib.Core.Path.{◌≡◌, ap}
 use Rattle.soundness.proofs.SoundEntries.{stands, sound_apart_lem}
 use Rattle.soundness.proofs.Recount.{recounts}
 use Rattle.store.specs.Store.{Store}
-use Rattle.store.specs.declared.answer.Answer.TheVariants.{Done, BadControl}
+use Rattle.store.specs.declared.answer.Refusal.TheVariants.{BadControl}
 use Rattle.ledger.specs.Call.{migrate, plain, recount}
 use Rattle.ledger.specs.StoreRun.{answer_s, next_s, result_s}
 use Rattle.ledger.specs.LedgerOf.{SoundStore}
@@ -14,7 +15,7 @@ use Rattle.ledger.proofs.Room.{create_room, update_room, delete_room}
 use Rattle.ledger.proofs.Answering.{migrate_refuses, migrate_left}
 use Rattle.ledger.proofs.Theorem.{opened}
 
-migrate_refused : (s : Store) → SoundStore s → answer_s s migrate ≡ plain BadControl
+migrate_refused : (s : Store) → SoundStore s → answer_s s migrate ≡ plain (Err BadControl)
 unfolding answer_s result_s
 migrate_refused s h = ap plain (migrate_refuses s (opened s h))
 
@@ -26,7 +27,7 @@ recount_nothing : (s : Store) → SoundStore s → next_s s recount ≡ s
 unfolding next_s result_s
 recount_nothing s h = (recounts s).nothing h
 
-recount_done : (s : Store) → SoundStore s → answer_s s recount ≡ plain Done
+recount_done : (s : Store) → SoundStore s → answer_s s recount ≡ plain (Ok tt)
 unfolding answer_s result_s
 recount_done s h = ap plain ((recounts s).done (sound_apart_lem s.mst s.xrf (stands s.mst s.xrf h)))
 

@@ -1,5 +1,6 @@
 -- What a call does to the ledger, taken apart once, by call. What is said of the ledger after a call (what is pending stays, other MFNs stay,
 -- nothing becomes gone) is then shown by the few things that a call can do.
+use Rattle.std.specs.Prelude.{Ok, Err}
 use Prim.Native.Nat.{ℕ, ◌+◌, ◌-◌, ◌≤◌, ◌<◌}
 use native.Mathlib.Omega.{arith}
 use mathlib.Core.Path.{◌≡◌, refl}
@@ -11,8 +12,8 @@ use lib.Seq.{get_or-set_same, get_or-set_other, get_or_at}
 use Rattle.word.proofs.Tests.{tests}
 use Rattle.record.specs.Fields.{Field}
 use Rattle.drafts.specs.Bytes.{need_for}
-use Rattle.store.specs.declared.answer.Answer.{Answer}
-use Rattle.store.specs.declared.answer.Answer.TheVariants.{Done, BadLength, NoMfn, Deleted, NeverSettled}
+use Rattle.store.specs.Answer.{Answer}
+use Rattle.store.specs.declared.answer.Refusal.TheVariants.{BadLength, NoMfn, Deleted, NeverSettled}
 use Rattle.store.proofs.Gates.{after_cases}
 use Rattle.store.proofs.Lowest.{Applies}
 use Rattle.settling.specs.Theorems.{among}
@@ -53,7 +54,7 @@ pub data Does (L : Ledger) (c : Call) : Effect → Type 0 where
   settles_each : (ms : List ℕ) (lent : ℕ) → c ≡ settle_list ms lent → Does L c (each_settled ms)
   reverts : (k : ℕ) → Known L k → c ≡ revert k → is_new_mark (kept_mark (item_of L k)) ≡ false → (fs : List Field) → Does L c (settled_as L k fs false)
 
-module _ (L : Ledger) (c : Call) (d : number_l L c ≡ Done) where
+module _ (L : Ledger) (c : Call) (d : number_l L c ≡ Ok tt) where
   -- no row of its table applies
   row : (a : Answer) (b : Bool) → (b ≡ true → Applies (refusals_l L c) a) → b ≡ false
   row a true h = absurd ((number_lowest L c).none d a (h refl))
@@ -63,40 +64,40 @@ module _ (L : Ledger) (c : Call) (d : number_l L c ≡ Done) where
   row_not a true h = refl
   row_not a false h = absurd ((number_lowest L c).none d a (h refl))
 
-  permitted : (not (lengths_fine L) ≡ true → Applies (refusals_l L c) BadLength) → lengths_fine L ≡ true
-  permitted f = row_not BadLength (lengths_fine L) f
+  permitted : (not (lengths_fine L) ≡ true → Applies (refusals_l L c) (Err BadLength)) → lengths_fine L ≡ true
+  permitted f = row_not (Err BadLength) (lengths_fine L) f
 
-  known : (k : ℕ) → (not (lengths_fine L) ≡ true → Applies (refusals_l L c) BadLength) → (not (mfn_in L k) ≡ true → Applies (refusals_l L c) NoMfn) → Known L k
+  known : (k : ℕ) → (not (lengths_fine L) ≡ true → Applies (refusals_l L c) (Err BadLength)) → (not (mfn_in L k) ≡ true → Applies (refusals_l L c) (Err NoMfn)) → Known L k
   known k f g =
-      let r = in_range L k (row_not NoMfn (mfn_in L k) g) in
+      let r = in_range L k (row_not (Err NoMfn) (mfn_in L k) g) in
       record { lengths = permitted f; low = r.0; high = r.1 }
 
-pub create_lengths : (L : Ledger) (f : Draft) → number_l L (create f) ≡ Done → lengths_fine L ≡ true
+pub create_lengths : (L : Ledger) (f : Draft) → number_l L (create f) ≡ Ok tt → lengths_fine L ≡ true
 unfolding refusals_l reply_l
 create_lengths L f d = permitted L (create f) d (λ e. inl (refl, e))
 
-pub update_known : (L : Ledger) (m : ℕ) (f : Draft) → number_l L (update m f) ≡ Done → Known L m
+pub update_known : (L : Ledger) (m : ℕ) (f : Draft) → number_l L (update m f) ≡ Ok tt → Known L m
 unfolding refusals_l reply_l
 update_known L m f d = known L (update m f) d m (λ e. inl (refl, e)) (λ e. inr (inr (inl (refl, e))))
 
-pub delete_known : (L : Ledger) (m : ℕ) → number_l L (delete m) ≡ Done → Known L m
+pub delete_known : (L : Ledger) (m : ℕ) → number_l L (delete m) ≡ Ok tt → Known L m
 unfolding refusals_l reply_l
 delete_known L m d = known L (delete m) d m (λ e. inl (refl, e)) (λ e. inr (inl (refl, e)))
 
 -- and it was not deleted
-pub delete_live : (L : Ledger) (m : ℕ) → number_l L (delete m) ≡ Done → kept_deleted (item_of L m) ≡ false
+pub delete_live : (L : Ledger) (m : ℕ) → number_l L (delete m) ≡ Ok tt → kept_deleted (item_of L m) ≡ false
 unfolding refusals_l reply_l
-delete_live L m d = row L (delete m) d Deleted (kept_deleted (item_of L m)) (λ e. inr (inr (inr (inl (refl, e)))))
+delete_live L m d = row L (delete m) d (Err Deleted) (kept_deleted (item_of L m)) (λ e. inr (inr (inr (inl (refl, e)))))
 
-pub settle_known : (L : Ledger) (m : ℕ) → number_l L (settle m) ≡ Done → Known L m
+pub settle_known : (L : Ledger) (m : ℕ) → number_l L (settle m) ≡ Ok tt → Known L m
 unfolding refusals_l reply_l
 settle_known L m d = known L (settle m) d m (λ e. inl (refl, e)) (λ e. inr (inl (refl, e)))
 
-pub revert_known : (L : Ledger) (m : ℕ) → number_l L (revert m) ≡ Done → Known L m
+pub revert_known : (L : Ledger) (m : ℕ) → number_l L (revert m) ≡ Ok tt → Known L m
 unfolding refusals_l reply_l
 revert_known L m d = known L (revert m) d m (λ e. inl (refl, e)) (λ e. inr (inl (refl, e)))
 
-pub does : (L : Ledger) (c : Call) → number_l L c ≡ Done → Does L c (effect_of L c)
+pub does : (L : Ledger) (c : Call) → number_l L c ≡ Ok tt → Does L c (effect_of L c)
 unfolding effect_of refusals_l reply_l
 does L format d = empties refl
 does L (view m tag occ) d = reads
@@ -107,14 +108,14 @@ does L (delete m) d = changes m (delete_known L m d) _ _ (is_settled_mark (kept_
 does L (settle m) d = settles m (settle_known L m d) refl _ _
 does L (revert m) d =
     reverts m (revert_known L m d) refl
-    (row L (revert m) d NeverSettled (is_new_mark (kept_mark (item_of L m))) (λ e. inr (inr (inr (inr (inl (refl, e))))))) _
+    (row L (revert m) d (Err NeverSettled) (is_new_mark (kept_mark (item_of L m))) (λ e. inr (inr (inr (inr (inl (refl, e))))))) _
 does L check d = reads
 does L migrate d = reads
 does L (settle_list ms lent) d = settles_each ms lent refl
 does L recount d = reads
 
 -- what holds where the call is refused, and after what it does where it is done, holds after it
-after_either : (P : Ledger → Type 0) (L : Ledger) (c : Call) → P L → (number_l L c ≡ Done → P (applied L (effect_of L c))) → P (next_l L c)
+after_either : (P : Ledger → Type 0) (L : Ledger) (c : Call) → P L → (number_l L c ≡ Ok tt → P (applied L (effect_of L c))) → P (next_l L c)
 unfolding next_l
 after_either P L c p f =
     ⊎_elim (λ d. rw d.1 (f d.0)) (λ r. rw r.1 p) (after_cases (number_l L c) (applied L (effect_of L c)) L)

@@ -1,4 +1,5 @@
 -- AN EVEN NXTMFP IS REFUSED: it is not right by the rule of today, and 2 stands behind 1 in every table.
+use Rattle.std.specs.Prelude.{Err}
 use Prim.Native.Nat.{ℕ}
 use mathlib.Core.Path.{◌≡◌, refl}
 use mathlib.Core.Bool.{true, false}
@@ -17,7 +18,7 @@ use Rattle.asking.specs.State.{next_free_answer, next_free_of, state_answer, sta
 use Rattle.writing.specs.Refusals.{create_answer, update_answer, delete_answer, settle_answer, revert_answer}
 use Rattle.writing.specs.Calls.{create_of, create_leaves, update_leaves, delete_leaves, settle_leaves, revert_leaves}
 use Rattle.soundness.specs.Sound.{check_answer}
-use Rattle.store.specs.declared.answer.Answer.TheVariants.{BadControl}
+use Rattle.store.specs.declared.answer.Refusal.TheVariants.{BadControl}
 use Rattle.settling.proofs.Theorems.{each_answers}
 use Rattle.ledger.specs.Call.{Call, format, view, view_settled, create, update, delete, settle, revert, check, migrate, settle_list, recount}
 use Rattle.ledger.specs.StoreRun.{answer_s, next_s, result_s}
@@ -39,7 +40,7 @@ module _ (s : Store) (l : lengths_permitted s ≡ true) (c : control_fine s ≡ 
   refused (settle_list ms lent) no_format no-migrate no_list = absurd (no_list ms lent refl)
   refused recount no_format no-migrate no_list = record { answer = rw (l, c); nothing = rw (l, c) }
 
-  one_refused : (m : ℕ) → (settle_answer s m ≡ BadControl) × (settle_leaves s m ≡ s)
+  one_refused : (m : ℕ) → (settle_answer s m ≡ Err BadControl) × (settle_leaves s m ≡ s)
   unfolding settle_answer settle_leaves after number_of
   one_refused m = (rw (l, c), rw (l, c))
 
@@ -58,4 +59,4 @@ module _ (s : Store) (l : lengths_permitted s ≡ true) (c : control_fine s ≡ 
 pub even_refused : EvenIsRefused
 even_refused s l even =
     let c = even_wrong s.mst (capacity_of (length s.xrf)) even in
-    record { listed = refused s l c; each = each_answers s BadControl (one_refused s l c); beside = shows_nothing s l c }
+    record { listed = refused s l c; each = each_answers s (Err BadControl) (one_refused s l c); beside = shows_nothing s l c }

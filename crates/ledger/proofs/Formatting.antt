@@ -1,4 +1,5 @@
 -- Format makes any two buffers of permitted length a sound store whose ledger is empty, whatever they held.
+use Rattle.std.specs.Prelude.{Ok}
 use Prim.Native.Nat.{ℕ}
 use mathlib.Core.Path.{◌≡◌}
 use mathlib.Core.Bool.{true}
@@ -14,7 +15,6 @@ use Rattle.files.proofs.CrossReference.{formatted_xrf_length}
 use Rattle.store.specs.Reading.{lengths_permitted}
 use Rattle.writing.specs.Refusals.{format_answer}
 use Rattle.writing.specs.Calls.{format_leaves}
-use Rattle.store.specs.declared.answer.Answer.TheVariants.{Done}
 use Rattle.store.proofs.Gates.{lengths_both, after_done}
 use Rattle.soundness.proofs.SoundEntries.{sound}
 use Rattle.soundness.proofs.Writes.{format_sound}
@@ -56,7 +56,7 @@ module _ (mst xrf : List ℕ) (h : lengths_permitted (store mst xrf) ≡ true) w
   unfolding ledger_of empty tabulate
   formatted_ledger = rw (first_next, first_end, mst_long, xrf_long)
 
-  pub format_done : format_answer (store mst xrf) ≡ Done
+  pub format_done : format_answer (store mst xrf) ≡ Ok tt
   unfolding format_answer
   format_done = rw h
 

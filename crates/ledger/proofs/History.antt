@@ -1,4 +1,5 @@
 -- What specs/History states, on the store's own answers: each is a law of the ledger, carried to the bytes by demand 3.
+use Rattle.std.specs.Prelude.{Ok}
 use Prim.Native.Nat.{ℕ}
 use mathlib.Core.Path.{◌≡◌, refl, sym, ap, ◌∙◌}
 use mathlib.Core.Bool.{false}
@@ -7,7 +8,6 @@ use Rattle.layout.specs.declared.entry.Mark.TheVariants.{Settled}
 use Rattle.layout.specs.declared.entry.Place.{Place}
 use Rattle.record.specs.Fields.{Field}
 use Rattle.store.specs.Reading.{current_fields}
-use Rattle.store.specs.declared.answer.Answer.TheVariants.{Done}
 use Rattle.store.specs.Store.{Store}
 use Rattle.drafts.specs.Draft.{Draft}
 use Rattle.ledger.specs.Call.{Call, view, view_settled, create, revert, Outcome}
@@ -50,7 +50,7 @@ module _ (s : Store) (h : SoundStore s) where
   unfolding after_s after_l
   holds_own = (answers_are_the_ledgers s h []).kept
 
-  pub done_is : (c : Call) → (answer_s s c).answer ≡ Done → number_l (ledger_of s) c ≡ Done
+  pub done_is : (c : Call) → (answer_s s c).answer ≡ Ok tt → number_l (ledger_of s) c ≡ Ok tt
   done_is c e = sym (number_is (ledger_of s) c) ∙ sym (ap (λ (o : Outcome). o.answer) (answered holds_own c)) ∙ e
 
   -- after a call and a list
@@ -84,7 +84,7 @@ module _ (s : Store) (h : SoundStore s) (m : ℕ) (a : LiveSettled s m) where
   viewed : (tag occ : ℕ) → answer_s s (view m tag occ) ≡ field_shown fields tag occ
   viewed tag occ = answered (holds_own s h) (view m tag occ) ∙ live_view (ledger_of s) m known fields settled item tag occ
 
-  pub settled_version : (c : Call) → UpdatesOrDeletes m c → (answer_s s c).answer ≡ Done → (cs : List Call) → Every (LeavesPending m) cs → SettledVersion s m c cs
+  pub settled_version : (c : Call) → UpdatesOrDeletes m c → (answer_s s c).answer ≡ Ok tt → (cs : List Call) → Every (LeavesPending m) cs → SettledVersion s m c cs
   settled_version c b e cs q =
       record {
         readable = λ done rest z tag occ.
@@ -108,7 +108,7 @@ module _ (s : Store) (h : SoundStore s) (m : ℕ) (a : LiveSettled s m) where
 
 -- ---- NEVER SETTLED
 
-pub never_settled : (s : Store) → SoundStore s → (d : Draft) → (answer_s s (create d)).answer ≡ Done → (cs : List Call)
+pub never_settled : (s : Store) → SoundStore s → (d : Draft) → (answer_s s (create d)).answer ≡ Ok tt → (cs : List Call)
     → Every (LeavesNew (answer_s s (create d)).mfn) cs → NeverSettledYet s d (answer_s s (create d)).mfn cs
 never_settled s h d e cs q =
     rw made

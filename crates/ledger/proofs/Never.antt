@@ -1,6 +1,7 @@
 -- In a list of calls from format, 1, 2, 6, 7, 8 and 14 never come from document 01's own calls: the lengths stay right, and nothing makes a record
 -- gone. 15 comes from views alone, and from them neither 13 nor another number that is not said of fields. From a migration nothing but 2 comes,
 -- from a list of MFNs 0 and 17, and in it what its settles answer.
+use Rattle.std.specs.Prelude.{Ok, Err}
 use Prim.Native.Nat.{ℕ, ◌-◌, ◌≤◌, ◌<◌}
 use native.Mathlib.Omega.{arith}
 use native.Mathlib.Decide.{ℕ_discrete}
@@ -12,10 +13,9 @@ use lib.ListN.{length}
 use Rattle.word.proofs.Overwrite.{lt_or_ge}
 use borrow.Author.Tests.{not-false}
 use Rattle.word.proofs.Tests.{tests, false_true}
-use Rattle.store.specs.Answer.{Refusal, refuse, lowest, number_of}
+use Rattle.store.specs.Answer.{Row, refuse, lowest, number_of, Answer}
 use Rattle.store.specs.Reading.{lengths_permitted}
-use Rattle.store.specs.declared.answer.Answer.{Answer}
-use Rattle.store.specs.declared.answer.Answer.TheVariants.{Done, NoMfn}
+use Rattle.store.specs.declared.answer.Refusal.TheVariants.{NoMfn}
 use Rattle.store.specs.Store.{store}
 use Rattle.store.proofs.Gates.{after_cases}
 use Rattle.ledger.specs.Call.{Call, format, view, view_settled, create, update, delete, settle, revert, check, migrate, settle_list, recount}
@@ -38,11 +38,11 @@ whole_empty mst xrf h = record { lengths = h; held = λ o q. let r = simp tests 
 
 -- ---- the rows of a table that apply
 
-data RowsMay (c : Call) : List Refusal → Type 0 where
-  no_row : MayCome c Done → RowsMay c []
-  row : {a : Answer} {b : Bool} {rs : List Refusal} → (b ≡ true → MayCome c a) → (b ≡ false → RowsMay c rs) → RowsMay c (refuse a b ∷ rs)
+data RowsMay (c : Call) : List Row → Type 0 where
+  no_row : MayCome c (Ok tt) → RowsMay c []
+  row : {a : Answer} {b : Bool} {rs : List Row} → (b ≡ true → MayCome c a) → (b ≡ false → RowsMay c rs) → RowsMay c (refuse a b ∷ rs)
 
-lowest_may : (c : Call) (rs : List Refusal) → RowsMay c rs → MayCome c (lowest rs)
+lowest_may : (c : Call) (rs : List Row) → RowsMay c rs → MayCome c (lowest rs)
 lowest_may c _ (no_row p) = p
 lowest_may c _ (row {a} {b} {rs} p q) = go b p (λ e. lowest_may c rs (q e))
   where
@@ -53,14 +53,14 @@ lowest_may c _ (row {a} {b} {rs} p q) = go b p (λ e. lowest_may c rs (q e))
 module _ (L : Ledger) (w : Whole L) where
   module _ {c : Call} where
     -- a row whose answer may come
-    may : {a : Answer} {b : Bool} {rs : List Refusal} → MayCome c a → RowsMay c rs → RowsMay c (refuse a b ∷ rs)
+    may : {a : Answer} {b : Bool} {rs : List Row} → MayCome c a → RowsMay c rs → RowsMay c (refuse a b ∷ rs)
     may p q = row (λ e. p) (λ e. q)
 
     -- 1 does not apply, nor does 7
-    no_length : {rs : List Refusal} → RowsMay c rs → RowsMay c (measured L rs)
+    no_length : {rs : List Row} → RowsMay c rs → RowsMay c (measured L rs)
     no_length q = row (λ e. absurd (false_true (sym (ap not w.lengths) ∙ e))) (λ e. q)
 
-    no_gone : (m : ℕ) {rs : List Refusal} → MayCome c NoMfn → RowsMay c rs → RowsMay c (named L m rs)
+    no_gone : (m : ℕ) {rs : List Row} → MayCome c (Err NoMfn) → RowsMay c rs → RowsMay c (named L m rs)
     no_gone m p q = row (λ e. p) (λ e. row (λ g. absurd (false_true (sym (w.held m (not-false (mfn_in L m) e)) ∙ g))) (λ g. q))
 
   rows_may : (c : Call) → RowsMay c (refusals_l L c)

@@ -1,5 +1,6 @@
 -- EVERY OTHER MFN'S VIEWS ARE THE SAME after any call on a sound store: the ledger's items of the others stay, and by the theorem the views are
 -- the ledger's before and after.
+use Rattle.std.specs.Prelude.{Err}
 use Prim.Native.Nat.{ℕ, ◌+◌, ◌≤◌}
 use native.Mathlib.Omega.{arith}
 use mathlib.Core.Path.{◌≡◌, refl, sym, ap, ◌∙◌}
@@ -12,7 +13,7 @@ use borrow.Author.Tests.{eqb-false, lt-ltb, le-ltb}
 use Rattle.word.proofs.Overwrite.{lt_or_ge}
 use Rattle.word.proofs.Tests.{false_true}
 use Rattle.store.specs.Answer.{after, number_of}
-use Rattle.store.specs.declared.answer.Answer.TheVariants.{BadLength, NoMfn}
+use Rattle.store.specs.declared.answer.Refusal.TheVariants.{BadLength, NoMfn}
 use Rattle.store.specs.Store.{Store}
 use Rattle.views.specs.Views.{occurrences_with}
 use Rattle.settling.specs.Theorems.{among}
@@ -88,7 +89,7 @@ module _ (L : Ledger) (o : ℕ) where
 
 -- an MFN that is not there shows nothing
 unknown_same : (fine : Bool) (x y : List ℕ) (n k : ℕ)
-    → outcome_of (cond (not fine) BadLength NoMfn) (the_field x n) ≡ outcome_of (cond (not fine) BadLength NoMfn) (the_field y k)
+    → outcome_of (cond (not fine) (Err BadLength) (Err NoMfn)) (the_field x n) ≡ outcome_of (cond (not fine) (Err BadLength) (Err NoMfn)) (the_field y k)
 unfolding after number_of occurrences_with
 unknown_same true x y n k = refl
 unknown_same false x y n k = refl

@@ -1,6 +1,7 @@
 -- RECCNT and the ledger: of a sound store it is the number of the ledger's items that are neither deleted nor gone, and so after every list of calls.
 -- What an item that is set or added makes of that number is a law on lists. THE HISTORY KNOWS THAT NUMBER (`counts_history`): along a list of calls
 -- it says of every MFN created whether it is deleted, and how many are not; each accepted call keeps both, and a refused one changes neither.
+use Rattle.std.specs.Prelude.{Ok}
 use Prim.Native.Nat.{ℕ, zero, suc, ◌+◌, ◌-◌, ◌≤◌, ◌<◌}
 use native.Mathlib.Omega.{arith}
 use native.Mathlib.Decide.{ℕ_discrete}
@@ -19,10 +20,8 @@ use Rattle.files.specs.Control.{next_of, count_of}
 use Rattle.record.specs.Fields.{Field}
 use Rattle.drafts.specs.Draft.{Draft}
 use Rattle.store.specs.Store.{Store, store}
-use Rattle.store.specs.Answer.{number_of}
+use Rattle.store.specs.Answer.{number_of, Answer}
 use Rattle.store.specs.Reading.{lengths_permitted, entry_for}
-use Rattle.store.specs.declared.answer.Answer.{Answer}
-use Rattle.store.specs.declared.answer.Answer.TheVariants.{Done}
 use Rattle.store.proofs.Gates.{Refusing, done_number, after_cases}
 use Rattle.soundness.specs.Sound.{bit, sum_to, is_live, live_count}
 use Rattle.soundness.proofs.SoundEntries.{stands_counted}
@@ -197,13 +196,13 @@ module _ (past : Past) (L : Ledger) (v : Whole L) (w : Matches (last_deleted pas
       set_matches v w m known (held fs true k) e refl _ (says_own m true (last_deleted past m)) (λ o ne. says_other m o true (last_deleted past o) ne) _
       (rw (w.count, is))
 
-  told_create : (d : Draft) → number_l L (create d) ≡ Done → (fs : List Field) (k : Marking) (e : ℕ) → Told (create d) (applied L (item_added (held fs false k) e))
+  told_create : (d : Draft) → number_l L (create d) ≡ Ok tt → (fs : List Field) (k : Marking) (e : ℕ) → Told (create d) (applied L (item_added (held fs false k) e))
   told_create d e fs k end =
       let is = create_returns L d e in
       added_matches v w (held fs false k) end refl refl _ (rw is (says_own (next_mfn L) false (last_deleted past (next_mfn L))))
       (λ o ne. rw is (says_other (next_mfn L) o false (last_deleted past o) ne))
 
-  told : (c : Call) → number_l L c ≡ Done → Told c (applied L (effect_of L c))
+  told : (c : Call) → number_l L c ≡ Ok tt → Told c (applied L (effect_of L c))
   unfolding effect_of
   told format d = empty_matches L.mst_length L.xrf_length
   told (view m tag occ) d = w
@@ -227,8 +226,8 @@ module _ (past : Past) (L : Ledger) (v : Whole L) (w : Matches (last_deleted pas
   not_accepted : (c : Call) → Refusing (number_l L c) → accepted (answered c) ≡ false
   not_accepted c h = ap (λ (a : Answer). eqb (number_of a) 0) (number_is L c) ∙ ne_eqb (number_of (number_l L c)) 0 h
 
-  is_accepted : (c : Call) → number_l L c ≡ Done → accepted (answered c) ≡ true
-  is_accepted c d = ap (λ (a : Answer). eqb (number_of a) 0) (number_is L c ∙ d) ∙ eq-eqb (number_of Done) 0 done_number
+  is_accepted : (c : Call) → number_l L c ≡ Ok tt → accepted (answered c) ≡ true
+  is_accepted c d = ap (λ (a : Answer). eqb (number_of a) 0) (number_is L c ∙ d) ∙ eq-eqb (number_of (Ok tt)) 0 done_number
 
   abbrev now : Call → Past
   now c = answered c ∷ past
@@ -237,7 +236,7 @@ module _ (past : Past) (L : Ledger) (v : Whole L) (w : Matches (last_deleted pas
   unfolding last_deleted history_count next_l
   next_matches c = ⊎_elim done refused (after_cases (number_l L c) (applied L (effect_of L c)) L)
     where
-      done : (number_l L c ≡ Done) × (next_l L c ≡ applied L (effect_of L c)) → Matches (last_deleted (now c)) (history_count (now c)) (next_l L c)
+      done : (number_l L c ≡ Ok tt) × (next_l L c ≡ applied L (effect_of L c)) → Matches (last_deleted (now c)) (history_count (now c)) (next_l L c)
       done q =
           let yes = is_accepted c q.0 in
           rw q.1 (matches_as (λ o. rw yes) (rw yes) (told c q.0))

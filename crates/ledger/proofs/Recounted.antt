@@ -1,5 +1,6 @@
 -- A RECOUNT KEEPS THE LEDGER: RECCNT is no part of what the ledger reads, so the store that a recount leaves, which is sound, has the ledger that its
 -- bytes gave before, and demand 3 goes on from there.
+use Rattle.std.specs.Prelude.{Ok}
 use Prim.Native.Nat.{ℕ, ◌-◌, ◌≤◌, ◌<◌}
 use native.Mathlib.Omega.{arith}
 use mathlib.Core.Path.{◌≡◌, refl, ap, ◌∙◌}
@@ -9,7 +10,6 @@ use lib.IntN.{ℤ, pos}
 use Rattle.files.specs.Control.{next_of, count_is, with_count}
 use Rattle.files.proofs.Count.{count_length, next_of_count, end_of_count}
 use Rattle.store.specs.Store.{Store, store}
-use Rattle.store.specs.declared.answer.Answer.TheVariants.{Done}
 use Rattle.soundness.specs.Sound.{live_count}
 use Rattle.soundness.specs.Recount.{recount_answer, recounted_mst, recount_leaves}
 use Rattle.soundness.proofs.SoundEntries.{Sound, apart_stands}
@@ -38,7 +38,7 @@ module _ {mst xrf : List ℕ} (s : Sound mst xrf) (z : ℤ) where
         tabulate_same (next_of mst - 1) (item_at (store (with_count mst z) xrf)) (item_at (store mst xrf)) (λ o lo hi. item_kept o lo (omega arith)),
       )
 
-module _ (s : Store) (d : recount_answer s ≡ Done) where
+module _ (s : Store) (d : recount_answer s ≡ Ok tt) where
   recounted_ledger : ledger_of (recount_leaves s) ≡ ledger_of s
   unfolding recounted_mst
   recounted_ledger =

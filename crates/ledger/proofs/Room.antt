@@ -1,5 +1,6 @@
 -- NO ROOM EXACTLY by the room rule, for each of the three calls that may write at the end: the row of 13 is the last of its table, and every row
 -- before it has a lower number.
+use Rattle.std.specs.Prelude.{Ok, Err}
 use Prim.Native.Nat.{ℕ, ◌+◌, ◌<◌}
 use native.Mathlib.Omega.{arith}
 use mathlib.Core.Path.{◌≡◌, refl, sym, ap, ◌∙◌}
@@ -10,9 +11,8 @@ use borrow.Author.Tests.{lt-ltb}
 use Rattle.layout.specs.Sizes.{capacity_of}
 use Rattle.word.proofs.Tests.{tests, false_true}
 use Rattle.drafts.specs.Bytes.{need_for}
-use Rattle.store.specs.Answer.{Refusal, refuse, lowest, number_of}
-use Rattle.store.specs.declared.answer.Answer.{Answer}
-use Rattle.store.specs.declared.answer.Answer.TheVariants.{Done, BadLength, BadDraft, NoMfn, NoSlot, Gone as GoneAnswer, Deleted, NoRoom}
+use Rattle.store.specs.Answer.{Row, refuse, lowest, number_of, Answer}
+use Rattle.store.specs.declared.answer.Refusal.TheVariants.{BadLength, BadDraft, NoMfn, NoSlot, Gone as GoneAnswer, Deleted, NoRoom}
 use Rattle.store.specs.Store.{Store}
 use Rattle.drafts.specs.Draft.{Draft, is_right, fields_in}
 use Rattle.ledger.specs.Call.{Call, create, update, delete, Outcome}
@@ -24,17 +24,17 @@ use Rattle.ledger.specs.History.{some_below, RoomRule, RoomOf}
 use Rattle.ledger.proofs.History.{answered, holds_own, number_is}
 
 -- every number of a table is below 13
-unfoldable all_below : List Refusal → Bool
+unfoldable all_below : List Row → Bool
 all_below [] = true
 all_below (r ∷ rs) = ltb (number_of r.answer) 13 && all_below rs
 
-thirteen : number_of NoRoom ≡ 13
+thirteen : number_of (Err NoRoom) ≡ 13
 unfolding number_of
 thirteen = refl
 
 -- the row of 13 behind such a table
 module _ (b : Bool) where
-  abbrev whole : List Refusal → List Refusal
+  abbrev whole : List Row → List Row
   whole pre = pre ++ (refuse NoRoom b ∷ [])
 
   none_lower : some_below 13 (whole []) ≡ false
@@ -46,28 +46,28 @@ module _ (b : Bool) where
       go false = refl
 
   -- by whether the first of the rows before it applies
-  first_row : (r : Refusal) (rs : List Refusal) → number_of r.answer < 13 → (t : Bool) → r.applies ≡ t
-      → (lowest (whole rs) ≡ NoRoom → (some_below 13 (whole rs) ≡ false) × (b ≡ true))
-      → cond t r.answer (lowest (whole rs)) ≡ NoRoom → (((t && ltb (number_of r.answer) 13) || some_below 13 (whole rs)) ≡ false) × (b ≡ true)
+  first_row : (r : Row) (rs : List Row) → number_of r.answer < 13 → (t : Bool) → r.applies ≡ t
+      → (lowest (whole rs) ≡ Err NoRoom → (some_below 13 (whole rs) ≡ false) × (b ≡ true))
+      → cond t r.answer (lowest (whole rs)) ≡ Err NoRoom → (((t && ltb (number_of r.answer) 13) || some_below 13 (whole rs)) ≡ false) × (b ≡ true)
   first_row r rs l true a rest e = absurd (omega (arith, l, ap number_of e ∙ thirteen))
   first_row r rs l false a rest e = rest e
 
-  only : (pre : List Refusal) → all_below pre ≡ true → lowest (whole pre) ≡ NoRoom → (some_below 13 (whole pre) ≡ false) × (b ≡ true)
+  only : (pre : List Row) → all_below pre ≡ true → lowest (whole pre) ≡ Err NoRoom → (some_below 13 (whole pre) ≡ false) × (b ≡ true)
   unfolding all_below some_below
   only [] low e = (none_lower, go b e)
     where
-      go : (b : Bool) → cond b NoRoom Done ≡ NoRoom → b ≡ true
+      go : (b : Bool) → cond b (Err NoRoom) (Ok tt) ≡ Err NoRoom → b ≡ true
       go true e = refl
       go false e = absurd (let z : ◌≡◌ {A = ℕ} 0 1 = cc in omega arith)
   only (r ∷ rs) low e =
       let q = simp tests at low in
       first_row r rs q.0 r.applies refl (only rs q.1) e
 
-  not_first : (r : Refusal) (rest : Bool) → number_of r.answer < 13 → (t : Bool) → ((t && ltb (number_of r.answer) 13) || rest) ≡ false → (t ≡ false) × (rest ≡ false)
+  not_first : (r : Row) (rest : Bool) → number_of r.answer < 13 → (t : Bool) → ((t && ltb (number_of r.answer) 13) || rest) ≡ false → (t ≡ false) × (rest ≡ false)
   not_first r rest l true e = absurd (false_true (sym e ∙ rw (lt-ltb (number_of r.answer) 13 l)))
   not_first r rest l false e = (refl, e)
 
-  always : (pre : List Refusal) → all_below pre ≡ true → some_below 13 (whole pre) ≡ false → b ≡ true → lowest (whole pre) ≡ NoRoom
+  always : (pre : List Row) → all_below pre ≡ true → some_below 13 (whole pre) ≡ false → b ≡ true → lowest (whole pre) ≡ Err NoRoom
   unfolding all_below some_below
   always [] low e h = rw h
   always (r ∷ rs) low e h =
@@ -76,7 +76,7 @@ module _ (b : Bool) where
       rw n.0 (always rs q.1 n.1 h)
 
 -- the rule
-room_rule : (pre : List Refusal) (at_end : Bool) (end need size : ℕ) → all_below pre ≡ true
+room_rule : (pre : List Row) (at_end : Bool) (end need size : ℕ) → all_below pre ≡ true
     → RoomRule (lowest (whole (at_end && ltb size (end + need)) pre)) (whole (at_end && ltb size (end + need)) pre) at_end end need size
 room_rule pre at_end end need size low =
     record {

@@ -1,13 +1,13 @@
 -- A LIST OF MFNS ANSWERS AND LEAVES WHAT ITS SINGLE CALLS DO, of any two buffers; and on a sound store an MFN that was settled gets 10, since its
 -- mark in the ledger stays settled whatever is settled besides.
+use Rattle.std.specs.Prelude.{Ok, Err}
 use Prim.Native.Nat.{ℕ}
 use native.Mathlib.Decide.{ℕ_discrete}
 use mathlib.Core.Path.{◌≡◌, refl, ap, ◌∙◌}
 use mathlib.Core.List.{List, [], ◌∷◌}
 use Rattle.store.specs.Store.{Store}
-use Rattle.store.specs.Answer.{number_of, after}
-use Rattle.store.specs.declared.answer.Answer.{Answer}
-use Rattle.store.specs.declared.answer.Answer.TheVariants.{Done, NotPending}
+use Rattle.store.specs.Answer.{number_of, after, Answer}
+use Rattle.store.specs.declared.answer.Refusal.TheVariants.{NotPending}
 use Rattle.store.proofs.Gates.{after_done}
 use Rattle.writing.specs.Calls.{settle_leaves}
 use Rattle.writing.specs.Refusals.{settle_answer}
@@ -39,7 +39,7 @@ singles_answer s (m ∷ ms) = ap (λ (l : List Answer). settle_answer s m ∷ l)
 pub list_as_singles : ListAsSingles
 unfolding answer_s next_s result_s settle_list_answer settle_list_leaves after number_of
 list_as_singles s ms lent h =
-    record { answers = rw h (ap (listed Done) (singles_answer s ms)); bytes = rw h (singles_leave s ms) }
+    record { answers = rw h (ap (listed (Ok tt)) (singles_answer s ms)); bytes = rw h (singles_leave s ms) }
 
 -- ---- the same MFN again
 
@@ -51,7 +51,7 @@ module _ (m : ℕ) where
   own_settled L known = marked_own IsSettled m L known (kept_fields (item_of L m)) (kept_deleted (item_of L m)) settled refl L.end
 
   -- it becomes settled, and stays so
-  settled_first : (L : Ledger) → number_l L (settle m) ≡ Done → Marked IsSettled m (next_l L (settle m))
+  settled_first : (L : Ledger) → number_l L (settle m) ≡ Ok tt → Marked IsSettled m (next_l L (settle m))
   unfolding next_l effect_of
   settled_first L d = rw (after_done (number_l L (settle m)) (applied L (effect_of L (settle m))) L d) (own_settled L (settle_known L m d))
 
@@ -68,7 +68,7 @@ module _ (m : ℕ) where
   singles_settle L (k ∷ ms) = singles_settle (settled_one L k) ms ∙ ap (λ (K : Ledger). after_l K (singles ms)) (one_is L k)
 
   -- so the row of 10 is the first that applies
-  ten : (K : Ledger) → Marked IsSettled m K → answer_l K (settle m) ≡ plain NotPending
+  ten : (K : Ledger) → Marked IsSettled m K → answer_l K (settle m) ≡ plain (Err NotPending)
   unfolding answer_l number_l refusals_l gives_l reply_l
   ten K w = rw (w.known.lengths, known_in w.known, w.item, w.kind)
 

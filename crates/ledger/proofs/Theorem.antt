@@ -2,6 +2,7 @@
 -- MFN returned, every field shown and every count equals, in order, what the ledger answers to the same calls, and the buffers hold what the
 -- ledger keeps. One statement about the whole list, by induction from one step; it starts from any sound store, with the ledger that its bytes
 -- give, and format is the special case.
+use Rattle.std.specs.Prelude.{Ok}
 use Prim.Native.Nat.{ℕ}
 use mathlib.Core.Path.{◌≡◌, refl, sym, ap, ◌∙◌}
 use mathlib.Core.Bool.{Bool, true, false}
@@ -17,13 +18,11 @@ use Rattle.soundness.proofs.Live.{sound_not_full, sound_not_none}
 use Rattle.soundness.proofs.Recount.{recounts}
 use Rattle.files.specs.CrossReference.{formatted_xrf}
 use Rattle.drafts.proofs.Draftable.{draft_draftable}
-use Rattle.store.specs.Answer.{lowest, after}
+use Rattle.store.specs.Answer.{lowest, after, Answer}
 use Rattle.settling.specs.SettleList.{settle_each_answers, settle_each_leaves, settle_list_refusals, settle_list_answer, settle_list_leaves}
 use Rattle.store.specs.Reading.{lengths_permitted, mfn_in_range, entry_for}
 use Rattle.writing.specs.Refusals.{format_answer, create_answer, update_answer, delete_answer, settle_answer, revert_answer}
 use Rattle.writing.specs.Calls.{format_leaves, create_of, create_leaves, update_leaves, delete_leaves, settle_leaves, revert_leaves}
-use Rattle.store.specs.declared.answer.Answer.{Answer}
-use Rattle.store.specs.declared.answer.Answer.TheVariants.{Done}
 use Rattle.store.proofs.Gates.{after_same}
 use Rattle.soundness.proofs.SoundEntries.{Sound, stands, stands_counted, body_apart_lem, body_sound_lem, EntryStands, is_gone_lem, is_at, known_stands, create_row, below_capacity, version_fine_lem}
 use Rattle.soundness.proofs.Asked.{create_asked, update_asked, delete_asked, settle_asked, revert_asked}
@@ -84,7 +83,7 @@ module _ (t : Store) (h : SoundStore t) where
       record { answer = a; next = rw (n, e, after_same (number_l (ledger_of t) c) (ledger_of t)); sound = rw n h }
 
   written : (c : Call) (a : Answer) (t' : Store) → a ≡ number_l (ledger_of t) c → answer_s t c ≡ outcome_of a (gives_l (ledger_of t) c) → next_s t c ≡ after a t' t
-      → (a ≡ Done → Left t' (applied (ledger_of t) (effect_of (ledger_of t) c))) → Step t c
+      → (a ≡ Ok tt → Left t' (applied (ledger_of t) (effect_of (ledger_of t) c))) → Step t c
   unfolding answer_l next_l
   written c a t' same gives leaves done =
       let l = either a (number_l (ledger_of t) c) t t' (applied (ledger_of t) (effect_of (ledger_of t) c)) same h done in

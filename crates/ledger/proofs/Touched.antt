@@ -1,5 +1,6 @@
 -- THE THEOREM: what a call touches. A call that is done touches what soundness says of it; a refused one leaves the store as it was, and so does
 -- one that only reads.
+use Rattle.std.specs.Prelude.{Ok}
 use Prim.Native.Nat.{ℕ}
 use mathlib.Core.Path.{◌≡◌, refl}
 use mathlib.Core.Logic.{⊎_elim}
@@ -7,9 +8,7 @@ use lib.ListN.{length}
 use Rattle.soundness.proofs.Recount.{recounts}
 use Rattle.files.specs.Control.{next_of}
 use Rattle.store.specs.Store.{Store}
-use Rattle.store.specs.Answer.{after}
-use Rattle.store.specs.declared.answer.Answer.{Answer}
-use Rattle.store.specs.declared.answer.Answer.TheVariants.{Done}
+use Rattle.store.specs.Answer.{after, Answer}
 use Rattle.store.proofs.Gates.{after_cases}
 use Rattle.writing.specs.Refusals.{create_answer, update_answer, delete_answer, settle_answer, revert_answer}
 use Rattle.writing.specs.Calls.{create_leaves, update_leaves, delete_leaves, settle_leaves, revert_leaves}
@@ -29,7 +28,7 @@ same_touched : (s s' : Store) (m : ℕ) → s' ≡ s → TouchesOnly s s' m
 same_touched s s' m e = rw e (nothing_touched s m (MayChange s s m))
 
 -- done or refused
-either : (s new : Store) (a : Answer) (m : ℕ) → (a ≡ Done → TouchesOnly s (after a new s) m) → TouchesOnly s (after a new s) m
+either : (s new : Store) (a : Answer) (m : ℕ) → (a ≡ Ok tt → TouchesOnly s (after a new s) m) → TouchesOnly s (after a new s) m
 either s new a m done = ⊎_elim (λ d. done d.0) (λ r. same_touched s (after a new s) m r.1) (after_cases a new s)
 
 pub touches : Touches

@@ -1,5 +1,6 @@
 -- What the ledger answers of a record whose mark is known: a live one shows its fields, one under changed shows its settled fields to the settled
 -- view and can be reverted to them, and one under new is refused by 11.
+use Rattle.std.specs.Prelude.{Ok, Err}
 use Prim.Native.Nat.{ℕ}
 use native.Mathlib.Omega.{arith}
 use mathlib.Core.Path.{◌≡◌, refl, ap}
@@ -8,7 +9,7 @@ use mathlib.Core.List.{List}
 use Rattle.record.specs.Fields.{Field, field_named, occurrences_of}
 use Rattle.drafts.specs.Bytes.{need_for}
 use Rattle.store.specs.Answer.{number_of, lowest, after}
-use Rattle.store.specs.declared.answer.Answer.TheVariants.{Done, Deleted, NeverSettled}
+use Rattle.store.specs.declared.answer.Refusal.TheVariants.{Deleted, NeverSettled}
 use Rattle.store.proofs.Gates.{after_done}
 use Rattle.drafts.specs.Draft.{Draft, fields_in}
 use Rattle.views.specs.Views.{among_fields, occurrences_with}
@@ -34,7 +35,7 @@ module _ (L : Ledger) (m : ℕ) (k : Known L m) where
   settled_view fs i tag occ = rw (k.lengths, known_in k, i)
 
   -- an update or a delete of a settled record that is done is a change over the fields that it had
-  pub change_pends : (fs : List Field) → item_of L m ≡ held fs false settled → (c : Call) → UpdatesOrDeletes m c → number_l L c ≡ Done → Marked (Over fs) m (next_l L c)
+  pub change_pends : (fs : List Field) → item_of L m ≡ held fs false settled → (c : Call) → UpdatesOrDeletes m c → number_l L c ≡ Ok tt → Marked (Over fs) m (next_l L c)
   unfolding next_l effect_of appends
   change_pends fs i _ (updates d) e =
       rw (after_done (number_l L (update m d)) (applied L (effect_of L (update m d))) L e, i)
@@ -52,16 +53,16 @@ module _ (old : List Field) (m : ℕ) (L : Ledger) (w : Marked (Over old) m L) w
   over_view tag occ = rw (w.known.lengths, known_in w.known, w.item, w.kind.is) (go w.flag)
     where
       go : (b : Bool)
-          → outcome_of (cond (b && false) Deleted (lowest (among_fields old tag occ))) (the_field (bytes_of (field_named old tag occ)) (occurrences_of old tag)) ≡ field_shown old tag occ
+          → outcome_of (cond (b && false) (Err Deleted) (lowest (among_fields old tag occ))) (the_field (bytes_of (field_named old tag occ)) (occurrences_of old tag)) ≡ field_shown old tag occ
       go true = refl
       go false = refl
 
   -- revert is done, and makes exactly them current, live and settled
-  over_reverts : number_l L (revert m) ≡ Done
+  over_reverts : number_l L (revert m) ≡ Ok tt
   unfolding number_l refusals_l reply_l
   over_reverts = rw (w.known.lengths, known_in w.known, w.item, w.kind.is)
 
-  pub over_reverted : answer_l L (revert m) ≡ plain Done
+  pub over_reverted : answer_l L (revert m) ≡ plain (Ok tt)
   unfolding answer_l gives_l reply_l
   over_reverted = ap plain over_reverts
 
@@ -80,24 +81,24 @@ module _ (old : List Field) (m : ℕ) (L : Ledger) (w : Marked (Over old) m L) w
 -- ---- new
 
 module _ (m : ℕ) (L : Ledger) (w : Marked Fresh m L) where
-  pub fresh_reverts : answer_l L (revert m) ≡ plain NeverSettled
+  pub fresh_reverts : answer_l L (revert m) ≡ plain (Err NeverSettled)
   unfolding answer_l number_l gives_l refusals_l reply_l
   fresh_reverts = rw (w.known.lengths, known_in w.known, w.item, w.kind.is)
 
-  pub fresh_view : (tag occ : ℕ) → answer_l L (view_settled m tag occ) ≡ plain NeverSettled
+  pub fresh_view : (tag occ : ℕ) → answer_l L (view_settled m tag occ) ≡ plain (Err NeverSettled)
   unfolding answer_l number_l gives_l refusals_l after number_of occurrences_with reply_l
   fresh_view tag occ = rw (w.known.lengths, known_in w.known, w.item, w.kind.is) (go w.flag)
     where
-      go : (b : Bool) → outcome_of (cond (b && false) Deleted NeverSettled) (the_field (bytes_of (field_named w.fields tag occ)) (occurrences_of w.fields tag)) ≡ plain NeverSettled
+      go : (b : Bool) → outcome_of (cond (b && false) (Err Deleted) (Err NeverSettled)) (the_field (bytes_of (field_named w.fields tag occ)) (occurrences_of w.fields tag)) ≡ plain (Err NeverSettled)
       go true = refl
       go false = refl
 
 -- a create that is done returns the next MFN and makes such a record
-pub create_returns : (L : Ledger) (d : Draft) → number_l L (create d) ≡ Done → (answer_l L (create d)).mfn ≡ next_mfn L
+pub create_returns : (L : Ledger) (d : Draft) → number_l L (create d) ≡ Ok tt → (answer_l L (create d)).mfn ≡ next_mfn L
 unfolding answer_l gives_l reply_l
 create_returns L d e = after_done (number_l L (create d)) (next_mfn L) 0 e
 
-pub create_fresh : (L : Ledger) (d : Draft) → number_l L (create d) ≡ Done → Marked Fresh (next_mfn L) (next_l L (create d))
+pub create_fresh : (L : Ledger) (d : Draft) → number_l L (create d) ≡ Ok tt → Marked Fresh (next_mfn L) (next_l L (create d))
 unfolding next_l effect_of lengths_fine
 create_fresh L d e =
     let i : Item = held (fields_in d) false (new (need_for (fields_in d))) in

@@ -1,4 +1,5 @@
 -- What the two views answer, show and count on a sound store is what the ledger answers, shows and counts.
+use Rattle.std.specs.Prelude.{Err}
 use Prim.Native.Nat.{ℕ, ◌+◌, ◌-◌, ◌<◌}
 use mathlib.Core.Path.{◌≡◌, refl, sym, ap, ◌∙◌}
 use mathlib.Core.Bool.{Bool, true, false, cond}
@@ -15,11 +16,10 @@ use Rattle.layout.specs.declared.entry.Entry.TheVariants.{Gone}
 use Rattle.word.proofs.Tests.{cond_holds}
 use Rattle.record.specs.Fields.{fields_of, field_named, occurrences_of, find_of}
 use Rattle.record.specs.declared.fields.Found.{Found}
-use Rattle.store.specs.Answer.{after, number_of}
+use Rattle.store.specs.Answer.{after, number_of, Answer}
 use Rattle.store.specs.Reading.{mfn_in_range, entry_for, place_for, is_changed, record_at, leader_at, back_address, record_fine, settled_record, settled_fine, version_fine, shown_settled}
 use Rattle.views.specs.Views.{view_answer, settled_view_answer, found_start, found_length, occurrences_with, shown_at, view_of, settled_address, settled_view_of, shown_bytes}
-use Rattle.store.specs.declared.answer.Answer.{Answer}
-use Rattle.store.specs.declared.answer.Answer.TheVariants.{NoMfn, Gone as GoneAnswer}
+use Rattle.store.specs.declared.answer.Refusal.TheVariants.{NoMfn, Gone as GoneAnswer}
 use Rattle.store.proofs.Gates.{Refusing, after_refused, fine_reads, settled_fine_reads}
 use Rattle.views.proofs.ViewAnswers.{uncounted}
 use Rattle.ledger.specs.Call.{viewed, view, view_settled}
@@ -53,11 +53,11 @@ shown_none d a at rec tag occ b h = shown_after d a at rec tag occ ∙ after_ref
 counted_none : (a b : Answer) (x y : ℕ) → a ≡ b → number_of b < 12 → occurrences_with a x ≡ occurrences_with a y
 counted_none a b x y e l = rw e (uncounted b x l ∙ sym (uncounted b y l))
 
-refusing_absent : (a : Answer) → a ≡ NoMfn → Refusing a
+refusing_absent : (a : Answer) → a ≡ Err NoMfn → Refusing a
 unfolding number_of
 refusing_absent a e z = let y : ◌≡◌ {A = ℕ} 4 0 = sym (ap number_of e) ∙ z in omega arith
 
-refusing_gone : (a : Answer) → a ≡ GoneAnswer → Refusing a
+refusing_gone : (a : Answer) → a ≡ Err GoneAnswer → Refusing a
 unfolding number_of
 refusing_gone a e z = let y : ◌≡◌ {A = ℕ} 7 0 = sym (ap number_of e) ∙ z in omega arith
 
@@ -66,11 +66,11 @@ same_outcome : (a b : Answer) (x y : List ℕ) (n k : ℕ) → a ≡ b → x ≡
 same_outcome a b x y n k p q r = rw (p, q, r)
 
 module _ (s : Store) (o : Opened s) where
-  view_absent : (m tag occ : ℕ) → mfn_in_range s.mst m ≡ false → view_answer s m tag occ ≡ NoMfn
+  view_absent : (m tag occ : ℕ) → mfn_in_range s.mst m ≡ false → view_answer s m tag occ ≡ Err NoMfn
   unfolding view_answer
   view_absent m tag occ k = rw (o.lengths, o.control, k)
 
-  view_gone : (m tag occ : ℕ) → mfn_in_range s.mst m ≡ true → entry_for s m ≡ Gone → view_answer s m tag occ ≡ GoneAnswer
+  view_gone : (m tag occ : ℕ) → mfn_in_range s.mst m ≡ true → entry_for s m ≡ Gone → view_answer s m tag occ ≡ Err GoneAnswer
   unfolding view_answer
   view_gone m tag occ k e = rw (o.lengths, o.control, k, e)
 
@@ -91,8 +91,8 @@ module _ (s : Store) (o : Opened s) where
       → occurrences_with (view_answer s m tag occ) (occurrences_of (fields_of (record_at s.mst (place_for s m))) tag)
       ≡ occurrences_with (view_answer s m tag occ) (occurrences_of (kept_fields (item_of (ledger_of s) m)) tag)
   unfolding number_of
-  view_counted m tag occ (absent k) = counted_none _ NoMfn _ _ (view_absent m tag occ k) (omega arith)
-  view_counted m tag occ (physically k e) = counted_none _ GoneAnswer _ _ (view_gone m tag occ k e) (omega arith)
+  view_counted m tag occ (absent k) = counted_none _ (Err NoMfn) _ _ (view_absent m tag occ k) (omega arith)
+  view_counted m tag occ (physically k e) = counted_none _ (Err GoneAnswer) _ _ (view_gone m tag occ k e) (omega arith)
   view_counted m tag occ (present p k e f v) = rw (e, item_at s o m p k e)
 
   pub view_outcome : (m tag occ : ℕ) → Seen s m → answer_s s (view m tag occ) ≡ answer_l (ledger_of s) (view m tag occ)
@@ -114,11 +114,11 @@ module _ (s : Store) (o : Opened s) where
       shown_done s.mst (back_address (leader_at s.mst p)) (end_of s.mst - back_address (leader_at s.mst p)) (settled_fine_reads s.mst m p (cond_holds (is_changed p.mark) (settled_fine s.mst m p) v (ap is_changed q))) tag occ
   version_shown m tag occ p f v New q = shown_done s.mst (place_address p) (end_of s.mst - place_address p) (fine_reads s.mst m p f) tag occ
 
-  settled_absent : (m tag occ : ℕ) → mfn_in_range s.mst m ≡ false → settled_view_answer s m tag occ ≡ NoMfn
+  settled_absent : (m tag occ : ℕ) → mfn_in_range s.mst m ≡ false → settled_view_answer s m tag occ ≡ Err NoMfn
   unfolding settled_view_answer
   settled_absent m tag occ k = rw (o.lengths, o.control, k)
 
-  settled_gone : (m tag occ : ℕ) → mfn_in_range s.mst m ≡ true → entry_for s m ≡ Gone → settled_view_answer s m tag occ ≡ GoneAnswer
+  settled_gone : (m tag occ : ℕ) → mfn_in_range s.mst m ≡ true → entry_for s m ≡ Gone → settled_view_answer s m tag occ ≡ Err GoneAnswer
   unfolding settled_view_answer
   settled_gone m tag occ k e = rw (o.lengths, o.control, k, e)
 
@@ -141,8 +141,8 @@ module _ (s : Store) (o : Opened s) where
       → occurrences_with (settled_view_answer s m tag occ) (occurrences_of (fields_of (shown_settled s.mst (place_for s m))) tag)
       ≡ occurrences_with (settled_view_answer s m tag occ) (occurrences_of (settled_fields (item_of (ledger_of s) m)) tag)
   unfolding number_of
-  settled_counted m tag occ (absent k) = counted_none _ NoMfn _ _ (settled_absent m tag occ k) (omega arith)
-  settled_counted m tag occ (physically k e) = counted_none _ GoneAnswer _ _ (settled_gone m tag occ k e) (omega arith)
+  settled_counted m tag occ (absent k) = counted_none _ (Err NoMfn) _ _ (settled_absent m tag occ k) (omega arith)
+  settled_counted m tag occ (physically k e) = counted_none _ (Err GoneAnswer) _ _ (settled_gone m tag occ k e) (omega arith)
   settled_counted m tag occ (present p k e f v) = rw (e, item_at s o m p k e, settled_all s.mst p p.mark)
 
   pub settled_view_outcome : (m tag occ : ℕ) → Seen s m → answer_s s (view_settled m tag occ) ≡ answer_l (ledger_of s) (view_settled m tag occ)

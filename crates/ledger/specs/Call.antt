@@ -1,6 +1,6 @@
 -- The calls that demand 3 speaks of, with their arguments, and what each answers. Document 01, "The ledger of demand 3".
 use Rattle.std.specs.Prelude.{ℕ, List, []}
-use Rattle.store.specs.declared.answer.Answer.{Answer}
+use Rattle.store.specs.Answer.{Answer}
 use Rattle.drafts.specs.Draft.{Draft}
 
 pub data Call : Type 0 where

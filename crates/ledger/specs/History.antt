@@ -1,14 +1,14 @@
 -- What the order and document 01 say of lists of calls beside demand 3, each a statement about the library's own answers. `Claims` stands last.
 -- Proved in proofs/Claims, from laws of the ledger by demand 3.
+use Rattle.std.specs.Prelude.{Ok, Err}
 use Rattle.std.specs.Prelude.{ℕ, ◌+◌, ◌<◌, ◌≡◌, Bool, true, false, ◌&&◌, ◌||◌, List, [], ◌∷◌, ◌++◌, ltb}
 use Rattle.layout.specs.declared.entry.Mark.TheVariants.{Settled}
 use Rattle.layout.specs.declared.entry.Place.{Place}
 use Rattle.layout.specs.declared.entry.Entry.TheVariants.{At}
 use Rattle.drafts.specs.Bytes.{need_for}
-use Rattle.store.specs.Answer.{number_of, Refusal}
+use Rattle.store.specs.Answer.{number_of, Row, Answer}
 use Rattle.store.specs.Reading.{mfn_in_range, entry_for, place_for}
-use Rattle.store.specs.declared.answer.Answer.{Answer}
-use Rattle.store.specs.declared.answer.Answer.TheVariants.{Done, BadControl, NeverSettled, NoRoom}
+use Rattle.store.specs.declared.answer.Refusal.TheVariants.{BadControl, NeverSettled, NoRoom}
 use Rattle.store.specs.Store.{Store, store}
 use Rattle.settling.specs.Theorems.{among}
 use Rattle.drafts.specs.Draft.{Draft, fields_in}
@@ -52,7 +52,7 @@ pub record SettledVersion (s : Store) (m : ℕ) (c : Call) (cs : List Call) : Ty
   pub readable : (done rest : List Call) → done ++ rest ≡ cs → (tag occ : ℕ)
       → answer_s (after_s (next_s s c) done) (view_settled m tag occ) ≡ answer_s s (view m tag occ)
   -- revert answers 0
-  pub reverts : answer_s (after_s (next_s s c) cs) (revert m) ≡ plain Done
+  pub reverts : answer_s (after_s (next_s s c) cs) (revert m) ≡ plain (Ok tt)
   -- and every view of m afterwards equals the view before
   pub current : (tag occ : ℕ) → answer_s (next_s (after_s (next_s s c) cs) (revert m)) (view m tag occ) ≡ answer_s s (view m tag occ)
   pub settled : (tag occ : ℕ) → answer_s (next_s (after_s (next_s s c) cs) (revert m)) (view_settled m tag occ) ≡ answer_s s (view m tag occ)
@@ -71,8 +71,8 @@ pub record LeavesNew (m : ℕ) (c : Call) : Type 0 where
 
 -- after a create that is done and returned m, and such a list of calls: revert of m answers 11, and so does its settled view
 pub record NeverSettledYet (s : Store) (d : Draft) (m : ℕ) (cs : List Call) : Type 0 where
-  pub reverts : answer_s (after_s (next_s s (create d)) cs) (revert m) ≡ plain NeverSettled
-  pub settled : (tag occ : ℕ) → answer_s (after_s (next_s s (create d)) cs) (view_settled m tag occ) ≡ plain NeverSettled
+  pub reverts : answer_s (after_s (next_s s (create d)) cs) (revert m) ≡ plain (Err NeverSettled)
+  pub settled : (tag occ : ℕ) → answer_s (after_s (next_s s (create d)) cs) (view_settled m tag occ) ≡ plain (Err NeverSettled)
 
 -- ---- every other MFN's views are the same
 
@@ -83,16 +83,16 @@ pub record SameViews (s s' : Store) (m : ℕ) : Type 0 where
 -- ---- no room, exactly
 
 -- a refusal with a number below n applies
-unfoldable pub some_below : ℕ → List Refusal → Bool
+unfoldable pub some_below : ℕ → List Row → Bool
 some_below n [] = false
 some_below n (r ∷ rs) = (r.applies && ltb (number_of r.answer) n) || some_below n rs
 
 -- the room rule: an answer is 13 exactly if no lower number of the table applies, the call writes at the end and end + need exceeds the length
-pub record RoomRule (a : Answer) (table : List Refusal) (at_end : Bool) (end need size : ℕ) : Type 0 where
-  pub no_lower : a ≡ NoRoom → some_below 13 table ≡ false
-  pub is_at_end : a ≡ NoRoom → at_end ≡ true
-  pub exceeds : a ≡ NoRoom → size < end + need
-  pub refused : some_below 13 table ≡ false → at_end ≡ true → size < end + need → a ≡ NoRoom
+pub record RoomRule (a : Answer) (table : List Row) (at_end : Bool) (end need size : ℕ) : Type 0 where
+  pub no_lower : a ≡ Err NoRoom → some_below 13 table ≡ false
+  pub is_at_end : a ≡ Err NoRoom → at_end ≡ true
+  pub exceeds : a ≡ Err NoRoom → size < end + need
+  pub refused : some_below 13 table ≡ false → at_end ≡ true → size < end + need → a ≡ Err NoRoom
 
 -- read on the ledger that the store holds, for a call
 abbrev pub RoomOf : Store → Call → Bool → ℕ → Type 0
@@ -160,10 +160,10 @@ NeverCome mst xrf = (cs : List Call) → AllMayCome cs (answers_s (next_s (store
 
 pub record Claims (s : Store) : Type 0 where
   -- the settled version of a live and settled MFN, after a change of it that is done, and calls that leave it pending
-  pub settled_version : (m : ℕ) → LiveSettled s m → (c : Call) → UpdatesOrDeletes m c → (answer_s s c).answer ≡ Done
+  pub settled_version : (m : ℕ) → LiveSettled s m → (c : Call) → UpdatesOrDeletes m c → (answer_s s c).answer ≡ Ok tt
       → (cs : List Call) → Every (LeavesPending m) cs → SettledVersion s m c cs
   -- a record never settled, after a create that is done, and calls that do not settle it
-  pub never_settled : (d : Draft) → (answer_s s (create d)).answer ≡ Done
+  pub never_settled : (d : Draft) → (answer_s s (create d)).answer ≡ Ok tt
       → (cs : List Call) → Every (LeavesNew (answer_s s (create d)).mfn) cs → NeverSettledYet s d (answer_s s (create d)).mfn cs
   -- a call leaves the views of every MFN that it does not set, add or empty
   pub others : (c : Call) (m : ℕ) → touches (ledger_of s) (effect_of (ledger_of s) c) m ≡ false → SameViews s (next_s s c) m
@@ -173,8 +173,8 @@ pub record Claims (s : Store) : Type 0 where
   pub update_room : (m : ℕ) (d : Draft) → RoomOf s (update m d) (appends (kept_mark (item_of (ledger_of s) m)) (need_for (fields_in d))) (need_for (fields_in d))
   pub delete_room : (m : ℕ) → RoomOf s (delete m) (is_settled_mark (kept_mark (item_of (ledger_of s) m))) (need_for (kept_fields (item_of (ledger_of s) m)))
   -- a migration answers 2 and changes nothing
-  pub migrate_refused : answer_s s migrate ≡ plain BadControl
+  pub migrate_refused : answer_s s migrate ≡ plain (Err BadControl)
   pub migrate_nothing : next_s s migrate ≡ s
   -- a recount answers 0 and changes nothing
-  pub recount_done : answer_s s recount ≡ plain Done
+  pub recount_done : answer_s s recount ≡ plain (Ok tt)
   pub recount_nothing : next_s s recount ≡ s

@@ -6,9 +6,8 @@ use Rattle.std.proofs.Math.Option.{Option, some, none}
 use Rattle.layout.specs.Sizes.{capacity_of}
 use Rattle.record.specs.Fields.{field_named, occurrences_of}
 use Rattle.drafts.specs.Bytes.{need_for}
-use Rattle.store.specs.Answer.{Refusal, refuse, lowest, after}
-use Rattle.store.specs.declared.answer.Answer.{Answer}
-use Rattle.store.specs.declared.answer.Answer.TheVariants.{BadLength, BadControl, BadDraft, NoMfn, NoSlot, Gone, Deleted, NotPending, NeverSettled, NoRoom}
+use Rattle.store.specs.Answer.{Row, refuse, lowest, after, Answer}
+use Rattle.store.specs.declared.answer.Refusal.TheVariants.{BadLength, BadControl, BadDraft, NoMfn, NoSlot, Gone, Deleted, NotPending, NeverSettled, NoRoom}
 use Rattle.drafts.specs.Draft.{is_right, fields_in}
 use Rattle.views.specs.Views.{among_fields, occurrences_with}
 use Rattle.settling.specs.SettleList.{settle_list_refusals}
@@ -18,18 +17,18 @@ use Rattle.ledger.specs.Ledger.{Marking, settled, Item, held, Ledger, next_mfn, 
 -- ---- the rows that calls share
 
 -- 1, before the refusals of every call
-abbrev pub measured : Ledger → List Refusal → List Refusal
+abbrev pub measured : Ledger → List Row → List Row
 measured L rest = refuse BadLength (not (lengths_fine L)) ∷ rest
 
 -- 4 and 7, for calls that name an MFN
-abbrev pub named : Ledger → ℕ → List Refusal → List Refusal
+abbrev pub named : Ledger → ℕ → List Row → List Row
 named L m rest = refuse NoMfn (not (mfn_in L m)) ∷ refuse Gone (is_gone_item (item_of L m)) ∷ rest
 
 -- 13, last, for a call that is appended: end + need exceeds the MST length
 unfoldable pub overfull : Ledger → ℕ → Bool
 overfull L need = ltb L.mst_length (L.end + need)
 
-abbrev pub room_for : Ledger → Bool → ℕ → List Refusal
+abbrev pub room_for : Ledger → Bool → ℕ → List Row
 room_for L appended need = refuse NoRoom (appended && overfull L need) ∷ []
 
 -- an update is appended where the record is settled, or its need exceeds the record length
@@ -43,7 +42,7 @@ bytes_of (some bytes) = bytes
 
 -- ---- settling one MFN, and each of a list in order
 
-abbrev pub settle_rows : Ledger → ℕ → List Refusal
+abbrev pub settle_rows : Ledger → ℕ → List Row
 settle_rows L m = measured L (named L m (refuse NotPending (is_settled_mark (kept_mark (item_of L m))) ∷ []))
 
 -- mark settled; deleted or live stays
@@ -74,10 +73,10 @@ pub data Given : Type 0 where
 -- ---- the table: the refusals of a call, and what it gives
 
 pub record Reply : Type 0 where
-  pub refusals : List Refusal
+  pub refusals : List Row
   pub gives : Given
 
-abbrev pub reply : List Refusal → Given → Reply
+abbrev pub reply : List Row → Given → Reply
 reply rows given = record { refusals = rows; gives = given }
 
 unfoldable pub reply_l : Ledger → Call → Reply
@@ -138,7 +137,7 @@ reply_l L (settle_list ms lent) = reply (settle_list_refusals (length ms) lent) 
 -- a recount answers 0
 reply_l L recount = reply (measured L []) nothing
 
-unfoldable pub refusals_l : Ledger → Call → List Refusal
+unfoldable pub refusals_l : Ledger → Call → List Row
 refusals_l L c = (reply_l L c).refusals
 
 unfoldable pub gives_l : Ledger → Call → Given

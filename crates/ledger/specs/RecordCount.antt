@@ -2,13 +2,13 @@
 -- history: plus one for a create, minus one for a delete, plus one for a revert that brought a deleted record back. The history is the list of
 -- calls with their answers and nothing else (`CountsHistory`). And a recount, which writes the number of an older card, keeps the ledger
 -- (`RecountKeepsLedger`). Proved in proofs/RecordCount and proofs/Recounted.
+use Rattle.std.specs.Prelude.{Ok}
 use Rattle.std.specs.Prelude.{ℕ, ◌≡◌, Bool, true, false, cond, List, [], ◌∷◌, eqb, ℤ, pos}
 use Rattle.std.proofs.Math.IntN.{suc_ℤ, pred_ℤ}
 use Rattle.files.specs.Control.{count_of}
 use Rattle.store.specs.Store.{Store, store}
 use Rattle.store.specs.Answer.{number_of}
 use Rattle.store.specs.Reading.{lengths_permitted}
-use Rattle.store.specs.declared.answer.Answer.TheVariants.{Done}
 use Rattle.soundness.specs.Recount.{recount_answer, recount_leaves}
 use Rattle.ledger.specs.Call.{Call, format, view, view_settled, create, update, delete, settle, revert, check, migrate, settle_list, recount, Outcome}
 use Rattle.ledger.specs.StoreRun.{next_s, answers_s, after_s}
@@ -94,6 +94,6 @@ CountsHistory mst xrf =
 -- THE CLAIM OF A RECOUNT, of any two buffers, whatever RECCNT held
 pub record RecountKeepsLedger (s : Store) : Type 0 where
   -- the store is sound then, with the ledger that its bytes gave before
-  pub kept : recount_answer s ≡ Done → Kept (recount_leaves s) (ledger_of s)
+  pub kept : recount_answer s ≡ Ok tt → Kept (recount_leaves s) (ledger_of s)
   -- so that ledger answers every list of calls after it
-  pub answered : recount_answer s ≡ Done → (cs : List Call) → Agree (recount_leaves s) (ledger_of s) cs
+  pub answered : recount_answer s ≡ Ok tt → (cs : List Call) → Agree (recount_leaves s) (ledger_of s) cs

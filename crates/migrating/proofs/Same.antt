@@ -2,6 +2,7 @@
 -- record (`SameBehind`). All that is read of a record stands there, since a well-formed place has an address of 64 or more. So both read the same:
 -- every view, every step, and whether the store is sound apart from RECCNT. A card of the old rule and the same card migrated are two such cards,
 -- and so are a card and the same card recounted.
+use Rattle.std.specs.Prelude.{Ok, Err}
 use Prim.Native.Nat.{ℕ, zero, suc, ◌+◌, ◌-◌, ◌≤◌}
 use native.Mathlib.Omega.{arith}
 use mathlib.Core.Path.{◌≡◌, refl, sym, ap, ◌∙◌}
@@ -30,10 +31,9 @@ use Rattle.record.specs.Directory.{tag_at, pos_at, len_at}
 use Rattle.record.specs.Fields.{fields_of, occurrences_of, find_of}
 use Rattle.record.proofs.Facts.{well_formed_both}
 use Rattle.store.specs.Store.{store}
-use Rattle.store.specs.Answer.{Refusal, refuse, lowest, number_of, after}
+use Rattle.store.specs.Answer.{Row, refuse, lowest, number_of, after, Answer}
 use Rattle.store.specs.Reading.{lengths_permitted, mfn_in_range, place_in}
-use Rattle.store.specs.declared.answer.Answer.{Answer}
-use Rattle.store.specs.declared.answer.Answer.TheVariants.{Done, BadLength, NoMfn, BadEntry, Gone as GoneAnswer, BadRecord, Deleted, NeverSettled}
+use Rattle.store.specs.declared.answer.Refusal.TheVariants.{BadLength, NoMfn, BadEntry, Gone as GoneAnswer, BadRecord, Deleted, NeverSettled}
 use Rattle.store.proofs.Gates.{Refusing, after_done, after_refused, after_cases, holds, named_list, list_done, back_changed}
 use Rattle.views.specs.Views.{found_start, found_length, shown_at}
 use Rattle.views.proofs.ViewAnswers.{uncounted}
@@ -49,7 +49,7 @@ use Rattle.migrating.specs.Theorems.{SameBytes}
 
 -- 1, 4, 6, 7 and 8, and the rows behind them; both control records are right
 abbrev table : Bool → Bool → Entry → Bool → Answer → Answer
-table lengths known e ok rest = cond (not lengths) BadLength (named_list known e ok rest)
+table lengths known e ok rest = cond (not lengths) (Err BadLength) (named_list known e ok rest)
 
 -- refused by 1 to 8, before anything is asked of a record
 pub record Unread (a : Answer) : Type 0 where
@@ -98,26 +98,26 @@ list_empty l a u at at' rec rec' =
 
 module _ (lengths known : Bool) where
   -- an entry that has no place is refused, and so is a record that is not right
-  no_place : (a : Answer) → Unread a → Unread (cond (not lengths) BadLength (cond (not known) NoMfn a))
+  no_place : (a : Answer) → Unread a → Unread (cond (not lengths) (Err BadLength) (cond (not known) (Err NoMfn) a))
   unfolding number_of
   no_place a h = go lengths known
     where
-      go : (l k : Bool) → Unread (cond (not l) BadLength (cond (not k) NoMfn a))
+      go : (l k : Bool) → Unread (cond (not l) (Err BadLength) (cond (not k) (Err NoMfn) a))
       go false k = record { refusing = λ z. omega arith; low = omega arith }
       go true false = record { refusing = λ z. omega arith; low = omega arith }
       go true true = h
 
-  gone_refused : Unread (table lengths known Gone true Done)
+  gone_refused : Unread (table lengths known Gone true (Ok tt))
   unfolding number_of
-  gone_refused = no_place GoneAnswer (record { refusing = λ z. omega arith; low = omega arith })
+  gone_refused = no_place (Err GoneAnswer) (record { refusing = λ z. omega arith; low = omega arith })
 
-  malformed_refused : Unread (table lengths known Malformed true Done)
+  malformed_refused : Unread (table lengths known Malformed true (Ok tt))
   unfolding number_of
-  malformed_refused = no_place BadEntry (record { refusing = λ z. omega arith; low = omega arith })
+  malformed_refused = no_place (Err BadEntry) (record { refusing = λ z. omega arith; low = omega arith })
 
-  wrong_refused : (p : Place) → Unread (table lengths known (At p) false Done)
+  wrong_refused : (p : Place) → Unread (table lengths known (At p) false (Ok tt))
   unfolding number_of
-  wrong_refused p = no_place BadRecord (record { refusing = λ z. omega arith; low = omega arith })
+  wrong_refused p = no_place (Err BadRecord) (record { refusing = λ z. omega arith; low = omega arith })
 
   -- two readings of one entry
   module _ {A : Type 0} (ok ok' : Place → Bool) (rest rest' : Place → Answer) (show show' : Answer → Place → A) where
@@ -136,10 +136,10 @@ module _ (lengths known : Bool) where
         go true h = let q = h refl in rw q.0 (q.1 _)
 
   -- a call that is done read a record at a place
-  table_done : (e : Entry) (ok : Bool) (rest : Answer) → table lengths known e ok rest ≡ Done → (e ≡ At (place_in e)) × (ok ≡ true)
+  table_done : (e : Entry) (ok : Bool) (rest : Answer) → table lengths known e ok rest ≡ Ok tt → (e ≡ At (place_in e)) × (ok ≡ true)
   unfolding number_of
   table_done e ok rest h =
-      let a = holds lengths BadLength _ (λ z. omega arith) h in
+      let a = holds lengths (Err BadLength) _ (λ z. omega arith) h in
       let q = list_done known e ok rest a.1 in
       (q.1, q.2)
 
@@ -260,7 +260,7 @@ module _ {from : ℕ} (mst mst' xrf : List ℕ) (behind : SameBehind from mst ms
       rw (right_both.0, right_both.1, lengths_same, known_same m, same_end)
       (shown_same (lengths_permitted (store mst xrf)) (mfn_in_range mst m)
       (fine_by offsets_from mst' m) (fine_by from mst m)
-      (λ p. Done) (λ p. Done)
+      (λ p. (Ok tt)) (λ p. (Ok tt))
       (λ a p. state_shown a p.mark p.deleted) (λ a p. state_shown a p.mark p.deleted)
       (entry_at xrf (end_from from mst) m)
       (λ a h p. refl)
@@ -268,13 +268,13 @@ module _ {from : ℕ} (mst mst' xrf : List ℕ) (behind : SameBehind from mst ms
       (λ p e f. (refl, λ a. refl)))
 
   -- a call that shows a version, whatever it asks and shows of the record
-  module _ (m : ℕ) (rows : List ℕ → List Refusal) where
+  module _ (m : ℕ) (rows : List ℕ → List Row) where
     -- the rows behind 8, of a record that is read
     abbrev current_rest : List ℕ → Place → Answer
-    current_rest rec p = cond p.deleted Deleted (lowest (rows rec))
+    current_rest rec p = cond p.deleted (Err Deleted) (lowest (rows rec))
 
     abbrev settled_rest : List ℕ → Place → Answer
-    settled_rest rec p = cond (p.deleted && is_settled p.mark) Deleted (cond (is_new p.mark) NeverSettled (lowest (rows rec)))
+    settled_rest rec p = cond (p.deleted && is_settled p.mark) (Err Deleted) (cond (is_new p.mark) (Err NeverSettled) (lowest (rows rec)))
 
     module _ {A : Type 0} (show : Answer → ℕ → List ℕ → A) (empty : EmptyRefused show) where
       pub current_same : on_current_by offsets_from (store mst' xrf) m rows show ≡ on_current_by from (store mst xrf) m rows show
@@ -310,25 +310,25 @@ module _ {from : ℕ} (mst mst' xrf : List ℕ) (behind : SameBehind from mst ms
     abbrev place : Place
     place = place_in (entry_at xrf (end_from from mst) m)
 
-    abbrev current_asked : List Refusal
+    abbrev current_asked : List Row
     current_asked =
         named_by from (store mst xrf) m (fine_by from mst m place)
         (refuse Deleted place.deleted ∷ rows (record_by from mst (place_address place)))
 
-    current_low : lowest current_asked ≡ Done → 64 ≤ place_address place
+    current_low : lowest current_asked ≡ Ok tt → 64 ≤ place_address place
     current_low d =
         let q = table_done (lengths_permitted (store mst xrf)) (mfn_in_range mst m) (entry_at xrf (end_from from mst) m) (fine_by from mst m place)
         (current_rest (record_by from mst (place_address place)) place) (rw right_both.1 at d) in
         entry_low m place q.0
 
-    abbrev settled_asked : List Refusal
+    abbrev settled_asked : List Row
     settled_asked =
         named_by from (store mst xrf) m (both_fine_by from mst m place)
         (refuse Deleted (place.deleted && is_settled place.mark)
         ∷ refuse NeverSettled (is_new place.mark)
         ∷ rows (settled_record_by from mst place))
 
-    settled_low : lowest settled_asked ≡ Done → 64 ≤ settled_address_by from mst place
+    settled_low : lowest settled_asked ≡ Ok tt → 64 ≤ settled_address_by from mst place
     settled_low d =
         let q = table_done (lengths_permitted (store mst xrf)) (mfn_in_range mst m) (entry_at xrf (end_from from mst) m) (both_fine_by from mst m place)
         (settled_rest (settled_record_by from mst place) place) (rw right_both.1 at d) in
@@ -336,7 +336,7 @@ module _ {from : ℕ} (mst mst' xrf : List ℕ) (behind : SameBehind from mst ms
 
   -- ---- the bytes shown
 
-  bytes_same : (a : Answer) (at n len : ℕ) → (a ≡ Done → 64 ≤ at) → SameBytes (store mst xrf) (store mst' xrf) (after a (at + n) 0) (after a len 0)
+  bytes_same : (a : Answer) (at n len : ℕ) → (a ≡ Ok tt → 64 ≤ at) → SameBytes (store mst xrf) (store mst' xrf) (after a (at + n) 0) (after a len 0)
   bytes_same a at n len low =
       ⊎_elim
       (λ d. rw (after_done a (at + n) 0 d.0, after_done a len 0 d.0) (behind.parts (at + n) len (omega (arith, low d.0))))

@@ -1,5 +1,6 @@
 -- THE CLAIMS of specs/Theorems hold of every store: a card and what a migration, or a recount, leaves of it read the same (Same), and by the rule of
 -- today that is what the library gives (Today).
+use Rattle.std.specs.Prelude.{Ok, Err}
 use Prim.Native.Nat.{ℕ, ◌≤◌}
 use native.Mathlib.Omega.{arith}
 use mathlib.Core.Path.{◌≡◌, refl, ◌∙◌}
@@ -16,7 +17,7 @@ use Rattle.files.proofs.Count.{migrated_count, count_length, count_part, next_of
 use Rattle.store.specs.Store.{Store, store}
 use Rattle.store.specs.Answer.{number_of}
 use Rattle.store.specs.Reading.{lengths_permitted, control_fine}
-use Rattle.store.specs.declared.answer.Answer.TheVariants.{Done, BadLength, BadControl}
+use Rattle.store.specs.declared.answer.Refusal.TheVariants.{BadLength, BadControl}
 use Rattle.store.proofs.Gates.{holds, after_done, gate_done, lengths_facts}
 use Rattle.soundness.specs.Sound.{live_count, sound_apart, sound_of}
 use Rattle.soundness.specs.Recount.{recount_answer, recounted_mst, recount_leaves}
@@ -78,21 +79,21 @@ module _ (s : Store) where
   -- ---- what was asked
 
   -- a store that is right by the rule of today
-  pub today_refused : lengths_permitted s ≡ true → control_fine s ≡ true → migrate_answer s ≡ BadControl
+  pub today_refused : lengths_permitted s ≡ true → control_fine s ≡ true → migrate_answer s ≡ Err BadControl
   unfolding migrate_answer
   today_refused l c = rw (l, one_rule s.mst (capacity_of (length s.xrf)) c)
 
   -- one that is right by the old rule
-  migrated : lengths_permitted s ≡ true → old_control_fine s ≡ true → migrate_answer s ≡ Done
+  migrated : lengths_permitted s ≡ true → old_control_fine s ≡ true → migrate_answer s ≡ Ok tt
   unfolding migrate_answer
   migrated l c = rw (l, c)
 
-  module _ (d : migrate_answer s ≡ Done) where
+  module _ (d : migrate_answer s ≡ Ok tt) where
     asked : (lengths_permitted s ≡ true) × (old_control_fine s ≡ true)
     unfolding migrate_answer number_of
     asked =
-        let a = holds (lengths_permitted s) BadLength _ (λ z. omega arith) d in
-        let b = holds (old_control_fine s) BadControl Done (λ z. omega arith) a.1 in
+        let a = holds (lengths_permitted s) (Err BadLength) _ (λ z. omega arith) d in
+        let b = holds (old_control_fine s) (Err BadControl) (Ok tt) (λ z. omega arith) a.1 in
         (a.0, b.0)
 
     old : old_control_right s.mst (capacity_of (length s.xrf)) ≡ true
@@ -137,7 +138,7 @@ module _ (s : Store) where
 
   -- ---- a store that is sound by the old rule apart from RECCNT
 
-  sound_done : apart_by old_offsets_from s ≡ true → migrate_answer s ≡ Done
+  sound_done : apart_by old_offsets_from s ≡ true → migrate_answer s ≡ Ok tt
   unfolding apart_by
   sound_done h = let q = simp tests at h in migrated q.0.0 q.0.1
 
@@ -151,7 +152,7 @@ module _ (s : Store) where
 
 -- ---- a recount
 
-recounted_behind : (mst xrf : List ℕ) → recount_answer (store mst xrf) ≡ Done
+recounted_behind : (mst xrf : List ℕ) → recount_answer (store mst xrf) ≡ Ok tt
     → SameBehind offsets_from mst (recounted_mst mst (live_count (store mst xrf))) (capacity_of (length xrf))
 unfolding recounted_mst recount_answer
 recounted_behind mst xrf d = go (count_is mst n)
@@ -182,7 +183,7 @@ recount_keeps s d = rw (recount_left s.mst s.xrf d) (kept (recounted_behind s.ms
 still_keeps : (s : Store) → apart_by old_offsets_from s ≡ true → Keeps old_offsets_from s (recount_leaves (migrate_leaves s))
 still_keeps s h =
     let d = sound_done s h in
-    let r : recount_answer (store (migrated_mst s.mst) s.xrf) ≡ Done = rw (leaves s d) at ((recounts (migrate_leaves s)).done (apart_kept s h)) in
+    let r : recount_answer (store (migrated_mst s.mst) s.xrf) ≡ (Ok tt) = rw (leaves s d) at ((recounts (migrate_leaves s)).done (apart_kept s h)) in
     rw (leaves s d, recount_left (migrated_mst s.mst) s.xrf r)
     (kept (behind_again (migrated_behind s d) (recounted_behind (migrated_mst s.mst) s.xrf r)))
 

@@ -3,17 +3,16 @@ use Rattle.std.specs.Prelude.{Bool, not, List, [], ◌∷◌, length}
 use Rattle.layout.specs.Sizes.{capacity_of}
 use Rattle.files.specs.Control.{old_control_right, migrated_mst}
 use Rattle.store.specs.Store.{Store, store}
-use Rattle.store.specs.Answer.{Refusal, refuse, lowest, after}
+use Rattle.store.specs.Answer.{Row, refuse, lowest, after, Answer}
 use Rattle.store.specs.Reading.{lengths_permitted}
-use Rattle.store.specs.declared.answer.Answer.{Answer}
-use Rattle.store.specs.declared.answer.Answer.TheVariants.{BadLength, BadControl}
+use Rattle.store.specs.declared.answer.Refusal.TheVariants.{BadLength, BadControl}
 
 -- the control record is right by the old rule, for the capacity of the XRF
 abbrev pub old_control_fine : Store → Bool
 old_control_fine s = old_control_right s.mst (capacity_of (length s.xrf))
 
 -- 0, 1 or 2
-abbrev pub migrate_refusals : Store → List Refusal
+abbrev pub migrate_refusals : Store → List Row
 migrate_refusals s =
     refuse BadLength (not (lengths_permitted s))
     ∷ refuse BadControl (not (old_control_fine s))

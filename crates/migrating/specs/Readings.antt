@@ -16,10 +16,9 @@ use Rattle.files.specs.CrossReference.{entry_at}
 use Rattle.record.specs.Record.{well_formed, back_address}
 use Rattle.record.specs.Fields.{fields_of}
 use Rattle.store.specs.Store.{Store}
-use Rattle.store.specs.Answer.{Refusal, refuse, lowest}
+use Rattle.store.specs.Answer.{Row, refuse, lowest, Answer}
 use Rattle.store.specs.Reading.{lengths_permitted, mfn_in_range, place_in, is_malformed, is_gone}
-use Rattle.store.specs.declared.answer.Answer.TheVariants.{BadLength, BadControl, NoMfn, BadEntry, Gone as GoneAnswer, BadRecord, Deleted, NeverSettled, NoField, NoRoomInList}
-use Rattle.store.specs.declared.answer.Answer.{Answer}
+use Rattle.store.specs.declared.answer.Refusal.TheVariants.{BadLength, BadControl, NoMfn, BadEntry, Gone as GoneAnswer, BadRecord, Deleted, NeverSettled, NoField, NoRoomInList}
 use Rattle.walking.specs.Walker.{at_end}
 use Rattle.views.specs.Views.{among_fields, shown_at}
 use Rattle.views.specs.Fields.{handed_out}
@@ -68,7 +67,7 @@ both_fine_by from mst m p = fine_by from mst m p && cond (is_changed p.mark) (se
 -- ---- the calls that show something
 
 -- 1, 2, 4, 6, 7 and 8
-abbrev pub named_by : ℕ → Store → ℕ → Bool → List Refusal → List Refusal
+abbrev pub named_by : ℕ → Store → ℕ → Bool → List Row → List Row
 named_by from s m ok rest =
     refuse BadLength (not (lengths_permitted s))
     ∷ refuse BadControl (not (control_right_from from s.mst (capacity_of (length s.xrf))))
@@ -84,7 +83,7 @@ state_by from s m =
     state_shown (lowest (named_by from s m (fine_by from s.mst m (place_by from s m)) [])) (place_by from s m).mark (place_by from s m).deleted
 
 -- a call that shows the current version: 9 and the rows that it asks of the record, and what it shows of the record at its address
-abbrev pub on_current_by : {A : Type 0} → ℕ → Store → ℕ → (List ℕ → List Refusal) → (Answer → ℕ → List ℕ → A) → A
+abbrev pub on_current_by : {A : Type 0} → ℕ → Store → ℕ → (List ℕ → List Row) → (Answer → ℕ → List ℕ → A) → A
 on_current_by from s m rows show =
     show
     (lowest
@@ -101,7 +100,7 @@ abbrev pub settled_address_by : ℕ → List ℕ → Place → ℕ
 settled_address_by from mst p = cond (is_changed p.mark) (back_by from mst p) (place_address p)
 
 -- a call that shows the settled version: 9, 11 and its rows, and what it shows
-abbrev pub on_settled_by : {A : Type 0} → ℕ → Store → ℕ → (List ℕ → List Refusal) → (Answer → ℕ → List ℕ → A) → A
+abbrev pub on_settled_by : {A : Type 0} → ℕ → Store → ℕ → (List ℕ → List Row) → (Answer → ℕ → List ℕ → A) → A
 on_settled_by from s m rows show =
     show
     (lowest
@@ -113,7 +112,7 @@ on_settled_by from s m rows show =
     (settled_record_by from s.mst (place_by from s m))
 
 -- a field by its tag and occurrence: 12 and 15, and where it lies
-abbrev pub found_rows : ℕ → ℕ → List ℕ → List Refusal
+abbrev pub found_rows : ℕ → ℕ → List ℕ → List Row
 found_rows tag occ rec = among_fields (fields_of rec) tag occ
 
 abbrev pub found_shown : ℕ → ℕ → Answer → ℕ → List ℕ → Shown
@@ -126,7 +125,7 @@ unfoldable pub settled_view_by : ℕ → Store → ℕ → ℕ → ℕ → Shown
 settled_view_by from s m tag occ = on_settled_by from s m (found_rows tag occ) (found_shown tag occ)
 
 -- a field by its index: 12, its tag, and where it lies
-abbrev pub index_rows : ℕ → List ℕ → List Refusal
+abbrev pub index_rows : ℕ → List ℕ → List Row
 index_rows i rec = refuse NoField (at_end rec i) ∷ []
 
 abbrev pub index_shown : ℕ → Answer → ℕ → List ℕ → ShownField
@@ -143,7 +142,7 @@ pub record AllFields : Type 0 where
   pub told : Listed
   pub left : Lists
 
-abbrev pub list_rows : Lists → List ℕ → List Refusal
+abbrev pub list_rows : Lists → List ℕ → List Row
 list_rows l rec = refuse NoRoomInList (short_for rec l) ∷ []
 
 abbrev pub list_shown : Lists → Answer → ℕ → List ℕ → AllFields

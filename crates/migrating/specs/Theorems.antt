@@ -1,5 +1,6 @@
 -- What holds of a migration, and of a recount, as statements: what was read of the card is what is read of it afterwards. Requests C-12 and C-17.
 -- Proved in proofs/Theorems.
+use Rattle.std.specs.Prelude.{Ok, Err}
 use Rattle.std.specs.Prelude.{ℕ, ◌+◌, ◌≡◌, true, length, get_or}
 use Rattle.word.specs.Integer.{u16_at}
 use Rattle.word.specs.Overwrite.{part}
@@ -7,7 +8,7 @@ use Rattle.files.specs.Control.{offsets_from, old_offsets_from, next_of, end_fro
 use Rattle.files.specs.NamedBytes.{OffsetByte}
 use Rattle.store.specs.Store.{Store}
 use Rattle.store.specs.Reading.{lengths_permitted, control_fine}
-use Rattle.store.specs.declared.answer.Answer.TheVariants.{Done, BadControl}
+use Rattle.store.specs.declared.answer.Refusal.TheVariants.{BadControl}
 use Rattle.views.specs.Views.{view_of, settled_view_of}
 use Rattle.views.specs.Fields.{field_of, settled_field_of}
 use Rattle.asking.specs.State.{state_of}
@@ -74,23 +75,23 @@ pub record Keeps (from : ℕ) (s s' : Store) : Type 0 where
 -- ---- THE CLAIM OF A MIGRATION: what the old rule gave of the card
 
 pub record Migrates (s : Store) : Type 0 where
-  pub changes : migrate_answer s ≡ Done → ChangesCount s (migrate_leaves s)
-  pub keeps : migrate_answer s ≡ Done → Keeps old_offsets_from s (migrate_leaves s)
+  pub changes : migrate_answer s ≡ Ok tt → ChangesCount s (migrate_leaves s)
+  pub keeps : migrate_answer s ≡ Ok tt → Keeps old_offsets_from s (migrate_leaves s)
   -- a store that is sound by the old rule apart from RECCNT is migrated, whatever RECCNT holds, and is sound apart from RECCNT then
-  pub done : apart_by old_offsets_from s ≡ true → migrate_answer s ≡ Done
+  pub done : apart_by old_offsets_from s ≡ true → migrate_answer s ≡ Ok tt
   pub apart : apart_by old_offsets_from s ≡ true → sound_apart (migrate_leaves s) ≡ true
   -- one that is sound by the old rule, RECCNT included, is sound then; and it is sound then only if it was so
   pub sound : sound_by old_offsets_from s ≡ true → sound_of (migrate_leaves s) ≡ true
-  pub as_sound : migrate_answer s ≡ Done → sound_of (migrate_leaves s) ≡ sound_by old_offsets_from s
+  pub as_sound : migrate_answer s ≡ Ok tt → sound_of (migrate_leaves s) ≡ sound_by old_offsets_from s
   -- otherwise a recount makes it so, and keeps what was kept
   pub recounted : apart_by old_offsets_from s ≡ true → sound_of (recount_leaves (migrate_leaves s)) ≡ true
   pub still_keeps : apart_by old_offsets_from s ≡ true → Keeps old_offsets_from s (recount_leaves (migrate_leaves s))
   -- a second migration answers 2
-  pub once : migrate_answer s ≡ Done → migrate_answer (migrate_leaves s) ≡ BadControl
+  pub once : migrate_answer s ≡ Ok tt → migrate_answer (migrate_leaves s) ≡ Err BadControl
   -- and so does every migration of a store that is right by the rule of today
-  pub today : lengths_permitted s ≡ true → control_fine s ≡ true → migrate_answer s ≡ BadControl
+  pub today : lengths_permitted s ≡ true → control_fine s ≡ true → migrate_answer s ≡ Err BadControl
 
 -- ---- THE CLAIM OF A RECOUNT, of any two buffers: what the library itself gave of the card, whatever RECCNT held
 
 abbrev pub RecountKeeps : Store → Type 0
-RecountKeeps s = recount_answer s ≡ Done → Keeps offsets_from s (recount_leaves s)
+RecountKeeps s = recount_answer s ≡ Ok tt → Keeps offsets_from s (recount_leaves s)

@@ -1,5 +1,6 @@
 -- From the store's own run to the ledger's words: what a run reports from a sound store, and after a format that is done, is what the ledger
 -- answers, by demand 3.
+use Rattle.std.specs.Prelude.{Ok}
 use Prim.Native.Nat.{ℕ}
 use native.Mathlib.Omega.{arith}
 use mathlib.Core.Path.{◌≡◌, refl, sym, ◌∙◌}
@@ -11,8 +12,7 @@ use Rattle.word.proofs.Tests.{false_true}
 use Rattle.store.specs.Reading.{lengths_permitted}
 use Rattle.writing.specs.Refusals.{format_answer}
 use Rattle.writing.specs.Calls.{format_leaves}
-use Rattle.store.specs.declared.answer.Answer.{Answer}
-use Rattle.store.specs.declared.answer.Answer.TheVariants.{Done}
+use Rattle.store.specs.Answer.{Answer}
 use Rattle.store.specs.contracts.answer.Answer as answer
 use Rattle.writing.proofs.Plans.{not_done}
 use Rattle.store.proofs.Gates.{Refusing, refusing_not_done}
@@ -51,7 +51,7 @@ module _ (mst xrf mst₁ xrf₁ : List ℕ) (a : Answer) (ea : a ≡ format_answ
   formatted_is = el
 
   -- format is done exactly where both lengths are permitted
-  done_permitted : a ≡ Done → lengths_permitted (store mst xrf) ≡ true
+  done_permitted : a ≡ Ok tt → lengths_permitted (store mst xrf) ≡ true
   unfolding format_answer
   done_permitted d = go (lengths_permitted (store mst xrf)) refl
     where
@@ -67,7 +67,7 @@ module _ (mst xrf mst₁ xrf₁ : List ℕ) (a : Answer) (ea : a ≡ format_answ
       go false k = k
 
   -- it is done, and the list is run
-  pub replay_ran : (answers shown : List ℕ) (p : Script) (r : Replayed) (mst' xrf' answers' shown' : List ℕ) → a ≡ Done
+  pub replay_ran : (answers shown : List ℕ) (p : Script) (r : Replayed) (mst' xrf' answers' shown' : List ℕ) → a ≡ Ok tt
       → Runs (store mst₁ xrf₁) p answers shown r (store mst' xrf') answers' shown' → Replays (store mst xrf) p answers shown r (store mst' xrf') answers' shown'
   replay_ran answers shown p r mst' xrf' answers' shown' d f =
       let g : Runs (next_s (store mst xrf) format) p answers shown r (store mst' xrf') answers' shown' = rw (← formatted_is) f in
@@ -80,7 +80,7 @@ module _ (mst xrf mst₁ xrf₁ : List ℕ) (a : Answer) (ea : a ≡ format_answ
 
   -- it is refused, and nothing is run
   pub replay_refused : (answers shown : List ℕ) (p : Script)
-      → (a ≡ Done → ⊥)
+      → (a ≡ Ok tt → ⊥)
       → Replays (store mst xrf) p answers shown (record { stop = BadLength; calls = 0 }) (store mst₁ xrf₁) answers shown
   unfolding after_s
   replay_refused answers shown p v =

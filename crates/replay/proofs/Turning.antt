@@ -1,6 +1,7 @@
 -- What the functions of one turn promise, one law for each way that they return: its premises are what is known there, the callees' promises and
 -- the tests on the way. In the order of the code, from the inside: what a call answers and leaves (`Wrote`), that it is reported where there is
 -- room (`Ran`), and that it is the first call of what is left (`Turned`).
+use Rattle.std.specs.Prelude.{Ok, Err}
 use Prim.Native.Nat.{ℕ, ◌+◌, ◌*◌, ◌-◌, ◌≤◌, ◌<◌}
 use native.Mathlib.Nat.{add-sub_cancel_left}
 use native.Mathlib.Omega.{arith}
@@ -17,11 +18,10 @@ use Rattle.word.specs.Overwrite.{overwrite, part}
 use Rattle.word.proofs.Overwrite.{part_length, overwrite_none}
 use Rattle.script.proofs.Numbers.{before_part}
 use borrow.Rule.Slice.PartMut.{mid_of, put_mid}
-use Rattle.store.specs.Answer.{number_of, after}
+use Rattle.store.specs.Answer.{number_of, after, Answer}
 use Rattle.store.specs.Reading.{lengths_permitted}
 use Rattle.views.specs.Views.{view_answer, settled_view_answer, found_length, shown_at, view_of, settled_view_of}
-use Rattle.store.specs.declared.answer.Answer.{Answer}
-use Rattle.store.specs.declared.answer.Answer.TheVariants.{Done, BadLength, NoRoomInList}
+use Rattle.store.specs.declared.answer.Refusal.TheVariants.{BadLength, NoRoomInList}
 use Rattle.drafts.specs.Draft.{Draft, draft}
 use Rattle.writing.specs.Refusals.{format_answer, update_answer, delete_answer, settle_answer, revert_answer}
 use Rattle.writing.specs.Calls.{format_leaves, create_of, create_leaves, update_leaves, delete_leaves, settle_leaves, revert_leaves}
@@ -83,12 +83,12 @@ check_asked mst xrf r a e f = rw (e, f)
 pub ruleset asked_answers = (view_asked, settled_asked, check_asked)
 
 -- a view that is done read a MST of permitted length; one that is refused shows nothing: either way what is shown has a length of 32 bits
-no_length : Refusing BadLength
+no_length : Refusing (Err BadLength)
 unfolding number_of
 no_length z = omega arith
 
 module _ (mst xrf : List ℕ) (sh : Shown) where
-  short : (a : Answer) (at : ℕ) (rec : List ℕ) (tag occ : ℕ) → sh ≡ shown_at a at rec tag occ → (a ≡ Done → lengths_permitted (store mst xrf) ≡ true) → sh.start + sh.len ≤ length mst
+  short : (a : Answer) (at : ℕ) (rec : List ℕ) (tag occ : ℕ) → sh ≡ shown_at a at rec tag occ → (a ≡ Ok tt → lengths_permitted (store mst xrf) ≡ true) → sh.start + sh.len ≤ length mst
       → sh.len ≤ mst_most
   unfolding shown_at
   short a at rec tag occ e permitted within =
@@ -99,11 +99,11 @@ module _ (mst xrf : List ℕ) (sh : Shown) where
 
   pub view_short : (m tag occ : ℕ) → sh ≡ view_of (store mst xrf) m tag occ → sh.start + sh.len ≤ length mst → sh.len ≤ mst_most
   unfolding view_of view_answer
-  view_short m tag occ e w = short (view_answer (store mst xrf) m tag occ) _ _ tag occ e (λ d. (holds (lengths_permitted (store mst xrf)) BadLength _ no_length d).0) w
+  view_short m tag occ e w = short (view_answer (store mst xrf) m tag occ) _ _ tag occ e (λ d. (holds (lengths_permitted (store mst xrf)) (Err BadLength) _ no_length d).0) w
 
   pub settled_short : (m tag occ : ℕ) → sh ≡ settled_view_of (store mst xrf) m tag occ → sh.start + sh.len ≤ length mst → sh.len ≤ mst_most
   unfolding settled_view_of settled_view_answer
-  settled_short m tag occ e w = short (settled_view_answer (store mst xrf) m tag occ) _ _ tag occ e (λ d. (holds (lengths_permitted (store mst xrf)) BadLength _ no_length d).0) w
+  settled_short m tag occ e w = short (settled_view_answer (store mst xrf) m tag occ) _ _ tag occ e (λ d. (holds (lengths_permitted (store mst xrf)) (Err BadLength) _ no_length d).0) w
 
 pub ruleset short_answers = (view_short, settled_short)
 
@@ -239,7 +239,7 @@ module _ (s : Store) (mfns answers : List ℕ) (at : Cursor) (n lent : ℕ) (i :
   mfns_length : length (take n (drop at.mfns mfns)) ≡ n
   mfns_length = length-take-le n (drop at.mfns mfns) (let x = length-drop at.mfns mfns in omega arith)
 
-  refused_outcome : lists_right n lent ≡ false → answer_s s c ≡ listed NoRoomInList []
+  refused_outcome : lists_right n lent ≡ false → answer_s s c ≡ listed (Err NoRoomInList) []
   unfolding settling_at answer_s result_s settle_list_answer after number_of
   refused_outcome h = rw (mfns_length, h)
 
@@ -248,7 +248,7 @@ module _ (s : Store) (mfns answers : List ℕ) (at : Cursor) (n lent : ℕ) (i :
   refused_left h = rw (mfns_length, h)
 
   pub list_refused : (answers' : List ℕ) (a : ℕ) (k : Counts) (at' : Cursor) (b : Bool) → b ≡ lists_right n lent → not b ≡ true
-      → outcome_size ≤ length answers - at.numbers → a ≡ number_of NoRoomInList → answers' ≡ overwrite answers at.numbers (a ∷ 0 ∷ 0 ∷ 0 ∷ 0 ∷ [])
+      → outcome_size ≤ length answers - at.numbers → a ≡ number_of (Err NoRoomInList) → answers' ≡ overwrite answers at.numbers (a ∷ 0 ∷ 0 ∷ 0 ∷ 0 ∷ [])
       → k ≡ mfns_of n → at' ≡ moved at k outcome_size 0
       → (shown : List ℕ) → Ran s c (mfns_of n) answers shown at (Next at') s answers' shown
   list_refused answers' a k at' b e f h ea en ek m shown =
@@ -270,7 +270,7 @@ module _ (s : Store) (mfns answers : List ℕ) (at : Cursor) (n lent : ℕ) (i :
     pub lent_is : lent ≡ n
     lent_is = sym (lists_same n lent right)
 
-    done_outcome : answer_s s c ≡ listed Done (settle_each_answers s (take n (drop at.mfns mfns)))
+    done_outcome : answer_s s c ≡ listed (Ok tt) (settle_each_answers s (take n (drop at.mfns mfns)))
     unfolding settling_at answer_s result_s settle_list_answer after number_of
     done_outcome = rw (mfns_length, right)
 
@@ -320,7 +320,7 @@ list_reported s s' mfns n answers answers₁ answers₂ at a k fits ea el et ek 
     let p : at.mfns + n - at.mfns ≡ n = omega arith in
     let q : at.numbers + outcome_size + n - (at.numbers + outcome_size) ≡ n = omega arith in
     let w : length (take n (drop (at.numbers + outcome_size) answers)) ≡ n = length-take-le n (drop (at.numbers + outcome_size) answers) (omega arith) in
-    let a-is : a ≡ Done = ea ∙ rw (p, q, long, w, fine) in
+    let a-is : a ≡ (Ok tt) = ea ∙ rw (p, q, long, w, fine) in
     let told : answers₁ ≡ map number_of (settle_each_answers s ms) = et ∙ rw (p, q, long, w, fine) in
     let size : length answers₁ ≡ n = ap length told ∙ length-map (settle_each_answers s ms) number_of ∙ answers_count s ms ∙ long in
     let count : length (settle_each_answers s ms) ≡ n = answers_count s ms ∙ long in

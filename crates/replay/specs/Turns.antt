@@ -6,7 +6,7 @@ use Rattle.writing.specs.declared.create.Created.{Created}
 use Rattle.store.specs.Store.{Store}
 use Rattle.ledger.specs.Call.{Call, settle_list, Outcome}
 use Rattle.ledger.specs.StoreRun.{created_outcome, answer_s, next_s, answers_s, after_s}
-use Rattle.store.specs.declared.answer.Answer.{Answer}
+use Rattle.store.specs.Answer.{Answer}
 use Rattle.script.specs.Ops.{call_size, mfn_of, taken_by}
 use Rattle.replay.specs.Calls.{Script, script, writing_call, front_draft, first_op, first_call, on_call, calls_of}
 use Rattle.script.specs.Report.{outcome_size}

@@ -1,5 +1,6 @@
 -- The fold over the first so many MFNs of a list, and the loop that makes it: after i turns both buffers and the list of answers are those of the
 -- first i MFNs (`Settled`), one turn is one single settle more, and after the last they are the whole list's.
+use Rattle.std.specs.Prelude.{Ok, Err}
 use Prim.Native.Nat.{ℕ, ◌+◌, ◌≤◌, ◌<◌}
 use native.Mathlib.Nat.{zero-add}
 use native.Mathlib.Numerals.{add-one}
@@ -15,9 +16,8 @@ use Rattle.word.specs.Overwrite.{overwrite}
 use Rattle.word.proofs.Tests.{tests, and_left}
 use Rattle.word.proofs.Overwrite.{overwrite_none, overwrite_whole, overwrite_more}
 use Rattle.store.specs.Store.{Store, store}
-use Rattle.store.specs.Answer.{number_of, after}
-use Rattle.store.specs.declared.answer.Answer.{Answer}
-use Rattle.store.specs.declared.answer.Answer.TheVariants.{Done, NoRoomInList}
+use Rattle.store.specs.Answer.{number_of, after, Answer}
+use Rattle.store.specs.declared.answer.Refusal.TheVariants.{NoRoomInList}
 use Rattle.writing.specs.Refusals.{settle_answer}
 use Rattle.writing.specs.Calls.{settle_leaves}
 use Rattle.settling.specs.SettleList.{settle_each_answers, settle_each_leaves, list_most, lists_right, settle_list_answer, settle_list_leaves, settle_list_tells}
@@ -107,7 +107,7 @@ module _ (mst xrf ms answers₀ : List ℕ) (b : Bool) (e : b ≡ lists_right (l
 
   -- the lists are refused, and nothing is changed
   pub list_refused : not b ≡ true
-      → (NoRoomInList ≡ settle_list_answer (length ms) (length answers₀))
+      → ((Err NoRoomInList) ≡ settle_list_answer (length ms) (length answers₀))
       × ((store mst xrf ≡ settle_list_leaves (store mst xrf) ms (length answers₀)) × (answers₀ ≡ settle_list_tells (store mst xrf) ms answers₀))
   unfolding settle_list_answer settle_list_leaves settle_list_tells after number_of
   list_refused h = (rw (← e, h), (rw (← e, h), rw (← e, h)))
@@ -141,7 +141,7 @@ module _ {s : Store} {ms answers₀ mst xrf answers : List ℕ} {i : ℕ} (g : S
 
   -- the whole list is settled
   pub settled_all : length ms ≤ i
-      → (Done ≡ settle_list_answer (length ms) (length answers₀)) × ((store mst xrf ≡ settle_list_leaves s ms (length answers₀)) × (answers ≡ settle_list_tells s ms answers₀))
+      → ((Ok tt) ≡ settle_list_answer (length ms) (length answers₀)) × ((store mst xrf ≡ settle_list_leaves s ms (length answers₀)) × (answers ≡ settle_list_tells s ms answers₀))
   unfolding settle_list_answer settle_list_leaves settle_list_tells after number_of
   settled_all h =
       let t : take i ms ≡ ms = take_all i ms h in

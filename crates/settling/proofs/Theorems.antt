@@ -1,5 +1,6 @@
 -- THE CLAIMS of specs/Theorems hold of any two buffers and every list. A settle that is done leaves a settled mark in its MFN's entry, and settling
 -- others writes other slots and nothing of the control record, so that the mark is still read there when the MFN comes again.
+use Rattle.std.specs.Prelude.{Ok, Err}
 use Prim.Native.Nat.{ℕ, zero, suc, ◌+◌, ◌≤◌, ◌<◌}
 use native.Mathlib.Decide.{ℕ_discrete}
 use native.Mathlib.Omega.{arith}
@@ -22,11 +23,10 @@ use Rattle.files.proofs.ControlMoves.{out_of}
 use Rattle.files.proofs.ControlRecord.{end_placed}
 use Rattle.files.proofs.CrossReference.{slot_in, entry_head, with_entry_length, with_entry_byte, with_entry_same, with_entry_other}
 use Rattle.store.specs.Store.{Store, store}
-use Rattle.store.specs.Answer.{number_of, after}
+use Rattle.store.specs.Answer.{number_of, after, Answer}
 use Rattle.store.specs.Reading.{lengths_permitted, entry_for, place_for, is_settled, leader_at}
 use Rattle.store.specs.Refusals.{fine}
-use Rattle.store.specs.declared.answer.Answer.{Answer}
-use Rattle.store.specs.declared.answer.Answer.TheVariants.{Done, BadLength}
+use Rattle.store.specs.declared.answer.Refusal.TheVariants.{BadLength}
 use Rattle.store.proofs.Gates.{after_done, after_cases, gate_done, named_done, Planned, planned_at}
 use Rattle.versions.specs.Written.{settled_mst, settled_xrf}
 use Rattle.writing.specs.Refusals.{settle_answer}
@@ -37,7 +37,7 @@ use Rattle.settling.proofs.Folding.{answers_count, leaves_more}
 
 -- ---- in order
 
-answer_at : (s : Store) (ms : List ℕ) (i : ℕ) → i < length ms → get_or (settle_each_answers s ms) i Done ≡ settle_answer (settle_each_leaves s (take i ms)) (get_or ms i 0)
+answer_at : (s : Store) (ms : List ℕ) (i : ℕ) → i < length ms → get_or (settle_each_answers s ms) i (Ok tt) ≡ settle_answer (settle_each_leaves s (take i ms)) (get_or ms i 0)
 unfolding settle_each_answers settle_each_leaves
 answer_at s [] i h = absurd (omega arith)
 answer_at s (m ∷ ms) zero h = refl
@@ -56,7 +56,7 @@ in_order s ms =
 
 -- ---- a settle that is done
 
-module _ (mst xrf : List ℕ) (k : ℕ) (e : settle_answer (store mst xrf) k ≡ Done) where
+module _ (mst xrf : List ℕ) (k : ℕ) (e : settle_answer (store mst xrf) k ≡ Ok tt) where
   abbrev p : Place
   p = place_for (store mst xrf) k
 
@@ -108,7 +108,7 @@ module _ (mst xrf : List ℕ) (k : ℕ) (e : settle_answer (store mst xrf) k ≡
 abbrev Marked : Store → ℕ → Type 0
 Marked s m = is_settled (place_for s m).mark ≡ true
 
-marked_own : (s : Store) (m : ℕ) → settle_answer s m ≡ Done → Marked (settle_leaves s m) m
+marked_own : (s : Store) (m : ℕ) → settle_answer s m ≡ Ok tt → Marked (settle_leaves s m) m
 marked_own s m e = rw (own_entry s.mst s.xrf m e)
 
 marked_kept : (s : Store) (m : ℕ) → 1 ≤ m → Marked s m → (k : ℕ) → Marked (settle_leaves s k) m
@@ -119,7 +119,7 @@ marked_kept s m lo h k =
     (λ r. rw r.1 h)
     (after_cases (settle_answer s k) (store (settled_mst s.mst (place_for s k)) (settled_xrf s.xrf k (place_for s k))) s)
   where
-    done : settle_answer s k ≡ Done → Dec (m ≡ k) → Marked (settle_leaves s k) m
+    done : settle_answer s k ≡ Ok tt → Dec (m ≡ k) → Marked (settle_leaves s k) m
     done d (yes z) = rw z (marked_own s k d)
     done d (no ne) = rw (other_entry s.mst s.xrf k d m lo ne) h
 
@@ -136,7 +136,7 @@ again s m between d =
 
 -- ---- lengths that are not permitted
 
-unpermitted_one : (s : Store) (m : ℕ) → lengths_permitted s ≡ false → (settle_answer s m ≡ BadLength) × (settle_leaves s m ≡ s)
+unpermitted_one : (s : Store) (m : ℕ) → lengths_permitted s ≡ false → (settle_answer s m ≡ Err BadLength) × (settle_leaves s m ≡ s)
 unfolding settle_answer settle_leaves after number_of
 unpermitted_one s m h = (rw h, rw h)
 
@@ -167,7 +167,7 @@ record One (s s' : Store) (m : ℕ) : Type 0 where
   -- every place stays where it is
   address : (k : ℕ) → 1 ≤ k → place_address (place_for s' k) ≡ place_address (place_for s k)
 
-done_one : (s : Store) (m : ℕ) → settle_answer s m ≡ Done → One s (settle_leaves s m) m
+done_one : (s : Store) (m : ℕ) → settle_answer s m ≡ Ok tt → One s (settle_leaves s m) m
 unfolding settled_mst settled_xrf
 done_one s m d =
     let o = (asked mst xrf m d).gate in
@@ -230,4 +230,4 @@ changes_only s (m ∷ ms) =
 
 pub settles_in_order : (s : Store) (ms : List ℕ) → SettlesInOrder s ms
 settles_in_order s ms =
-    record { in_order = in_order s ms; again = λ m. again s m ms; unpermitted = λ h. each_answers s BadLength (λ m. unpermitted_one s m h) ms; changes = changes_only s ms }
+    record { in_order = in_order s ms; again = λ m. again s m ms; unpermitted = λ h. each_answers s (Err BadLength) (λ m. unpermitted_one s m h) ms; changes = changes_only s ms }

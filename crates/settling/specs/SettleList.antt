@@ -2,9 +2,8 @@
 -- again here. Request C-13.
 use Rattle.std.specs.Prelude.{ℕ, Bool, not, ◌&&◌, List, [], ◌∷◌, map, eqb, leb, length}
 use Rattle.store.specs.Store.{Store}
-use Rattle.store.specs.Answer.{Refusal, refuse, lowest, number_of, after}
-use Rattle.store.specs.declared.answer.Answer.{Answer}
-use Rattle.store.specs.declared.answer.Answer.TheVariants.{NoRoomInList}
+use Rattle.store.specs.Answer.{Row, refuse, lowest, number_of, after, Answer}
+use Rattle.store.specs.declared.answer.Refusal.TheVariants.{NoRoomInList}
 use Rattle.writing.specs.Refusals.{settle_answer}
 use Rattle.writing.specs.Calls.{settle_leaves}
 
@@ -31,7 +30,7 @@ unfoldable pub lists_right : ℕ → ℕ → Bool
 lists_right mfns answers = eqb mfns answers && leb mfns list_most
 
 -- unequal or over-long lists: refusal 17; otherwise the call itself answers 0. It asks for the two lengths alone
-abbrev pub settle_list_refusals : ℕ → ℕ → List Refusal
+abbrev pub settle_list_refusals : ℕ → ℕ → List Row
 settle_list_refusals mfns answers = refuse NoRoomInList (not (lists_right mfns answers)) ∷ []
 
 unfoldable pub settle_list_answer : ℕ → ℕ → Answer

@@ -1,14 +1,14 @@
 -- What request C-13 says of the answers and the bytes of a list, as statements about single settles. Proved in proofs/Theorems.
+use Rattle.std.specs.Prelude.{Ok, Err}
 use Rattle.std.specs.Prelude.{ℕ, ◌+◌, ◌≤◌, ◌<◌, ◌≡◌, Bool, true, false, ◌||◌, List, [], ◌∷◌, eqb, length, get_or, take, replicate}
 use Rattle.layout.specs.Entry.{place_address}
 use Rattle.files.specs.CrossReference.{slot_at}
 use Rattle.files.specs.NamedBytes.{Within, BackByte}
 use Rattle.store.specs.Store.{Store}
-use Rattle.store.specs.Answer.{refuse, lowest}
+use Rattle.store.specs.Answer.{refuse, lowest, Answer}
 use Rattle.store.specs.Reading.{lengths_permitted, place_for}
 use Rattle.store.specs.Refusals.{gated, named, fine}
-use Rattle.store.specs.declared.answer.Answer.{Answer}
-use Rattle.store.specs.declared.answer.Answer.TheVariants.{Done, BadLength, NotPending}
+use Rattle.store.specs.declared.answer.Refusal.TheVariants.{BadLength, NotPending}
 use Rattle.writing.specs.Refusals.{settle_answer}
 use Rattle.writing.specs.Calls.{settle_leaves}
 use Rattle.settling.specs.SettleList.{settle_each_answers, settle_each_leaves}
@@ -18,7 +18,7 @@ pub record InOrder (s : Store) (ms : List ℕ) : Type 0 where
   -- an answer for each
   pub count : length (settle_each_answers s ms) ≡ length ms
   -- the one at i is the single call's, on what those before it left
-  pub answer : (i : ℕ) → i < length ms → get_or (settle_each_answers s ms) i Done ≡ settle_answer (settle_each_leaves s (take i ms)) (get_or ms i 0)
+  pub answer : (i : ℕ) → i < length ms → get_or (settle_each_answers s ms) i (Ok tt) ≡ settle_answer (settle_each_leaves s (take i ms)) (get_or ms i 0)
   -- which are the buffers as they were, then what each single call leaves, up to the last
   pub first : settle_each_leaves s (take 0 ms) ≡ s
   pub next : (i : ℕ) → i < length ms → settle_each_leaves s (take (i + 1) ms) ≡ settle_leaves (settle_each_leaves s (take i ms)) (get_or ms i 0)
@@ -27,7 +27,7 @@ pub record InOrder (s : Store) (ms : List ℕ) : Type 0 where
 -- the same MFN again after a 0, whatever was settled between: 10, unless an earlier check refuses it
 abbrev pub Again : Store → ℕ → List ℕ → Type 0
 Again s m between =
-    settle_answer s m ≡ Done
+    settle_answer s m ≡ Ok tt
     → settle_answer (settle_each_leaves (settle_leaves s m) between) m
     ≡ lowest
     (gated (settle_each_leaves (settle_leaves s m) between)
@@ -58,5 +58,5 @@ pub record SettlesInOrder (s : Store) (ms : List ℕ) : Type 0 where
   pub in_order : InOrder s ms
   pub again : (m : ℕ) → Again s m ms
   -- on buffers of a length that is not permitted every answer is 1
-  pub unpermitted : lengths_permitted s ≡ false → EachAnswers s ms BadLength
+  pub unpermitted : lengths_permitted s ≡ false → EachAnswers s ms (Err BadLength)
   pub changes : ChangesOnly s (settle_each_leaves s ms) ms

@@ -1,5 +1,6 @@
 -- What the check and the recount answer, by what the gate and the passes found: one law for each `return` of `sound_apart`, `count_live`, `check` and
 -- `recount`. That a tally with the walk's answer is whether every entry is sound is `walk_decides`.
+use Rattle.std.specs.Prelude.{Ok, Err}
 use Prim.Native.Nat.{ℕ, ◌+◌, ◌-◌, ◌≤◌}
 use native.Mathlib.Omega.{arith}
 use mathlib.Core.Path.{◌≡◌, refl, sym, ap, ◌∙◌}
@@ -12,11 +13,10 @@ use borrow.Author.Tests.{not-true, not-false}
 use Rattle.layout.specs.Sizes.{capacity_of}
 use Rattle.files.specs.Control.{next_of, end_of, count_is, count_most, with_count}
 use Rattle.layout.specs.declared.sizes.Mfn.{Mfn}
-use Rattle.store.specs.Answer.{number_of, refuse}
+use Rattle.store.specs.Answer.{number_of, refuse, Answer}
 use Rattle.store.specs.Reading.{lengths_permitted, control_fine, entry_for}
 use Rattle.store.specs.Gate.{gate_of, gate_answer}
-use Rattle.store.specs.declared.answer.Answer.{Answer}
-use Rattle.store.specs.declared.answer.Answer.TheVariants.{Done, BadLength, BadControl, NotSound}
+use Rattle.store.specs.declared.answer.Refusal.TheVariants.{BadLength, BadControl, NotSound}
 use Rattle.store.specs.declared.gate.Gate.{Gate}
 use Rattle.store.specs.declared.gate.Gate.TheVariants.{Open, Shut}
 use Rattle.store.proofs.Gates.{Refusing, done_number, after_done, after_refused, after_cases, refused_is, done_is, holds, gate_done, gate_shut, open_from, gate_open, opened, open_xrf}
@@ -122,15 +122,15 @@ module _ (mst xrf : List ℕ) (g : Gate) (e : g ≡ gate_of (store mst xrf)) whe
     q : a ≡ apart_of (store mst xrf)
     q = lent_as apart_of mst xrf a lent
 
-    recount_is : recount_answer (store mst xrf) ≡ cond (not (body_apart (store mst xrf))) NotSound Done
+    recount_is : recount_answer (store mst xrf) ≡ cond (not (body_apart (store mst xrf))) (Err NotSound) (Ok tt)
     unfolding recount_answer
     recount_is = let f = opened mst xrf g e next end h in rw (f.lengths, f.control)
 
-    pub counted_unsound : a ≡ Unsound → Refused NotSound ≡ counted_of (store mst xrf)
+    pub counted_unsound : a ≡ Unsound → Refused (Err NotSound) ≡ counted_of (store mst xrf)
     unfolding counted_of apart_of number_of
     counted_unsound n =
         let no = apart_none (body_apart (store mst xrf)) (live_count (store mst xrf)) (sym q ∙ n) in
-        refused_is (recount_answer (store mst xrf)) _ Refused NotSound (recount_is ∙ rw no) (λ z. omega arith)
+        refused_is (recount_answer (store mst xrf)) _ Refused (Err NotSound) (recount_is ∙ rw no) (λ z. omega arith)
 
     pub counted_live : (live : ℕ) → a ≡ Sound live → Live live ≡ counted_of (store mst xrf)
     unfolding counted_of apart_of
@@ -143,9 +143,9 @@ pub ruleset counted_answers = (whole_length, lent_open, counted_shut, counted_un
 -- ---- the check and the recount
 
 -- where what both ask is refused, the check is
-alike : (lengths control body right : Bool) → Refusing (cond (not lengths) BadLength (cond (not control) BadControl (cond (not body) NotSound Done)))
-    → cond (not lengths) BadLength (cond (not control) BadControl (cond (not (body && right)) NotSound Done))
-    ≡ cond (not lengths) BadLength (cond (not control) BadControl (cond (not body) NotSound Done))
+alike : (lengths control body right : Bool) → Refusing (cond (not lengths) (Err BadLength) (cond (not control) (Err BadControl) (cond (not body) (Err NotSound) (Ok tt))))
+    → cond (not lengths) (Err BadLength) (cond (not control) (Err BadControl) (cond (not (body && right)) (Err NotSound) (Ok tt)))
+    ≡ cond (not lengths) (Err BadLength) (cond (not control) (Err BadControl) (cond (not body) (Err NotSound) (Ok tt)))
 alike true true true right h = absurd (h done_number)
 alike true true false right h = refl
 alike true false body right h = refl
@@ -179,7 +179,7 @@ module _ (mst xrf : List ℕ) (c : Counted) (e : c ≡ counted_of (store mst xrf
       (q ∙ ap counted_answer h ∙ sym p.0, sym (after_refused (recount_answer (store mst xrf)) _ (store mst xrf) p.1))
 
   module _ (live : ℕ) (n : c ≡ Live live) where
-    parts : (recount_answer (store mst xrf) ≡ Done) × (live_count (store mst xrf) ≡ live)
+    parts : (recount_answer (store mst xrf) ≡ Ok tt) × (live_count (store mst xrf) ≡ live)
     unfolding counted_of
     parts =
         ⊎_elim
@@ -191,9 +191,9 @@ module _ (mst xrf : List ℕ) (c : Counted) (e : c ≡ counted_of (store mst xrf
     unfolding recount_answer number_of
     asked =
         let g = gate_done mst xrf _ parts.0 in
-        (g.0, g.1, (holds (body_apart (store mst xrf)) NotSound Done (λ z. omega arith) g.2).0)
+        (g.0, g.1, (holds (body_apart (store mst xrf)) (Err NotSound) (Ok tt) (λ z. omega arith) g.2).0)
 
-    check_is : check_answer (store mst xrf) ≡ cond (not (count_right (store mst xrf))) NotSound Done
+    check_is : check_answer (store mst xrf) ≡ cond (not (count_right (store mst xrf))) (Err NotSound) (Ok tt)
     unfolding check_answer body_sound
     check_is = rw (asked.0, asked.1, asked.2)
 
@@ -209,19 +209,19 @@ module _ (mst xrf : List ℕ) (c : Counted) (e : c ≡ counted_of (store mst xrf
       unfolding count_right
       right = rw parts.1 (sym w)
 
-      pub check_sound : b ≡ true → Done ≡ check_answer (store mst xrf)
+      pub check_sound : b ≡ true → (Ok tt) ≡ check_answer (store mst xrf)
       check_sound t = sym (check_is ∙ rw (right, t))
 
-      pub check_miscounted : b ≡ false → NotSound ≡ check_answer (store mst xrf)
+      pub check_miscounted : b ≡ false → (Err NotSound) ≡ check_answer (store mst xrf)
       check_miscounted t = sym (check_is ∙ rw (right, t))
 
-      pub recount_kept : b ≡ true → (Done ≡ recount_answer (store mst xrf)) × (store mst xrf ≡ recount_leaves (store mst xrf))
+      pub recount_kept : b ≡ true → ((Ok tt) ≡ recount_answer (store mst xrf)) × (store mst xrf ≡ recount_leaves (store mst xrf))
       unfolding recount_leaves recounted_mst
       recount_kept t =
           (sym parts.0, sym (after_done (recount_answer (store mst xrf)) _ (store mst xrf) parts.0 ∙ rw (parts.1, ← w, t)))
 
       pub recount_put : b ≡ false → (out : List ℕ) → out ≡ with_count mst (pos live)
-          → (Done ≡ recount_answer (store mst xrf)) × (store out xrf ≡ recount_leaves (store mst xrf))
+          → ((Ok tt) ≡ recount_answer (store mst xrf)) × (store out xrf ≡ recount_leaves (store mst xrf))
       unfolding recount_leaves recounted_mst
       recount_put t out o =
           (sym parts.0, sym (after_done (recount_answer (store mst xrf)) _ (store mst xrf) parts.0 ∙ rw (parts.1, ← w, t, o)))

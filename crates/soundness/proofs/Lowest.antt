@@ -5,7 +5,7 @@ use mathlib.Core.List.{[], ◌∷◌}
 use Rattle.store.specs.Store.{Store}
 use Rattle.store.specs.Answer.{number_of, refuse}
 use Rattle.store.specs.Refusals.{gated}
-use Rattle.store.specs.declared.answer.Answer.TheVariants.{NotSound}
+use Rattle.store.specs.declared.answer.Refusal.TheVariants.{NotSound}
 use Rattle.store.proofs.Lowest.{above, IsLowest, lowest_is_lowest}
 use Rattle.soundness.specs.Sound.{body_sound, check_answer}
 use Rattle.soundness.specs.Recount.{recount_refusals, recount_answer}

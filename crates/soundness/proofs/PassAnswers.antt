@@ -1,6 +1,7 @@
 -- What the functions of the steps and the passes return, by what their steps found. Each law's premises are what is known at one place of the code, so that
 -- `search` finds them there; a callee's result is a variable with what the callee ensures of it. The invariants of the two passes are records,
 -- with one law for each event: none yet, one more, and what the pass says at its end.
+use Rattle.std.specs.Prelude.{Ok, Err}
 use Prim.Native.Nat.{ℕ, ◌+◌, ◌*◌, ◌-◌, ◌≤◌, ◌<◌}
 use native.Mathlib.Omega.{arith}
 use mathlib.Core.Path.{◌≡◌, refl, sym, ap, ◌∙◌}
@@ -29,11 +30,10 @@ use Rattle.layout.specs.contracts.entry.Mark as mark
 use Rattle.word.proofs.Tests.{and_left}
 use Rattle.layout.proofs.Facts.{well_placed_facts}
 use Rattle.files.proofs.CrossReference.{entry_well_placed}
-use Rattle.store.specs.Answer.{number_of, after}
+use Rattle.store.specs.Answer.{number_of, after, Answer}
 use Rattle.store.specs.Reading.{mfn_in_range, entry_for, place_in, is_malformed, is_gone, is_changed, record_from, leader_at, back_address, record_fine, version_fine}
 use Rattle.store.specs.Gate.{gate_of, known_if, known_both, known_answer}
-use Rattle.store.specs.declared.answer.Answer.{Answer}
-use Rattle.store.specs.declared.answer.Answer.TheVariants.{Done, BadEntry, Gone as GoneAnswer, BadRecord}
+use Rattle.store.specs.declared.answer.Refusal.TheVariants.{BadEntry, Gone as GoneAnswer, BadRecord}
 use Rattle.store.specs.declared.gate.Gate.TheVariants.{Open}
 use Rattle.store.specs.declared.gate.Known.{Known}
 use Rattle.store.specs.declared.gate.Known.TheVariants.{Record, Refused}
@@ -138,9 +138,9 @@ refused_other a n e h = rw (← e, ne_eqb n 7 h)
 
 -- the record of a known MFN with its settled version, by the kind of entry
 known_entry : List ℕ → ℕ → Entry → Known
-known_entry mst m Gone = Refused GoneAnswer
-known_entry mst m Malformed = Refused BadEntry
-known_entry mst m (At p) = cond (record_fine mst m p && version_fine mst m p) (Record p (leader_at mst p)) (Refused BadRecord)
+known_entry mst m Gone = Refused (Err GoneAnswer)
+known_entry mst m Malformed = Refused (Err BadEntry)
+known_entry mst m (At p) = cond (record_fine mst m p && version_fine mst m p) (Record p (leader_at mst p)) (Refused (Err BadRecord))
 
 both_entry : (mst xrf : List ℕ) (m : ℕ) → mfn_in_range mst m ≡ true → known_both (store mst xrf) m ≡ known_entry mst m (entry_for (store mst xrf) m)
 unfolding known_both known_if after number_of known_entry
@@ -148,17 +148,17 @@ both_entry mst xrf m k = rw k (go (entry_for (store mst xrf) m))
   where
     refusal : Entry → Answer
     refusal e =
-        cond (is_malformed e) BadEntry
-        (cond (is_gone e) GoneAnswer
-        (cond (not (record_fine mst m (place_in e) && version_fine mst m (place_in e))) BadRecord Done))
+        cond (is_malformed e) (Err BadEntry)
+        (cond (is_gone e) (Err GoneAnswer)
+        (cond (not (record_fine mst m (place_in e) && version_fine mst m (place_in e))) (Err BadRecord) (Ok tt)))
 
     go : (e : Entry) → after (refusal e) (Record (place_in e) (leader_at mst (place_in e))) (Refused (refusal e)) ≡ known_entry mst m e
     go Gone = refl
     go Malformed = refl
     go (At p) = ok (record_fine mst m p && version_fine mst m p)
       where
-        ok : (b : Bool) → after (cond (not b) BadRecord Done) (Record p (leader_at mst p)) (Refused (cond (not b) BadRecord Done))
-            ≡ cond b (Record p (leader_at mst p)) (Refused BadRecord)
+        ok : (b : Bool) → after (cond (not b) (Err BadRecord) (Ok tt)) (Record p (leader_at mst p)) (Refused (cond (not b) (Err BadRecord) (Ok tt)))
+            ≡ cond b (Record p (leader_at mst p)) (Refused (Err BadRecord))
         ok true = refl
         ok false = refl
 
@@ -174,7 +174,7 @@ tally_entry mst m Malformed = refl
 tally_entry mst m (At p) = go (record_fine mst m p && version_fine mst m p) (is_changed p.mark) refl
   where
     go : (b t : Bool) → is_changed p.mark ≡ t
-        → tally_known (cond b (Record p (leader_at mst p)) (Refused BadRecord))
+        → tally_known (cond b (Record p (leader_at mst p)) (Refused (Err BadRecord)))
         ≡ cond b (Named (length (place_address p ∷ cond (is_changed p.mark) (back_address (leader_at mst p) ∷ []) [])) (bit (not p.deleted))) Wrong
     go true true c = rw c
     go true false c = rw c

@@ -1,4 +1,5 @@
 -- A recount: it is done exactly if the store is sound apart from RECCNT, the store is sound then, and no byte but those of RECCNT is changed.
+use Rattle.std.specs.Prelude.{Ok, Err}
 use Prim.Native.Nat.{ℕ, ◌-◌, ◌≤◌}
 use native.Mathlib.Omega.{arith}
 use mathlib.Core.Path.{◌≡◌, refl, sym, ap, ◌∙◌}
@@ -15,7 +16,7 @@ use Rattle.layout.specs.declared.entry.Entry.{Entry}
 use Rattle.store.specs.Store.{Store, store}
 use Rattle.store.specs.Answer.{number_of}
 use Rattle.store.specs.Reading.{entry_for}
-use Rattle.store.specs.declared.answer.Answer.TheVariants.{Done, NotSound}
+use Rattle.store.specs.declared.answer.Refusal.TheVariants.{NotSound}
 use Rattle.store.proofs.Gates.{after_done, after_cases, gate_done, holds}
 use Rattle.soundness.specs.Sound.{bit, is_live, live_count, body_apart, sound_apart, sound_of}
 use Rattle.soundness.specs.Recount.{recount_answer, recounted_mst, recount_leaves, Recounts}
@@ -36,15 +37,15 @@ module _ (mst xrf : List ℕ) where
   abbrev whole : Store
   whole = store mst xrf
 
-  recount_done : sound_apart whole ≡ true → recount_answer whole ≡ Done
+  recount_done : sound_apart whole ≡ true → recount_answer whole ≡ Ok tt
   unfolding sound_apart recount_answer
   recount_done e = let q = simp tests at e in rw (q.0.0, q.0.1, q.1)
 
-  recount_only : recount_answer whole ≡ Done → sound_apart whole ≡ true
+  recount_only : recount_answer whole ≡ Ok tt → sound_apart whole ≡ true
   unfolding sound_apart recount_answer number_of
   recount_only e =
       let g = gate_done mst xrf _ e in
-      let b = holds (body_apart whole) NotSound Done (λ z. omega arith) g.2 in
+      let b = holds (body_apart whole) (Err NotSound) (Ok tt) (λ z. omega arith) g.2 in
       simp tests ((g.0, g.1), b.0)
 
   -- what is written is right
@@ -88,17 +89,17 @@ module _ (mst xrf : List ℕ) where
         go false = count_length mst (pos (live_count whole)) (control_in s (pos 0))
 
   -- done or refused
-  pub recount_left : recount_answer whole ≡ Done → recount_leaves whole ≡ store (recounted_mst mst (live_count whole)) xrf
+  pub recount_left : recount_answer whole ≡ Ok tt → recount_leaves whole ≡ store (recounted_mst mst (live_count whole)) xrf
   unfolding recount_leaves
   recount_left e = after_done (recount_answer whole) (store (recounted_mst mst (live_count whole)) xrf) whole e
 
-  either : (P : Store → Type 0) → (recount_answer whole ≡ Done → P (store (recounted_mst mst (live_count whole)) xrf)) → P whole → P (recount_leaves whole)
+  either : (P : Store → Type 0) → (recount_answer whole ≡ Ok tt → P (store (recounted_mst mst (live_count whole)) xrf)) → P whole → P (recount_leaves whole)
   unfolding recount_leaves
   either P new old =
       ⊎_elim (λ d. rw d.1 (new d.0)) (λ r. rw r.1 old)
       (after_cases (recount_answer whole) (store (recounted_mst mst (live_count whole)) xrf) whole)
 
-  of_done : recount_answer whole ≡ Done → Sound mst xrf
+  of_done : recount_answer whole ≡ Ok tt → Sound mst xrf
   of_done e = apart_stands mst xrf (recount_only e)
 
   nothing_changed : sound_of whole ≡ true → recount_leaves whole ≡ whole

@@ -1,6 +1,7 @@
 -- A sound store as facts. `sound_of` is a chain of tests; `stands` turns it into a record of what each test says, `sound` turns the record back,
 -- and laws about sound stores speak of the record alone. From it follows what a call asks on a sound store: control record, entry and record
 -- are never wrong there, so that answers 2, 6, 8 and 14 do not come.
+use Rattle.std.specs.Prelude.{Err}
 use Prim.Native.Nat.{ℕ, ◌+◌, ◌-◌, ◌/◌, ◌≤◌, ◌<◌}
 use native.Mathlib.Omega.{arith}
 use mathlib.Core.Path.{◌≡◌, refl, sym}
@@ -25,11 +26,10 @@ use Rattle.layout.specs.declared.entry.Entry.TheVariants.{Gone, Malformed, At}
 use Rattle.word.proofs.Tests.{tests, false_true}
 use Rattle.files.proofs.ControlRecord.{ControlFacts, control_facts}
 use Rattle.files.proofs.CrossReference.{block_in}
-use Rattle.store.specs.Answer.{Refusal, refuse, lowest}
+use Rattle.store.specs.Answer.{Row, refuse, lowest, Answer}
 use Rattle.store.specs.Reading.{lengths_permitted, control_fine, mfn_in_range, entry_for, place_for, is_malformed, is_gone, is_changed, leader_at, back_address, record_fine, settled_fine, version_fine}
 use Rattle.store.specs.Refusals.{gated, named, fine, both_fine}
-use Rattle.store.specs.declared.answer.Answer.{Answer}
-use Rattle.store.specs.declared.answer.Answer.TheVariants.{NoMfn, BadEntry, Gone as GoneAnswer, BadRecord}
+use Rattle.store.specs.declared.answer.Refusal.TheVariants.{NoMfn, BadEntry, Gone as GoneAnswer, BadRecord}
 use Rattle.store.proofs.Gates.{LengthsFacts, lengths_facts, mfn_facts}
 use Rattle.soundness.proofs.Counting.{all_to_at, all_to_all}
 use Rattle.soundness.specs.Sound.{all_to, elem, implies, heads_right, rest_free, steps, arrives, place_sound, entry_sound, entries_sound, live_count, count_right, body_apart, body_sound, sound_apart, sound_of}
@@ -208,8 +208,8 @@ at_stands {mst} {xrf} s m p low high e = go (s.entries m low high)
 
 -- 4, 6, 7 and 8, where 6 never comes of a known MFN, and 8 never of one that is not gone
 named_rows : (known malformed gone right : Bool) (rest : Answer) → (known ≡ true → malformed ≡ false) → (known ≡ true → gone ≡ false → right ≡ true)
-    → cond (not known) NoMfn (cond malformed BadEntry (cond gone GoneAnswer (cond (not right) BadRecord rest)))
-    ≡ cond (not known) NoMfn (cond gone GoneAnswer rest)
+    → cond (not known) (Err NoMfn) (cond malformed (Err BadEntry) (cond gone (Err GoneAnswer) (cond (not right) (Err BadRecord) rest)))
+    ≡ cond (not known) (Err NoMfn) (cond gone (Err GoneAnswer) rest)
 named_rows true malformed true right rest a b = rw (a refl)
 named_rows true malformed false right rest a b = rw (a refl, b refl refl)
 named_rows false malformed gone right rest a b = refl
@@ -224,7 +224,7 @@ version_fine_lem mst m p s = go (is_changed p.mark) refl
 
 module _ {mst xrf : List ℕ} (s : Sound mst xrf) where
   -- 1 and 2
-  pub gated_sound : (rest : List Refusal) → lowest (gated (store mst xrf) rest) ≡ lowest rest
+  pub gated_sound : (rest : List Row) → lowest (gated (store mst xrf) rest) ≡ lowest rest
   gated_sound rest = rw (s.lengths, s.control)
 
   module _ (m : ℕ) where
@@ -263,12 +263,12 @@ module _ {mst xrf : List ℕ} (s : Sound mst xrf) where
         pub both_fine_sound : both_fine (store mst xrf) m ≡ true
         both_fine_sound = simp tests (place_for_stands.fine, version_fine_lem mst m (place_for (store mst xrf) m) place_for_stands)
 
-    pub named_fine : (rest : List Refusal) → lowest (named (store mst xrf) m (fine (store mst xrf) m) rest)
+    pub named_fine : (rest : List Row) → lowest (named (store mst xrf) m (fine (store mst xrf) m) rest)
         ≡ lowest (refuse NoMfn (not (mfn_in_range mst m)) ∷ refuse GoneAnswer (is_gone (entry_for (store mst xrf) m)) ∷ rest)
     named_fine rest =
         named_rows (mfn_in_range mst m) (is_malformed (entry_for (store mst xrf) m)) (is_gone (entry_for (store mst xrf) m)) (fine (store mst xrf) m) (lowest rest) not_malformed fine_sound
 
-    pub named_both : (rest : List Refusal) → lowest (named (store mst xrf) m (both_fine (store mst xrf) m) rest)
+    pub named_both : (rest : List Row) → lowest (named (store mst xrf) m (both_fine (store mst xrf) m) rest)
         ≡ lowest (refuse NoMfn (not (mfn_in_range mst m)) ∷ refuse GoneAnswer (is_gone (entry_for (store mst xrf) m)) ∷ rest)
     named_both rest =
         named_rows (mfn_in_range mst m) (is_malformed (entry_for (store mst xrf) m)) (is_gone (entry_for (store mst xrf) m)) (both_fine (store mst xrf) m) (lowest rest) not_malformed both_fine_sound

@@ -1,5 +1,6 @@
 -- THE THEOREM: of a sound store, a call but format that is done touches only what belongs to its MFN, new bytes at the end and the control
 -- integers named. What each call leaves is told by `Leaves`, which has it; what a settle and a revert leave alone besides is read off their writes.
+use Rattle.std.specs.Prelude.{Ok}
 use Prim.Native.Nat.{ℕ, ◌+◌, ◌≤◌}
 use native.Mathlib.Omega.{arith}
 use mathlib.Core.Path.{◌≡◌, refl}
@@ -20,7 +21,6 @@ use Rattle.drafts.proofs.Draftable.{draft_draftable}
 use Rattle.store.specs.Store.{Store, store}
 use Rattle.drafts.specs.Draft.{Draft, fields_in}
 use Rattle.store.specs.Reading.{place_for, is_settled, leader_at, current_fields}
-use Rattle.store.specs.declared.answer.Answer.TheVariants.{Done}
 use Rattle.store.proofs.Gates.{MfnFacts, mfn_facts, after_done}
 use Rattle.writing.specs.Refusals.{create_answer, update_answer, delete_answer, settle_answer, revert_answer}
 use Rattle.versions.specs.Written.{update_appends, created_mst, created_xrf, updated_mst, updated_xrf, deleted_mst, deleted_xrf, settled_mst, settled_xrf, reverted_mst, reverted_xrf}
@@ -36,7 +36,7 @@ module _ {mst xrf : List ℕ} (s : Sound mst xrf) where
   abbrev whole : Store
   whole = store mst xrf
 
-  create_touches : (d : Draft) → create_answer whole d ≡ Done → TouchesOnly whole (create_leaves whole d) (next_of mst)
+  create_touches : (d : Draft) → create_answer whole d ≡ Ok tt → TouchesOnly whole (create_leaves whole d) (next_of mst)
   unfolding create_leaves
   create_touches d e =
       let a : CreateAsked mst xrf d = create_asked s d e in
@@ -47,7 +47,7 @@ module _ {mst xrf : List ℕ} (s : Sound mst xrf) where
     abbrev p : Place
     p = place_for whole m
 
-    update_touches : (d : Draft) → update_answer whole m d ≡ Done → TouchesOnly whole (update_leaves whole m d) m
+    update_touches : (d : Draft) → update_answer whole m d ≡ Ok tt → TouchesOnly whole (update_leaves whole m d) m
     unfolding update_leaves
     update_touches d e =
         rw (after_done (update_answer whole m d) (store (updated_mst mst m p (fields_in d)) (updated_xrf mst xrf m p (fields_in d))) whole e)
@@ -66,7 +66,7 @@ module _ {mst xrf : List ℕ} (s : Sound mst xrf) where
             let r : MfnFacts mst m = mfn_facts mst m a.here.known in
             (update_stays s m p r.low r.high a.here.entry a.live (fields_in d) (draft_draftable d.tags d.lens d.bytes a.draft) h).touches
 
-    delete_touches : delete_answer whole m ≡ Done → TouchesOnly whole (delete_leaves whole m) m
+    delete_touches : delete_answer whole m ≡ Ok tt → TouchesOnly whole (delete_leaves whole m) m
     unfolding delete_leaves
     delete_touches e =
         rw (after_done (delete_answer whole m) (store (deleted_mst mst m p (current_fields mst p)) (deleted_xrf mst xrf m p)) whole e) (go (is_settled p.mark) refl)
@@ -79,7 +79,7 @@ module _ {mst xrf : List ℕ} (s : Sound mst xrf) where
         go false h = let r : MfnFacts mst m = mfn_facts mst m a.here.known in (delete_stays s m p r.low r.high a.here.entry a.live h).touches
 
     -- a settle
-    module _ (e : settle_answer whole m ≡ Done) where
+    module _ (e : settle_answer whole m ≡ Ok tt) where
       settle_is : settle_leaves whole m ≡ store (settled_mst mst p) (settled_xrf xrf m p)
       unfolding settle_leaves
       settle_is = after_done (settle_answer whole m) (store (settled_mst mst p) (settled_xrf xrf m p)) whole e
@@ -113,7 +113,7 @@ module _ {mst xrf : List ℕ} (s : Sound mst xrf) where
           })
 
     -- a revert
-    module _ (e : revert_answer whole m ≡ Done) where
+    module _ (e : revert_answer whole m ≡ Ok tt) where
       revert_is : revert_leaves whole m ≡ store (reverted_mst mst p) (reverted_xrf mst xrf m p)
       unfolding revert_leaves
       revert_is = after_done (revert_answer whole m) (store (reverted_mst mst p) (reverted_xrf mst xrf m p)) whole e

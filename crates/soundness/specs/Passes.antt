@@ -1,6 +1,7 @@
 -- Inner: serves the functions of the check, no part of what is promised. What the passes of the check find. Each entry names a place, and under
 -- the changed mark a back place. The first pass over the MFNs asks all of an entry but whether these are steps, and counts them; the second walks
 -- the steps, and counts those that the entry of the MFN written there names. That the two counts agree exactly if every entry names steps only is a law (proofs/Deciding.antt), and no part of what is promised.
+use Rattle.std.specs.Prelude.{Ok}
 use Rattle.std.specs.Prelude.{ℕ, ◌+◌, ◌-◌, ◌≤◌, ◌≡◌, Bool, true, false, ◌&&◌, cond, List, [], ◌∷◌, eqb, length}
 use Rattle.layout.specs.Entry.{place_address}
 use Rattle.files.specs.Control.{next_of, end_of}
@@ -11,10 +12,8 @@ use Rattle.layout.specs.declared.entry.Place.{Place}
 use Rattle.layout.specs.declared.entry.Entry.{Entry}
 use Rattle.layout.specs.declared.entry.Entry.TheVariants.{Gone, Malformed, At}
 use Rattle.store.specs.Store.{Store}
-use Rattle.store.specs.Answer.{number_of, after}
+use Rattle.store.specs.Answer.{number_of, after, Answer}
 use Rattle.store.specs.Reading.{mfn_in_range, entry_for, is_changed, record_from, leader_at, back_address, record_fine, version_fine}
-use Rattle.store.specs.declared.answer.Answer.{Answer}
-use Rattle.store.specs.declared.answer.Answer.TheVariants.{Done}
 use Rattle.soundness.specs.Sound.{bit, sum_to, all_to, elem, steps, arrives, is_live, live_count, body_apart}
 use Rattle.soundness.specs.Recount.{recount_answer}
 use Rattle.soundness.specs.declared.passes.Tally.{Tally}
@@ -77,7 +76,7 @@ unfoldable pub counted_of : Store → Counted
 counted_of s = after (recount_answer s) (Live (live_count s)) (Refused (recount_answer s))
 
 abbrev pub counted_answer : Counted → Answer
-counted_answer (Live n) = Done
+counted_answer (Live n) = (Ok tt)
 counted_answer (Refused a) = a
 
 -- ---- the second pass

@@ -1,16 +1,16 @@
 -- What a recount answers and leaves, and what holds after it. Request C-17: for older cards one new call writes RECCNT.
+use Rattle.std.specs.Prelude.{Ok}
 use Rattle.std.specs.Prelude.{ℕ, ◌≡◌, true, not, cond, List, [], ◌∷◌, pos, length, get_or}
 use Rattle.files.specs.Control.{count_of, count_is, with_count}
 use Rattle.files.specs.NamedBytes.{CountByte}
 use Rattle.store.specs.Store.{Store, store}
-use Rattle.store.specs.Answer.{Refusal, refuse, lowest, after}
+use Rattle.store.specs.Answer.{Row, refuse, lowest, after, Answer}
 use Rattle.store.specs.Refusals.{gated}
-use Rattle.store.specs.declared.answer.Answer.{Answer}
-use Rattle.store.specs.declared.answer.Answer.TheVariants.{Done, NotSound}
+use Rattle.store.specs.declared.answer.Refusal.TheVariants.{NotSound}
 use Rattle.soundness.specs.Sound.{live_count, body_apart, sound_apart, sound_of}
 
 -- 0, 1, 2, or 14 if the store is not sound apart from RECCNT, whatever that holds
-abbrev pub recount_refusals : Store → List Refusal
+abbrev pub recount_refusals : Store → List Row
 recount_refusals s = gated s (refuse NotSound (not (body_apart s)) ∷ [])
 
 unfoldable pub recount_answer : Store → Answer
@@ -26,11 +26,11 @@ recount_leaves s = after (recount_answer s) (store (recounted_mst s.mst (live_co
 -- THE CLAIM, of any two buffers
 pub record Recounts (s : Store) : Type 0 where
   -- it is done exactly if the store is sound apart from RECCNT
-  pub done : sound_apart s ≡ true → recount_answer s ≡ Done
-  pub only : recount_answer s ≡ Done → sound_apart s ≡ true
+  pub done : sound_apart s ≡ true → recount_answer s ≡ Ok tt
+  pub only : recount_answer s ≡ Ok tt → sound_apart s ≡ true
   -- the store is sound then, and RECCNT is the number of live entries that there were
-  pub sound : recount_answer s ≡ Done → sound_of (recount_leaves s) ≡ true
-  pub count : recount_answer s ≡ Done → count_of (recount_leaves s).mst ≡ pos (live_count s)
+  pub sound : recount_answer s ≡ Ok tt → sound_of (recount_leaves s) ≡ true
+  pub count : recount_answer s ≡ Ok tt → count_of (recount_leaves s).mst ≡ pos (live_count s)
   -- no byte but those of RECCNT is changed
   pub long : length (recount_leaves s).mst ≡ length s.mst
   pub kept : (i : ℕ) → (CountByte i → ⊥) → get_or (recount_leaves s).mst i 0 ≡ get_or s.mst i 0

@@ -9,11 +9,10 @@ use Rattle.layout.specs.declared.entry.Place.{Place}
 use Rattle.layout.specs.declared.entry.Entry.{Entry}
 use Rattle.layout.specs.declared.entry.Entry.TheVariants.{Gone, Malformed, At}
 use Rattle.store.specs.Store.{Store}
-use Rattle.store.specs.Answer.{refuse, lowest}
+use Rattle.store.specs.Answer.{refuse, lowest, Answer}
 use Rattle.store.specs.Reading.{lengths_permitted, control_fine, entry_for, is_changed, record_from, leader_at, back_address, record_fine, settled_fine}
 use Rattle.store.specs.Refusals.{gated}
-use Rattle.store.specs.declared.answer.Answer.{Answer}
-use Rattle.store.specs.declared.answer.Answer.TheVariants.{NotSound}
+use Rattle.store.specs.declared.answer.Refusal.TheVariants.{NotSound}
 
 -- each of 1 to n passes
 unfoldable pub all_to : ℕ → (ℕ → Bool) → Bool

@@ -1,5 +1,6 @@
 -- What a call may touch. Document 01, "A sound store": an accepted call, other than format, touches only this MFN's entry, its record, new bytes
 -- at the end and the control integers named above.
+use Rattle.std.specs.Prelude.{Ok}
 use Rattle.std.specs.Prelude.{ℕ, ◌≤◌, ◌<◌, ◌≡◌, true, false, length, get_or}
 use Rattle.layout.specs.Entry.{place_address}
 use Rattle.files.specs.CrossReference.{slot_at}
@@ -10,7 +11,6 @@ use Rattle.layout.specs.declared.entry.Entry.TheVariants.{At}
 use Rattle.store.specs.Store.{Store}
 use Rattle.drafts.specs.Draft.{Draft}
 use Rattle.store.specs.Reading.{entry_for, place_for, leader_at}
-use Rattle.store.specs.declared.answer.Answer.TheVariants.{Done}
 use Rattle.writing.specs.Refusals.{create_answer, update_answer, delete_answer, settle_answer, revert_answer}
 use Rattle.writing.specs.Calls.{create_leaves, update_leaves, delete_leaves, settle_leaves, revert_leaves}
 
@@ -37,11 +37,11 @@ TouchesOnly s s' m = Changes s s' m (MayChange s s' m)
 -- THE CLAIM: every call but format that is done. A settle changes no byte of the MST but its record's back pointer, a revert
 -- none but RECCNT where it brings a deleted record back (request C-17), else none
 pub record CallsTouchOnly (s : Store) : Type 0 where
-  pub create : (d : Draft) → create_answer s d ≡ Done → TouchesOnly s (create_leaves s d) (next_of s.mst)
-  pub update : (m : ℕ) (d : Draft) → update_answer s m d ≡ Done → TouchesOnly s (update_leaves s m d) m
-  pub delete : (m : ℕ) → delete_answer s m ≡ Done → TouchesOnly s (delete_leaves s m) m
-  pub settle : (m : ℕ) → settle_answer s m ≡ Done → TouchesOnly s (settle_leaves s m) m
-  pub revert : (m : ℕ) → revert_answer s m ≡ Done → TouchesOnly s (revert_leaves s m) m
-  pub settle_pointer : (m : ℕ) → settle_answer s m ≡ Done → Changes s (settle_leaves s m) m (BackByte (place_address (place_for s m)))
-  pub revert_deleted : (m : ℕ) → revert_answer s m ≡ Done → (place_for s m).deleted ≡ true → Changes s (revert_leaves s m) m CountByte
-  pub revert_nothing : (m : ℕ) → revert_answer s m ≡ Done → (place_for s m).deleted ≡ false → Changes s (revert_leaves s m) m NoByte
+  pub create : (d : Draft) → create_answer s d ≡ Ok tt → TouchesOnly s (create_leaves s d) (next_of s.mst)
+  pub update : (m : ℕ) (d : Draft) → update_answer s m d ≡ Ok tt → TouchesOnly s (update_leaves s m d) m
+  pub delete : (m : ℕ) → delete_answer s m ≡ Ok tt → TouchesOnly s (delete_leaves s m) m
+  pub settle : (m : ℕ) → settle_answer s m ≡ Ok tt → TouchesOnly s (settle_leaves s m) m
+  pub revert : (m : ℕ) → revert_answer s m ≡ Ok tt → TouchesOnly s (revert_leaves s m) m
+  pub settle_pointer : (m : ℕ) → settle_answer s m ≡ Ok tt → Changes s (settle_leaves s m) m (BackByte (place_address (place_for s m)))
+  pub revert_deleted : (m : ℕ) → revert_answer s m ≡ Ok tt → (place_for s m).deleted ≡ true → Changes s (revert_leaves s m) m CountByte
+  pub revert_nothing : (m : ℕ) → revert_answer s m ≡ Ok tt → (place_for s m).deleted ≡ false → Changes s (revert_leaves s m) m NoByte

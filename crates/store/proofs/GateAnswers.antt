@@ -1,5 +1,6 @@
 -- What the functions of the gate return, by what their steps found. Each law's premises are what is known at one place of the code, so that
 -- `search gate_answers` finds them there; a callee's result is a variable with what the callee ensures of it.
+use Rattle.std.specs.Prelude.{Ok, Err}
 use Prim.Native.Nat.{ℕ, ◌-◌, ◌≤◌, ◌<◌}
 use native.Mathlib.Omega.{arith}
 use mathlib.Core.Path.{◌≡◌, refl, sym, ap, ◌∙◌}
@@ -35,11 +36,10 @@ use Rattle.record.specs.Inner.{test_of}
 use Rattle.record.specs.declared.test.Tested.{Tested}
 use Rattle.record.specs.declared.test.Tested.TheVariants.{WellFormed, Broken}
 use Rattle.record.proofs.Facts.{test_right, test_broken}
-use Rattle.store.specs.Answer.{number_of, after}
+use Rattle.store.specs.Answer.{number_of, after, Answer}
 use Rattle.store.specs.Reading.{lengths_permitted, control_fine, mfn_in_range, place_in, is_malformed, is_gone, is_changed, record_at, leader_at, back_address, back_fine, record_fine, settled_fine, version_fine}
 use Rattle.store.specs.Gate.{entry_answer, place_known, settled_from, gate_of, known_if, known_of, known_both}
-use Rattle.store.specs.declared.answer.Answer.{Answer}
-use Rattle.store.specs.declared.answer.Answer.TheVariants.{Done, BadLength, BadControl, NoMfn, BadEntry, Gone as GoneAnswer, BadRecord}
+use Rattle.store.specs.declared.answer.Refusal.TheVariants.{BadLength, BadControl, NoMfn, BadEntry, Gone as GoneAnswer, BadRecord}
 use Rattle.store.specs.declared.gate.Gate.TheVariants.{Open, Shut}
 use Rattle.store.specs.declared.gate.Known.{Known}
 use Rattle.store.specs.declared.gate.Known.TheVariants.{Record, Refused}
@@ -59,7 +59,7 @@ module _ (mst xrf : List ℕ) where
     lengths_rest r h s = rw (s, ← e, not-false w h)
 
   module _ (w : Bool) (e : w ≡ lengths_permitted (store mst xrf)) where
-    pub gate_lengths : not w ≡ true → Shut BadLength ≡ gate_of (store mst xrf)
+    pub gate_lengths : not w ≡ true → Shut (Err BadLength) ≡ gate_of (store mst xrf)
     unfolding gate_of after number_of
     gate_lengths h = rw (← e, not-true w h)
 
@@ -71,7 +71,7 @@ module _ (mst xrf : List ℕ) where
       read : control_of mst (capacity_of (length xrf)) ≡ k
       read = ap (control_of mst) (sym s) ∙ sym u
 
-      pub gate_wrong : k ≡ Wrong → Shut BadControl ≡ gate_of (store mst xrf)
+      pub gate_wrong : k ≡ Wrong → Shut (Err BadControl) ≡ gate_of (store mst xrf)
       unfolding control_of gate_of after number_of
       gate_wrong v =
           let q : control_fine (store mst xrf) ≡ false = control_wrong (control_fine (store mst xrf)) (record { 0 = next_of mst }) (end_of mst) (read ∙ v) in
@@ -123,7 +123,7 @@ module _ (mst : List ℕ) (end m : ℕ) (p : Place) (h : end ≡ end_of mst) (at
   tested : test_of (record_at mst p) m p.deleted ≡ t
   tested = rw (← h, ← a, x)
 
-  pub place_broken : (n : ℕ) → t ≡ Broken n → Refused BadRecord ≡ place_known mst m p
+  pub place_broken : (n : ℕ) → t ≡ Broken n → Refused (Err BadRecord) ≡ place_known mst m p
   unfolding place_known
   place_broken n b = rw (fine_both mst m p, (test_broken (record_at mst p) m p.deleted n (tested ∙ b)).0)
 
@@ -131,7 +131,7 @@ module _ (mst : List ℕ) (end m : ℕ) (p : Place) (h : end ≡ end_of mst) (at
     back_is : back_fine (end_of mst) p (leader_at mst p) ≡ w
     back_is = let q = test_right (record_at mst p) m p.deleted l (tested ∙ g) in rw (q.1, ← h, b)
 
-    pub place_back : not w ≡ true → Refused BadRecord ≡ place_known mst m p
+    pub place_back : not w ≡ true → Refused (Err BadRecord) ≡ place_known mst m p
     unfolding place_known
     place_back n = rw (fine_both mst m p, back_is, not-true w n, and-false)
 
@@ -143,14 +143,14 @@ module _ (mst : List ℕ) (end m : ℕ) (p : Place) (h : end ≡ end_of mst) (at
 
 -- ---- the record of an MFN
 
-fine_cond : (b : Bool) (k : Known) → cond b k (Refused BadRecord) ≡ after (cond (not b) BadRecord Done) k (Refused (cond (not b) BadRecord Done))
+fine_cond : (b : Bool) (k : Known) → cond b k (Refused (Err BadRecord)) ≡ after (cond (not b) (Err BadRecord) (Ok tt)) k (Refused (cond (not b) (Err BadRecord) (Ok tt)))
 unfolding after number_of
 fine_cond true k = refl
 fine_cond false k = refl
 
 -- 6 and 7
 abbrev entry_list : Entry → Bool → Answer
-entry_list e ok = cond (is_malformed e) BadEntry (cond (is_gone e) GoneAnswer (cond (not ok) BadRecord Done))
+entry_list e ok = cond (is_malformed e) (Err BadEntry) (cond (is_gone e) (Err GoneAnswer) (cond (not ok) (Err BadRecord) (Ok tt)))
 
 no_place : (e : Entry) (ok : Bool) (k : Known) → ((p : Place) → e ≡ At p → ⊥)
     → Refused (entry_answer e) ≡ after (entry_list e ok) k (Refused (entry_list e ok))
@@ -160,12 +160,12 @@ no_place Malformed ok k o = refl
 no_place (At p) ok k o = absurd (o p refl)
 
 module _ (mst xrf : List ℕ) (m : ℕ) where
-  pub record_low : m < 1 → Refused NoMfn ≡ known_of (store mst xrf) m
+  pub record_low : m < 1 → Refused (Err NoMfn) ≡ known_of (store mst xrf) m
   unfolding known_of known_if mfn_in_range after number_of
   record_low h = rw (lt-leb 1 m h)
 
   module _ (next : Mfn) (end : ℕ) (g : gate_of (store mst xrf) ≡ Open next end) where
-    pub record_high : next.0 ≤ m → Refused NoMfn ≡ known_of (store mst xrf) m
+    pub record_high : next.0 ≤ m → Refused (Err NoMfn) ≡ known_of (store mst xrf) m
     unfolding known_of known_if mfn_in_range after number_of
     record_high h =
         let f = gate_open mst xrf next end g in
@@ -236,7 +236,7 @@ module _ (mst xrf : List ℕ) (m : ℕ) (k : Known) (e : k ≡ known_of (store m
           unfolding version_fine settled_from
           version_is = rw (settled_both mst m p, c, ← facts.leader_is, ← h, ← a, s)
 
-          pub both_broken : w ≡ false → Refused BadRecord ≡ known_both (store mst xrf) m
+          pub both_broken : w ≡ false → Refused (Err BadRecord) ≡ known_both (store mst xrf) m
           unfolding known_both known_if after number_of
           both_broken n = rw (facts.known, facts.entry, facts.record_fine_lem, version_is, n)
 

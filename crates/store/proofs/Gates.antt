@@ -1,5 +1,6 @@
 -- What every call asks first, as facts: an open gate, a record that was found, and a record with its settled version each give a record of
 -- facts, and a refusal gives the answer of the whole call, whatever the refusals after it. Callers read these and never the tests.
+use Rattle.std.specs.Prelude.{Result, Ok, Err}
 use Prim.Native.Nat.{ℕ, ◌+◌, ◌-◌, ◌%◌, ◌≤◌, ◌<◌}
 use native.Mathlib.Omega.{arith}
 use mathlib.Core.Path.{◌≡◌, refl, sym, ap, ◌∙◌}
@@ -30,41 +31,42 @@ use Rattle.record.specs.Record.{record_right, no_back, back_right, Readable}
 use Rattle.record.specs.Fields.{fields_of}
 use Rattle.record.proofs.Local.{ReadsAs, right_reads}
 use Rattle.record.proofs.Facts.{LeaderFacts, well_formed_both, right_facts, right_readable, NoBackFacts, no_back_facts}
-use Rattle.store.specs.Answer.{number_of, Refusal, lowest, after}
+use Rattle.store.specs.Answer.{refusal_number, number_of, Row, lowest, after, give, Answer}
 use Rattle.store.specs.Reading.{lengths_permitted, control_fine, mfn_in_range, entry_for, place_in, place_for, is_malformed, is_gone, is_changed, record_at, leader_at, back_address, back_fine, record_fine, settled_record, settled_fine, version_fine, current_fields}
 use Rattle.store.specs.Refusals.{gated, named, fine, both_fine}
-use Rattle.store.specs.Gate.{gate_of, known_if, known_of, known_both}
-use Rattle.store.specs.declared.answer.Answer.{Answer}
-use Rattle.store.specs.declared.answer.Answer.TheVariants.{Done, BadLength, BadControl, BadDraft, NoMfn, NoSlot, BadEntry, Gone as GoneAnswer, BadRecord, Deleted, NotPending, NeverSettled, NoField, NoRoom, NotSound, FewerFields, NoRoomInList}
-use Rattle.store.specs.declared.gate.Gate.{Gate}
-use Rattle.store.specs.declared.gate.Gate.TheVariants.{Open, Shut}
-use Rattle.store.specs.declared.gate.Known.{Known}
-use Rattle.store.specs.declared.gate.Known.TheVariants.{Record, Refused}
+use Rattle.store.specs.Gate.{control, found, gate_of, known_if, known_of, known_both}
+use Rattle.store.specs.declared.answer.Refusal.TheVariants.{BadLength, BadControl, BadDraft, NoMfn, NoSlot, BadEntry, Gone as GoneRefusal, BadRecord, Deleted, NotPending, NeverSettled, NoField, NoRoom, NotSound, FewerFields, NoRoomInList}
+use Rattle.store.specs.declared.answer.Refusal.{Refusal}
+use Rattle.files.specs.declared.control.Control.{Control}
+use Rattle.store.specs.declared.gate.Record.{Record}
 use Rattle.store.specs.Store.{store}
 
 -- ---- answers
 
-pub number_done : (a : Answer) → number_of a ≡ 0 → a ≡ Done
-unfolding number_of
-number_done Done e = refl
-number_done BadLength e = absurd (omega arith)
-number_done BadControl e = absurd (omega arith)
-number_done BadDraft e = absurd (omega arith)
-number_done NoMfn e = absurd (omega arith)
-number_done NoSlot e = absurd (omega arith)
-number_done BadEntry e = absurd (omega arith)
-number_done GoneAnswer e = absurd (omega arith)
-number_done BadRecord e = absurd (omega arith)
-number_done Deleted e = absurd (omega arith)
-number_done NotPending e = absurd (omega arith)
-number_done NeverSettled e = absurd (omega arith)
-number_done NoField e = absurd (omega arith)
-number_done NoRoom e = absurd (omega arith)
-number_done NotSound e = absurd (omega arith)
-number_done FewerFields e = absurd (omega arith)
-number_done NoRoomInList e = absurd (omega arith)
+refusal_number-positive : (r : Refusal) → refusal_number r ≡ 0 → ⊥
+refusal_number-positive BadLength e = omega arith
+refusal_number-positive BadControl e = omega arith
+refusal_number-positive BadDraft e = omega arith
+refusal_number-positive NoMfn e = omega arith
+refusal_number-positive NoSlot e = omega arith
+refusal_number-positive BadEntry e = omega arith
+refusal_number-positive GoneRefusal e = omega arith
+refusal_number-positive BadRecord e = omega arith
+refusal_number-positive Deleted e = omega arith
+refusal_number-positive NotPending e = omega arith
+refusal_number-positive NeverSettled e = omega arith
+refusal_number-positive NoField e = omega arith
+refusal_number-positive NoRoom e = omega arith
+refusal_number-positive NotSound e = omega arith
+refusal_number-positive (FewerFields n) e = omega arith
+refusal_number-positive NoRoomInList e = omega arith
 
-pub done_number : number_of Done ≡ 0
+pub number_done : (a : Answer) → number_of a ≡ 0 → a ≡ Ok tt
+unfolding number_of
+number_done (Ok tt) e = refl
+number_done (Err r) e = absurd (refusal_number-positive r e)
+
+pub done_number : number_of (Ok tt) ≡ 0
 unfolding number_of
 done_number = refl
 
@@ -72,94 +74,108 @@ done_number = refl
 abbrev pub Refusing : Answer → Type 0
 Refusing a = number_of a ≡ 0 → ⊥
 
-pub refusing_not_done : (a : Answer) → Refusing a → a ≡ Done → ⊥
+pub refusing : (r : Refusal) → Refusing (Err r)
+unfolding number_of
+refusing r = refusal_number-positive r
+
+pub refusing_not_done : (a : Answer) → Refusing a → a ≡ Ok tt → ⊥
 refusing_not_done a h e = h (ap number_of e ∙ done_number)
 
 -- what holds after a call that is done, and after one that is refused
-pub after_done : {A : Type 0} (a : Answer) (new old : A) → a ≡ Done → after a new old ≡ new
-unfolding after number_of
+pub after_done : {A : Type 0} (a : Answer) (new old : A) → a ≡ Ok tt → after a new old ≡ new
+unfolding after
 after_done a new old e = rw e
 
 pub after_refused : {A : Type 0} (a : Answer) (new old : A) → Refusing a → after a new old ≡ old
 unfolding after
-after_refused a new old h = rw (ne_eqb (number_of a) 0 h)
+after_refused (Ok tt) new old h = absurd (h done_number)
+after_refused (Err r) new old h = refl
 
 pub after_same : {A : Type 0} (a : Answer) (old : A) → after a old old ≡ old
 unfolding after
-after_same a old = same (eqb (number_of a) 0)
-  where
-    same : (b : Bool) → cond b old old ≡ old
-    same true = refl
-    same false = refl
+after_same (Ok tt) old = refl
+after_same (Err r) old = refl
 
-pub after_cases : {A : Type 0} (a : Answer) (new old : A) → ((a ≡ Done) × (after a new old ≡ new)) ⊎ (Refusing a × (after a new old ≡ old))
-after_cases a new old = by (eqb (number_of a) 0) refl
-  where
-    by : (b : Bool) → eqb (number_of a) 0 ≡ b → ((a ≡ Done) × (after a new old ≡ new)) ⊎ (Refusing a × (after a new old ≡ old))
-    by true e = let d = number_done a (eqb-true (number_of a) 0 e) in inl (d, after_done a new old d)
-    by false e = let h = eqb-false (number_of a) 0 e in inr (h, after_refused a new old h)
+pub after_cases : {A : Type 0} (a : Answer) (new old : A) → ((a ≡ Ok tt) × (after a new old ≡ new)) ⊎ (Refusing a × (after a new old ≡ old))
+unfolding after
+after_cases (Ok tt) new old = inl (refl, refl)
+after_cases (Err r) new old = inr (refusing r, refl)
 
--- what a call makes of its answer: `new` where it is done, else the answer itself, wrapped
-module _ {A : Type 0} (answer : Answer) (new : A) (wrap : Answer → A) where
-  pub refused_is : (a : Answer) → answer ≡ a → Refusing a → wrap a ≡ after answer new (wrap answer)
-  refused_is a e h = rw e (sym (after_refused a new (wrap a) h))
+-- what a call gives by its answer
+module _ {A : Type 0} (answer : Answer) (new : A) where
+  pub refused_is : (r : Refusal) → answer ≡ Err r → Err r ≡ give answer new
+  unfolding give
+  refused_is r e = rw e refl
 
-  pub done_is : (r : A) → answer ≡ Done → r ≡ new → r ≡ after answer new (wrap answer)
-  done_is r e q = q ∙ sym (after_done answer new (wrap answer) e)
+  pub done_is : (x : A) → answer ≡ Ok tt → x ≡ new → Ok x ≡ give answer new
+  unfolding give
+  done_is x e q = rw (e, q) refl
+
+  pub given_refused : (r : Refusal) → give answer new ≡ Err r → answer ≡ Err r
+  unfolding give
+  given_refused r e = by answer e
+    where
+      by : (a : Answer) → give a new ≡ Err r → a ≡ Err r
+      unfolding give
+      by (Ok tt) e = let z : ◌≡◌ {A = ℕ} 0 1 = cc in absurd (omega arith)
+      by (Err q) e = cc
+
+  pub given_done : (x : A) → give answer new ≡ Ok x → (answer ≡ Ok tt) × (new ≡ x)
+  given_done x e = by answer e
+    where
+      by : (a : Answer) → give a new ≡ Ok x → (a ≡ Ok tt) × (new ≡ x)
+      unfolding give
+      by (Ok tt) e = (refl, (cc))
+      by (Err q) e = let z : ◌≡◌ {A = ℕ} 0 1 = cc in absurd (omega arith)
 
 -- the first refusal of a list that is done does not apply
-pub passed : (b : Bool) (a rest : Answer) → Refusing a → cond b a rest ≡ Done → (b ≡ false) × (rest ≡ Done)
+pub passed : (b : Bool) (a rest : Answer) → Refusing a → cond b a rest ≡ Ok tt → (b ≡ false) × (rest ≡ Ok tt)
 passed true a rest h e = absurd (refusing_not_done a h e)
 passed false a rest h e = (refl, e)
 
 -- and one whose test has to hold
-pub holds : (b : Bool) (a rest : Answer) → Refusing a → cond (not b) a rest ≡ Done → (b ≡ true) × (rest ≡ Done)
+pub holds : (b : Bool) (a rest : Answer) → Refusing a → cond (not b) a rest ≡ Ok tt → (b ≡ true) × (rest ≡ Ok tt)
 holds b a rest h e = let q = passed (not b) a rest h e in (not-false b q.0, q.1)
 
 -- ---- the gate
 
 -- 1 and 2 by whether lengths and control record are right
 abbrev gate_list : Bool → Bool → Answer → Answer
-gate_list lengths control rest = cond (not lengths) BadLength (cond (not control) BadControl rest)
+gate_list lengths control rest = cond (not lengths) (Err BadLength) (cond (not control) (Err BadControl) rest)
 
-pub gated_passes : (mst xrf : List ℕ) (rest : List Refusal) → lengths_permitted (store mst xrf) ≡ true → control_fine (store mst xrf) ≡ true
+pub gated_passes : (mst xrf : List ℕ) (rest : List Row) → lengths_permitted (store mst xrf) ≡ true → control_fine (store mst xrf) ≡ true
     → lowest (gated (store mst xrf) rest) ≡ lowest rest
 gated_passes mst xrf rest a b = rw (a, b)
 
 module _ (mst xrf : List ℕ) where
-  pub gate_done : (rest : Answer) → cond (not (lengths_permitted (store mst xrf))) BadLength (cond (not (control_fine (store mst xrf))) BadControl rest) ≡ Done
-      → (lengths_permitted (store mst xrf) ≡ true) × (control_fine (store mst xrf) ≡ true) × (rest ≡ Done)
+  pub gate_done : (rest : Answer) → cond (not (lengths_permitted (store mst xrf))) (Err BadLength) (cond (not (control_fine (store mst xrf))) (Err BadControl) rest) ≡ Ok tt
+      → (lengths_permitted (store mst xrf) ≡ true) × (control_fine (store mst xrf) ≡ true) × (rest ≡ Ok tt)
   unfolding number_of
   gate_done rest e =
-      let a = holds (lengths_permitted (store mst xrf)) BadLength _ (λ z. omega arith) e in
-      let b = holds (control_fine (store mst xrf)) BadControl rest (λ z. omega arith) a.1 in
+      let a = holds (lengths_permitted (store mst xrf)) (Err BadLength) _ (λ z. omega arith) e in
+      let b = holds (control_fine (store mst xrf)) (Err BadControl) rest (λ z. omega arith) a.1 in
       (a.0, b.0, b.1)
 
--- the gate is shut with a: that is the answer, whatever the refusals after it
-pub record ShutFacts (mst xrf : List ℕ) (a : Answer) : Type 0 where
-  pub refusing : Refusing a
-  pub answers : (rest : List Refusal) → lowest (gated (store mst xrf) rest) ≡ a
+-- the gate is shut with r: that is the answer, whatever the refusals after it
+pub record ShutFacts (mst xrf : List ℕ) (r : Refusal) : Type 0 where
+  pub answers : (rest : List Row) → lowest (gated (store mst xrf) rest) ≡ Err r
 
-module _ (next : Mfn) (end : ℕ) (a : Answer) where
-  shut_cases : (lengths control : Bool) → after (gate_list lengths control Done) (Open next end) (Shut (gate_list lengths control Done)) ≡ Shut a
-      → Refusing a × ((rest : Answer) → gate_list lengths control rest ≡ a)
-  unfolding after number_of
-  shut_cases true true e = let z : ◌≡◌ {A = ℕ} 0 1 = cc in absurd (omega arith)
-  shut_cases true false e = let q : BadControl ≡ a = cc in rw (← q) ((λ z. omega arith), (λ rest. refl))
-  shut_cases false control e = let q : BadLength ≡ a = cc in rw (← q) ((λ z. omega arith), (λ rest. refl))
+shut_cases : (r : Refusal) (lengths control : Bool) → gate_list lengths control (Ok tt) ≡ Err r
+    → (rest : Answer) → gate_list lengths control rest ≡ Err r
+shut_cases r true true e rest = let z : ◌≡◌ {A = ℕ} 0 1 = cc in absurd (omega arith)
+shut_cases r true false e rest = e
+shut_cases r false control e rest = e
 
-  open_cases : (n : Mfn) (f : ℕ) (lengths control : Bool) → after (gate_list lengths control Done) (Open n f) (Shut (gate_list lengths control Done)) ≡ Open next end
-      → (lengths ≡ true) × (control ≡ true) × (n ≡ next) × (f ≡ end)
-  unfolding after number_of
-  open_cases n f true true e = (refl, refl, (cc), (cc))
-  open_cases n f true false e = let z : ◌≡◌ {A = ℕ} 0 1 = cc in absurd (omega arith)
-  open_cases n f false control e = let z : ◌≡◌ {A = ℕ} 0 1 = cc in absurd (omega arith)
+open_cases : (lengths control : Bool) → gate_list lengths control (Ok tt) ≡ Ok tt → (lengths ≡ true) × (control ≡ true)
+open_cases true true e = (refl, refl)
+open_cases true false e = let z : ◌≡◌ {A = ℕ} 0 1 = cc in absurd (omega arith)
+open_cases false control e = let z : ◌≡◌ {A = ℕ} 0 1 = cc in absurd (omega arith)
 
-pub gate_shut : (mst xrf : List ℕ) (a : Answer) → gate_of (store mst xrf) ≡ Shut a → ShutFacts mst xrf a
+pub gate_shut : (mst xrf : List ℕ) (r : Refusal) → gate_of (store mst xrf) ≡ Err r → ShutFacts mst xrf r
 unfolding gate_of
-gate_shut mst xrf a e =
-    let q = shut_cases (record { 0 = next_of mst }) (end_of mst) a (lengths_permitted (store mst xrf)) (control_fine (store mst xrf)) e in
-    record { refusing = q.0; answers = λ rest. q.1 (lowest rest) }
+gate_shut mst xrf r e =
+    let q = given_refused (lowest (gated (store mst xrf) [])) (control (next_of mst) (end_of mst)) r e in
+    record { answers = λ rest. shut_cases r (lengths_permitted (store mst xrf)) (control_fine (store mst xrf)) q (lowest rest) }
 
 -- both lengths are permitted
 pub record LengthsFacts (mst xrf : List ℕ) : Type 0 where
@@ -220,43 +236,44 @@ open_from mst xrf next end a b c d =
       end_offset = f.end_offset;
     }
 
-pub gate_open : (mst xrf : List ℕ) (next : Mfn) (end : ℕ) → gate_of (store mst xrf) ≡ Open next end → OpenFacts mst xrf next end
+pub gate_open : (mst xrf : List ℕ) (k : Control) → gate_of (store mst xrf) ≡ Ok k → OpenFacts mst xrf k.next k.end
 unfolding gate_of
-gate_open mst xrf next end e =
-    let q = open_cases next end Done (record { 0 = next_of mst }) (end_of mst) (lengths_permitted (store mst xrf)) (control_fine (store mst xrf)) e in
-    open_from mst xrf next end q.0 q.1 (ap (λ (n : Mfn). n.0) (sym q.2)) (sym q.3)
+gate_open mst xrf k e =
+    let q = given_done (lowest (gated (store mst xrf) [])) (control (next_of mst) (end_of mst)) k e in
+    let w = open_cases (lengths_permitted (store mst xrf)) (control_fine (store mst xrf)) q.0 in
+    open_from mst xrf k.next k.end w.0 w.1 (ap (λ (c : Control). c.next.0) (sym q.1)) (ap (λ (c : Control). c.end) (sym q.1))
 
 -- the facts that a search asks for, one by one
-module _ (mst xrf : List ℕ) (next : Mfn) (end : ℕ) (g : gate_of (store mst xrf) ≡ Open next end) where
-  pub open_end : end ≡ end_of mst
-  open_end = (gate_open mst xrf next end g).end_is
+module _ (mst xrf : List ℕ) (k : Control) (g : gate_of (store mst xrf) ≡ Ok k) where
+  pub open_end : k.end ≡ end_of mst
+  open_end = (gate_open mst xrf k g).end_is
 
-  pub open_end_in : end ≤ length mst
-  open_end_in = let f = gate_open mst xrf next end g in omega arith
+  pub open_end_in : k.end ≤ length mst
+  open_end_in = let f = gate_open mst xrf k g in omega arith
 
   pub open_xrf : length xrf ≤ xrf_most
-  open_xrf = (gate_open mst xrf next end g).sizes.xrf_high
+  open_xrf = (gate_open mst xrf k g).sizes.xrf_high
 
-  pub open_capacity : (m : ℕ) → m < next.0 → m ≤ capacity_of (length xrf)
-  open_capacity m h = let f = gate_open mst xrf next end g in omega arith
+  pub open_capacity : (m : ℕ) → m < k.next.0 → m ≤ capacity_of (length xrf)
+  open_capacity m h = let f = gate_open mst xrf k g in omega arith
 
-  pub open_known : (m : ℕ) → 1 ≤ m → m < next.0 → mfn_in_range mst m ≡ true
+  pub open_known : (m : ℕ) → 1 ≤ m → m < k.next.0 → mfn_in_range mst m ≡ true
   unfolding mfn_in_range
   open_known m low high =
-      let f = gate_open mst xrf next end g in
-      let k : m < next_of mst = omega arith in
-      rw (le-leb 1 m low, lt-ltb m (next_of mst) k)
+      let f = gate_open mst xrf k g in
+      let u : m < next_of mst = omega arith in
+      rw (le-leb 1 m low, lt-ltb m (next_of mst) u)
 
-  pub open_entry : (m : ℕ) (e : Entry) → e ≡ entry_at xrf end m → entry_for (store mst xrf) m ≡ e
+  pub open_entry : (m : ℕ) (e : Entry) → e ≡ entry_at xrf k.end m → entry_for (store mst xrf) m ≡ e
   open_entry m e u = ap (λ (x : ℕ). entry_at xrf x m) (sym open_end) ∙ sym u
 
 -- the gate that was tested came out open
-module _ (mst xrf : List ℕ) (g : Gate) (p : g ≡ gate_of (store mst xrf)) (next : Mfn) (end : ℕ) (q : g ≡ Open next end) where
-  pub gate_is : gate_of (store mst xrf) ≡ Open next end
+module _ (mst xrf : List ℕ) (g : Result Control Refusal) (p : g ≡ gate_of (store mst xrf)) (k : Control) (q : g ≡ Ok k) where
+  pub gate_is : gate_of (store mst xrf) ≡ Ok k
   gate_is = sym p ∙ q
 
-  pub opened : OpenFacts mst xrf next end
-  opened = gate_open mst xrf next end gate_is
+  pub opened : OpenFacts mst xrf k.next k.end
+  opened = gate_open mst xrf k gate_is
 
 -- ---- the record of an MFN
 
@@ -327,7 +344,7 @@ back_new end p l e h = let q = simp (h, tests) at e in no_back_facts l q.0
 -- 4, 6, 7 and 8 by whether the MFN is known, the kind of entry and whether 8's question is answered
 abbrev pub named_list : Bool → Entry → Bool → Answer → Answer
 named_list known e ok rest =
-    cond (not known) NoMfn (cond (is_malformed e) BadEntry (cond (is_gone e) GoneAnswer (cond (not ok) BadRecord rest)))
+    cond (not known) (Err NoMfn) (cond (is_malformed e) (Err BadEntry) (cond (is_gone e) (Err GoneRefusal) (cond (not ok) (Err BadRecord) rest)))
 
 entry_placed : (e : Entry) → is_malformed e ≡ false → is_gone e ≡ false → e ≡ At (place_in e)
 entry_placed Gone h k = absurd (false_true (sym k))
@@ -335,83 +352,69 @@ entry_placed Malformed h k = absurd (false_true (sym h))
 entry_placed (At p) h k = refl
 
 -- where none of them applies, the entry has a place
-pub list_done : (known : Bool) (e : Entry) (ok : Bool) (rest : Answer) → named_list known e ok rest ≡ Done
-    → (known ≡ true) × (e ≡ At (place_in e)) × (ok ≡ true) × (rest ≡ Done)
+pub list_done : (known : Bool) (e : Entry) (ok : Bool) (rest : Answer) → named_list known e ok rest ≡ Ok tt
+    → (known ≡ true) × (e ≡ At (place_in e)) × (ok ≡ true) × (rest ≡ Ok tt)
 unfolding number_of
 list_done known e ok rest h =
-    let a = holds known NoMfn _ (λ z. omega arith) h in
-    let b = passed (is_malformed e) BadEntry _ (λ z. omega arith) a.1 in
-    let c = passed (is_gone e) GoneAnswer _ (λ z. omega arith) b.1 in
-    let d = holds ok BadRecord rest (λ z. omega arith) c.1 in
+    let a = holds known (Err NoMfn) _ (λ z. omega arith) h in
+    let b = passed (is_malformed e) (Err BadEntry) _ (λ z. omega arith) a.1 in
+    let c = passed (is_gone e) (Err GoneRefusal) _ (λ z. omega arith) b.1 in
+    let d = holds ok (Err BadRecord) rest (λ z. omega arith) c.1 in
     (a.0, entry_placed e b.0 c.0, d.0, d.1)
 
 module _ (mst xrf : List ℕ) where
   pub named_done : (m : ℕ) (ok : Bool) (rest : Answer)
-      → named_list (mfn_in_range mst m) (entry_for (store mst xrf) m) ok rest ≡ Done
-      → (mfn_in_range mst m ≡ true) × (entry_for (store mst xrf) m ≡ At (place_for (store mst xrf) m)) × (ok ≡ true) × (rest ≡ Done)
+      → named_list (mfn_in_range mst m) (entry_for (store mst xrf) m) ok rest ≡ Ok tt
+      → (mfn_in_range mst m ≡ true) × (entry_for (store mst xrf) m ≡ At (place_for (store mst xrf) m)) × (ok ≡ true) × (rest ≡ Ok tt)
   named_done m ok rest e = list_done (mfn_in_range mst m) (entry_for (store mst xrf) m) ok rest e
 
--- the record was not found, for a: that is the answer, whatever the refusals after it
-pub record RefusedFacts (mst xrf : List ℕ) (m : ℕ) (ok : Bool) (a : Answer) : Type 0 where
-  pub refusing : Refusing a
-  pub answers : (rest : List Refusal) → lowest (named (store mst xrf) m ok rest) ≡ a
+-- the record was not found, for r: that is the answer, whatever the refusals after it
+pub record RefusedFacts (mst xrf : List ℕ) (m : ℕ) (ok : Bool) (r : Refusal) : Type 0 where
+  pub answers : (rest : List Row) → lowest (named (store mst xrf) m ok rest) ≡ Err r
 
--- what `known_if` is of these
-abbrev chosen : Answer → (Entry → Leader) → Entry → Known
-chosen a l e = after a (Record (place_in e) (l e)) (Refused a)
-
-module _ (l : Entry → Leader) (a : Answer) where
-  refused_cases : (known : Bool) (e : Entry) (ok : Bool) → chosen (named_list known e ok Done) l e ≡ Refused a
-      → Refusing a × ((rest : Answer) → named_list known e ok rest ≡ a)
-  unfolding after number_of
-  refused_cases false e ok h = let q : NoMfn ≡ a = cc in rw (← q) ((λ z. omega arith), (λ rest. refl))
-  refused_cases true Gone ok h = let q : GoneAnswer ≡ a = cc in rw (← q) ((λ z. omega arith), (λ rest. refl))
-  refused_cases true Malformed ok h = let q : BadEntry ≡ a = cc in rw (← q) ((λ z. omega arith), (λ rest. refl))
-  refused_cases true (At p) false h = let q : BadRecord ≡ a = cc in rw (← q) ((λ z. omega arith), (λ rest. refl))
-  refused_cases true (At p) true h = let z : ◌≡◌ {A = ℕ} 0 1 = cc in absurd (omega arith)
-
-module _ (l : Entry → Leader) (p : Place) (k : Leader) where
-  record_cases : (known : Bool) (e : Entry) (ok : Bool) → chosen (named_list known e ok Done) l e ≡ Record p k
-      → (known ≡ true) × (e ≡ At p) × (ok ≡ true) × (k ≡ l e)
-  unfolding after number_of
-  record_cases false e ok h = let z : ◌≡◌ {A = ℕ} 0 1 = cc in absurd (omega arith)
-  record_cases true Gone ok h = let z : ◌≡◌ {A = ℕ} 0 1 = cc in absurd (omega arith)
-  record_cases true Malformed ok h = let z : ◌≡◌ {A = ℕ} 0 1 = cc in absurd (omega arith)
-  record_cases true (At q) false h = let z : ◌≡◌ {A = ℕ} 0 1 = cc in absurd (omega arith)
-  record_cases true (At q) true h = (refl, (cc), refl, (cc))
+refused_cases : (r : Refusal) (known : Bool) (e : Entry) (ok : Bool) → named_list known e ok (Ok tt) ≡ Err r
+    → (rest : Answer) → named_list known e ok rest ≡ Err r
+refused_cases r false e ok h rest = h
+refused_cases r true Gone ok h rest = h
+refused_cases r true Malformed ok h rest = h
+refused_cases r true (At p) false h rest = h
+refused_cases r true (At p) true h rest = let z : ◌≡◌ {A = ℕ} 0 1 = cc in absurd (omega arith)
 
 leader_in : List ℕ → Entry → Leader
 leader_in mst e = leader_at mst (place_in e)
 
 -- a refusal stays the same where more is asked of the record
-module _ (l : Entry → Leader) (a : Answer) where
-  refused_more : (known : Bool) (e : Entry) (ok more : Bool) → chosen (named_list known e ok Done) l e ≡ Refused a
-      → Refused a ≡ chosen (named_list known e (ok && more) Done) l e
-  unfolding after number_of
-  refused_more false e ok more h = sym h
-  refused_more true Gone ok more h = sym h
-  refused_more true Malformed ok more h = sym h
-  refused_more true (At p) false more h = sym h
-  refused_more true (At p) true more h = let z : ◌≡◌ {A = ℕ} 0 1 = cc in absurd (omega arith)
+refused_more : (r : Refusal) (known : Bool) (e : Entry) (ok more : Bool) → named_list known e ok (Ok tt) ≡ Err r
+    → named_list known e (ok && more) (Ok tt) ≡ Err r
+refused_more r false e ok more h = h
+refused_more r true Gone ok more h = h
+refused_more r true Malformed ok more h = h
+refused_more r true (At p) false more h = h
+refused_more r true (At p) true more h = let z : ◌≡◌ {A = ℕ} 0 1 = cc in absurd (omega arith)
 
-module _ (mst xrf : List ℕ) (m : ℕ) (a : Answer) where
-  pub known_refused : known_of (store mst xrf) m ≡ Refused a → RefusedFacts mst xrf m (fine (store mst xrf) m) a
-  unfolding known_of known_if leader_in
-  known_refused h =
-      let q = refused_cases (leader_in mst) a (mfn_in_range mst m) (entry_for (store mst xrf) m) (fine (store mst xrf) m) h in
-      record { refusing = q.0; answers = λ rest. q.1 (lowest rest) }
+module _ (mst xrf : List ℕ) (m : ℕ) (r : Refusal) where
+  refused_by : (ok : Bool) → known_if (lowest (named (store mst xrf) m ok [])) (store mst xrf) m ≡ Err r → lowest (named (store mst xrf) m ok []) ≡ Err r
+  unfolding known_if
+  refused_by ok h = given_refused _ _ r h
 
-  pub both_refused : known_both (store mst xrf) m ≡ Refused a → RefusedFacts mst xrf m (both_fine (store mst xrf) m) a
-  unfolding known_both known_if leader_in
-  both_refused h =
-      let q = refused_cases (leader_in mst) a (mfn_in_range mst m) (entry_for (store mst xrf) m) (both_fine (store mst xrf) m) h in
-      record { refusing = q.0; answers = λ rest. q.1 (lowest rest) }
+  facts_by : (ok : Bool) → known_if (lowest (named (store mst xrf) m ok [])) (store mst xrf) m ≡ Err r → RefusedFacts mst xrf m ok r
+  facts_by ok h = record { answers = λ rest. refused_cases r (mfn_in_range mst m) (entry_for (store mst xrf) m) ok (refused_by ok h) (lowest rest) }
+
+  pub known_refused : known_of (store mst xrf) m ≡ Err r → RefusedFacts mst xrf m (fine (store mst xrf) m) r
+  unfolding known_of
+  known_refused h = facts_by (fine (store mst xrf) m) h
+
+  pub both_refused : known_both (store mst xrf) m ≡ Err r → RefusedFacts mst xrf m (both_fine (store mst xrf) m) r
+  unfolding known_both
+  both_refused h = facts_by (both_fine (store mst xrf) m) h
 
   -- what is refused without the settled version is refused with it
-  pub refused_both : known_of (store mst xrf) m ≡ Refused a → Refused a ≡ known_both (store mst xrf) m
-  unfolding known_of known_both known_if leader_in
+  pub refused_both : known_of (store mst xrf) m ≡ Err r → Err r ≡ known_both (store mst xrf) m
+  unfolding known_of known_both known_if
   refused_both h =
-      refused_more (leader_in mst) a (mfn_in_range mst m) (entry_for (store mst xrf) m) (fine (store mst xrf) m) (version_fine mst m (place_for (store mst xrf) m)) h
+      refused_is _ _ r
+      (refused_more r (mfn_in_range mst m) (entry_for (store mst xrf) m) (fine (store mst xrf) m) (version_fine mst m (place_for (store mst xrf) m))
+      (given_refused _ _ r h))
 
 -- an MFN that was given out
 pub record MfnFacts (mst : List ℕ) (m : ℕ) : Type 0 where
@@ -458,11 +461,19 @@ module _ (mst xrf : List ℕ) (m : ℕ) (p : Place) (l : Leader) where
         stops = omega arith;
       }
 
-  pub known_facts : known_of (store mst xrf) m ≡ Record p l → KnownFacts mst xrf m p l
-  unfolding known_of known_if leader_in
-  known_facts h =
-      let q = record_cases (leader_in mst) p l (mfn_in_range mst m) (entry_for (store mst xrf) m) (fine (store mst xrf) m) h in
-      known_from q.0 q.1 q.2 q.3
+  -- the MFN, its entry and what 8 asks, where a record was found
+  found_by : (ok : Bool) → known_if (lowest (named (store mst xrf) m ok [])) (store mst xrf) m ≡ Ok (found p l)
+      → (mfn_in_range mst m ≡ true) × (entry_for (store mst xrf) m ≡ At p) × (ok ≡ true) × (l ≡ leader_in mst (entry_for (store mst xrf) m))
+  unfolding known_if leader_in
+  found_by ok h =
+      let q = given_done _ _ (found p l) h in
+      let n = list_done (mfn_in_range mst m) (entry_for (store mst xrf) m) ok (Ok tt) q.0 in
+      let at : place_for (store mst xrf) m ≡ p = ap (λ (x : Record). x.place) q.1 in
+      (n.0, rw at at n.1, n.2, ap (λ (x : Record). x.leader) (sym q.1))
+
+  pub known_facts : known_of (store mst xrf) m ≡ Ok (found p l) → KnownFacts mst xrf m p l
+  unfolding known_of
+  known_facts h = let q = found_by (fine (store mst xrf) m) h in known_from q.0 q.1 q.2 q.3
 
 -- the settled version of a changed record
 pub record SettledFacts (mst : List ℕ) (m : ℕ) (p : Place) (l : Leader) : Type 0 where
@@ -512,10 +523,10 @@ module _ (mst xrf : List ℕ) (m : ℕ) (p : Place) (l : Leader) where
         settled = λ c. rw k.leader_is (settled_facts mst m p k.record_fine_lem c (changed_fine v c));
       }
 
-  pub both_facts : known_both (store mst xrf) m ≡ Record p l → BothFacts mst xrf m p l
-  unfolding known_both known_if leader_in
+  pub both_facts : known_both (store mst xrf) m ≡ Ok (found p l) → BothFacts mst xrf m p l
+  unfolding known_both
   both_facts h =
-      let q = record_cases (leader_in mst) p l (mfn_in_range mst m) (entry_for (store mst xrf) m) (both_fine (store mst xrf) m) h in
+      let q = found_by mst xrf m p l (both_fine (store mst xrf) m) h in
       let t = simp tests at q.2 in
       let k : KnownFacts mst xrf m p l = known_from mst xrf m p l q.0 q.1 t.0 q.3 in
       both_from k (rw k.place_is at t.1)

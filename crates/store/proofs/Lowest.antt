@@ -1,6 +1,7 @@
 -- `lowest` gives the lowest: of a list of refusals whose numbers ascend, which is tested by computing, it is done exactly if none applies,
 -- and otherwise an answer that applies and whose number is at most that of every one that applies. The table of each call ascends
 -- (Lowest in `views`, `writing`, `soundness`), so that each call's answer is the lowest of its table.
+use Rattle.std.specs.Prelude.{Ok}
 use Prim.Native.Nat.{ℕ, ◌≤◌, ◌<◌}
 use native.Mathlib.Omega.{arith}
 use mathlib.Core.Path.{◌≡◌, refl, sym, ap, ◌∙◌}
@@ -9,33 +10,31 @@ use mathlib.Core.Bool.{Bool, true, false, ◌&&◌, cond}
 use mathlib.Core.List.{List, [], ◌∷◌, ◌++◌}
 use lib.Dec.{ltb}
 use Rattle.word.proofs.Tests.{tests, false_true}
-use Rattle.store.specs.Answer.{number_of, Refusal, lowest, after}
-use Rattle.store.specs.declared.answer.Answer.{Answer}
-use Rattle.store.specs.declared.answer.Answer.TheVariants.{Done}
+use Rattle.store.specs.Answer.{number_of, Row, lowest, after, Answer}
 use Rattle.store.proofs.Gates.{done_number, after_done, after_refused}
 
 -- the numbers ascend, all of them above n
-unfoldable pub above : ℕ → List Refusal → Bool
+unfoldable pub above : ℕ → List Row → Bool
 above n [] = true
 above n (r ∷ rs) = ltb n (number_of r.answer) && above (number_of r.answer) rs
 
 -- they ascend, and none is 0
-abbrev pub ascends : List Refusal → Bool
+abbrev pub ascends : List Row → Bool
 ascends rs = above 0 rs
 
 -- an answer is in the list, and applies
-abbrev pub Applies : List Refusal → Answer → Type 0
+abbrev pub Applies : List Row → Answer → Type 0
 Applies [] a = ⊥
 Applies (r ∷ rs) a = ((r.answer ≡ a) × (r.applies ≡ true)) ⊎ Applies rs a
 
 -- a is the lowest of the refusals that apply, and done exactly where none does
-pub record IsLowest (rs : List Refusal) (a : Answer) : Type 0 where
-  pub none : a ≡ Done → (b : Answer) → Applies rs b → ⊥
-  pub done : ((b : Answer) → Applies rs b → ⊥) → a ≡ Done
-  pub applies : (a ≡ Done → ⊥) → Applies rs a
+pub record IsLowest (rs : List Row) (a : Answer) : Type 0 where
+  pub none : a ≡ Ok tt → (b : Answer) → Applies rs b → ⊥
+  pub done : ((b : Answer) → Applies rs b → ⊥) → a ≡ Ok tt
+  pub applies : (a ≡ Ok tt → ⊥) → Applies rs a
   pub least : (b : Answer) → Applies rs b → number_of a ≤ number_of b
 
-above_applies : (n : ℕ) (rs : List Refusal) (b : Answer) → above n rs ≡ true → Applies rs b → n < number_of b
+above_applies : (n : ℕ) (rs : List Row) (b : Answer) → above n rs ≡ true → Applies rs b → n < number_of b
 unfolding above
 above_applies n [] b e h = absurd h
 above_applies n (r ∷ rs) b e h =
@@ -45,7 +44,7 @@ above_applies n (r ∷ rs) b e h =
     (λ w. omega (arith, above_applies (number_of r.answer) rs b q.1 w, q.0))
     h
 
-lowest_above : (n : ℕ) (rs : List Refusal) → above n rs ≡ true → IsLowest rs (lowest rs)
+lowest_above : (n : ℕ) (rs : List Row) → above n rs ≡ true → IsLowest rs (lowest rs)
 unfolding above
 lowest_above n [] e =
     record { none = λ d b h. h; done = λ h. refl; applies = λ h. absurd (h refl); least = λ b h. absurd h }
@@ -70,12 +69,12 @@ lowest_above n (r ∷ rs) e = by r.applies refl (lowest_above (number_of r.answe
           least = λ b. ⊎_elim (λ w. absurd (false_true (sym a ∙ w.1))) (i.least b);
         }
 
-pub lowest_is_lowest : (rs : List Refusal) → ascends rs ≡ true → IsLowest rs (lowest rs)
+pub lowest_is_lowest : (rs : List Row) → ascends rs ≡ true → IsLowest rs (lowest rs)
 lowest_is_lowest rs e = lowest_above 0 rs e
 
-append_above : (n : ℕ) (rs ss : List Refusal) → above n rs ≡ true → lowest (rs ++ ss) ≡ after (lowest rs) (lowest ss) (lowest rs)
+append_above : (n : ℕ) (rs ss : List Row) → above n rs ≡ true → lowest (rs ++ ss) ≡ after (lowest rs) (lowest ss) (lowest rs)
 unfolding above
-append_above n [] ss e = sym (after_done Done (lowest ss) Done refl)
+append_above n [] ss e = sym (after_done (Ok tt) (lowest ss) (Ok tt) refl)
 append_above n (r ∷ rs) ss e = by r.applies (append_above (number_of r.answer) rs ss q.1)
   where
     q : (n < number_of r.answer) × (above (number_of r.answer) rs ≡ true)
@@ -87,16 +86,16 @@ append_above n (r ∷ rs) ss e = by r.applies (append_above (number_of r.answer)
     by false i = i
 
 -- of two tables, one after the other: the second one's where the first one's is done
-pub lowest_append : (rs ss : List Refusal) → ascends rs ≡ true → lowest (rs ++ ss) ≡ after (lowest rs) (lowest ss) (lowest rs)
+pub lowest_append : (rs ss : List Row) → ascends rs ≡ true → lowest (rs ++ ss) ≡ after (lowest rs) (lowest ss) (lowest rs)
 lowest_append rs ss e = append_above 0 rs ss e
 
 -- all numbers are below n
-unfoldable pub below : ℕ → List Refusal → Bool
+unfoldable pub below : ℕ → List Row → Bool
 below n [] = true
 below n (r ∷ rs) = ltb (number_of r.answer) n && below n rs
 
 -- and so is the answer's
-pub lowest_below : (n : ℕ) (rs : List Refusal) → 0 < n → below n rs ≡ true → number_of (lowest rs) < n
+pub lowest_below : (n : ℕ) (rs : List Row) → 0 < n → below n rs ≡ true → number_of (lowest rs) < n
 unfolding below
 lowest_below n [] z e = rw done_number z
 lowest_below n (r ∷ rs) z e = by r.applies (lowest_below n rs z q.1)

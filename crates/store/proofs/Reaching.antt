@@ -1,5 +1,6 @@
 -- The gate and the record in one step: what `reach` and `reach_both` return, by what their steps found, and what a caller learns of a record
 -- that was reached or refused. A refusal is the answer of the whole call, whatever the refusals after it.
+use Rattle.std.specs.Prelude.{Ok}
 use Prim.Native.Nat.{ℕ}
 use native.Mathlib.Omega.{arith}
 use mathlib.Core.Path.{◌≡◌, refl, sym, ap, ◌∙◌}
@@ -16,12 +17,10 @@ use Rattle.layout.specs.declared.entry.Entry.TheVariants.{At}
 use Rattle.layout.specs.declared.leader.Leader.{Leader}
 use Rattle.word.proofs.Tests.{tests}
 use Rattle.store.specs.Store.{Store, store}
-use Rattle.store.specs.Answer.{number_of, Refusal, lowest, after}
+use Rattle.store.specs.Answer.{number_of, Row, lowest, after, Answer}
 use Rattle.store.specs.Reading.{lengths_permitted, control_fine, mfn_in_range, entry_for, place_for, leader_at}
 use Rattle.store.specs.Refusals.{gated, named, fine, both_fine}
 use Rattle.store.specs.Gate.{gate_of, gate_answer, known_of, known_both, known_answer, reached_if, reached_of, reached_both}
-use Rattle.store.specs.declared.answer.Answer.{Answer}
-use Rattle.store.specs.declared.answer.Answer.TheVariants.{Done}
 use Rattle.store.specs.declared.gate.Gate.{Gate}
 use Rattle.store.specs.declared.gate.Gate.TheVariants.{Open, Shut}
 use Rattle.store.specs.declared.gate.Known.{Known}
@@ -125,26 +124,26 @@ pub ruleset reach_answers = (whole_length, lent_open, reach_shut, reach_unknown,
 -- it was refused, for a: that is the answer, whatever the refusals after it
 pub record UnreachedFacts (mst xrf : List ℕ) (m : ℕ) (ok : Bool) (a : Answer) : Type 0 where
   pub refusing : Refusing a
-  pub answers : (rest : List Refusal) → lowest (gated (store mst xrf) (named (store mst xrf) m ok rest)) ≡ a
+  pub answers : (rest : List Row) → lowest (gated (store mst xrf) (named (store mst xrf) m ok rest)) ≡ a
 
 -- the answer behind what was returned
 module _ (b : Answer) (e : ℕ) (p : Place) (l : Leader) where
   pub of_refusal : (a : Answer) → after b (There e p l) (Unreached b) ≡ Unreached a → (b ≡ a) × Refusing b
   of_refusal a h = ⊎_elim done refused (after_cases b (There e p l) (Unreached b))
     where
-      done : (b ≡ Done) × (after b (There e p l) (Unreached b) ≡ There e p l) → (b ≡ a) × Refusing b
+      done : (b ≡ Ok tt) × (after b (There e p l) (Unreached b) ≡ There e p l) → (b ≡ a) × Refusing b
       done w = let s = sym w.1 ∙ h in let z : ◌≡◌ {A = ℕ} 0 1 = cc in absurd (omega arith)
 
       refused : Refusing b × (after b (There e p l) (Unreached b) ≡ Unreached b) → (b ≡ a) × Refusing b
       refused w = let s = sym w.1 ∙ h in ((cc), w.0)
 
-  pub of_record : (f : ℕ) (q : Place) (k : Leader) → after b (There e p l) (Unreached b) ≡ There f q k → (b ≡ Done) × (e ≡ f) × (p ≡ q) × (l ≡ k)
+  pub of_record : (f : ℕ) (q : Place) (k : Leader) → after b (There e p l) (Unreached b) ≡ There f q k → (b ≡ Ok tt) × (e ≡ f) × (p ≡ q) × (l ≡ k)
   of_record f q k h = ⊎_elim done refused (after_cases b (There e p l) (Unreached b))
     where
-      done : (b ≡ Done) × (after b (There e p l) (Unreached b) ≡ There e p l) → (b ≡ Done) × (e ≡ f) × (p ≡ q) × (l ≡ k)
+      done : (b ≡ Ok tt) × (after b (There e p l) (Unreached b) ≡ There e p l) → (b ≡ Ok tt) × (e ≡ f) × (p ≡ q) × (l ≡ k)
       done w = let s = sym w.1 ∙ h in (w.0, (cc), (cc), (cc))
 
-      refused : Refusing b × (after b (There e p l) (Unreached b) ≡ Unreached b) → (b ≡ Done) × (e ≡ f) × (p ≡ q) × (l ≡ k)
+      refused : Refusing b × (after b (There e p l) (Unreached b) ≡ Unreached b) → (b ≡ Ok tt) × (e ≡ f) × (p ≡ q) × (l ≡ k)
       refused w = let s = sym w.1 ∙ h in let z : ◌≡◌ {A = ℕ} 0 1 = cc in absurd (omega arith)
 
 module _ (mst xrf : List ℕ) (m : ℕ) (ok : Bool) where

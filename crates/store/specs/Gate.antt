@@ -1,73 +1,72 @@
 -- Inner: serves the functions of the gate and their callers, no part of what is promised. What a call has found before it shows or writes:
--- the lowest refusal so far, or what was read.
-use Rattle.std.specs.Prelude.{ℕ, ◌-◌, Bool, false, ◌&&◌, cond, List, []}
+-- what was read, or the lowest refusal so far.
+use Rattle.std.specs.Prelude.{ℕ, ◌-◌, Bool, false, ◌&&◌, cond, List, [], Result, Ok, Err}
 use Rattle.word.specs.Overwrite.{part}
 use Rattle.files.specs.Control.{next_of, end_of}
+use Rattle.files.specs.declared.control.Control.{Control}
 use Rattle.layout.specs.Leader.{leader_of}
 use Rattle.layout.specs.declared.entry.Place.{Place}
 use Rattle.layout.specs.declared.entry.Entry.{Entry}
 use Rattle.layout.specs.declared.entry.Entry.TheVariants.{Gone, Malformed, At}
+use Rattle.layout.specs.declared.leader.Leader.{Leader}
 use Rattle.record.specs.Record.{record_right, no_back}
 use Rattle.store.specs.Store.{Store}
-use Rattle.store.specs.Answer.{lowest, after}
+use Rattle.store.specs.Answer.{Answer, lowest, give}
 use Rattle.store.specs.Reading.{place_for, leader_at, record_fine}
 use Rattle.store.specs.Refusals.{gated, named, fine, both_fine}
-use Rattle.store.specs.declared.answer.Answer.{Answer}
-use Rattle.store.specs.declared.answer.Answer.TheVariants.{Done, BadEntry, BadRecord, Gone as GoneAnswer}
-use Rattle.store.specs.declared.gate.Gate.{Gate}
-use Rattle.store.specs.declared.gate.Gate.TheVariants.{Open, Shut}
-use Rattle.store.specs.declared.gate.Known.{Known}
-use Rattle.store.specs.declared.gate.Known.TheVariants.{Record, Refused}
+use Rattle.store.specs.declared.answer.Refusal.{Refusal}
+use Rattle.store.specs.declared.answer.Refusal.TheVariants.{BadEntry, BadRecord, Gone as GoneRefusal}
+use Rattle.store.specs.declared.gate.Record.{Record}
 use Rattle.store.specs.declared.gate.Reached.{Reached}
-use Rattle.store.specs.declared.gate.Reached.TheVariants.{There, Refused as Unreached}
+
+-- ---- what is found
+
+abbrev pub control : ℕ → ℕ → Control
+control next end = record { next = record { 0 = next }; end = end }
+
+abbrev pub found : Place → Leader → Record
+found p l = record { place = p; leader = l }
+
+abbrev pub there : ℕ → Place → Leader → Reached
+there end p l = record { end = end; place = p; leader = l }
+
+-- ---- where
 
 -- NXTMFN and the end, where 1 and 2 do not apply
-unfoldable pub gate_of : Store → Gate
-gate_of s = after (lowest (gated s [])) (Open (record { 0 = next_of s.mst }) (end_of s.mst)) (Shut (lowest (gated s [])))
-
-abbrev pub gate_answer : Gate → Answer
-gate_answer (Open next end) = Done
-gate_answer (Shut a) = a
+unfoldable pub gate_of : Store → Result Control Refusal
+gate_of s = give (lowest (gated s [])) (control (next_of s.mst) (end_of s.mst))
 
 -- the place and the leader of MFN m's record, where the answer is done
-unfoldable pub known_if : Answer → Store → ℕ → Known
-known_if a s m = after a (Record (place_for s m) (leader_at s.mst (place_for s m))) (Refused a)
+unfoldable pub known_if : Answer → Store → ℕ → Result Record Refusal
+known_if a s m = give a (found (place_for s m) (leader_at s.mst (place_for s m)))
 
 -- the record of MFN m, where 4, 6, 7 and 8 do not apply
-unfoldable pub known_of : Store → ℕ → Known
+unfoldable pub known_of : Store → ℕ → Result Record Refusal
 known_of s m = known_if (lowest (named s m (fine s m) [])) s m
 
 -- the same with its settled version
-unfoldable pub known_both : Store → ℕ → Known
+unfoldable pub known_both : Store → ℕ → Result Record Refusal
 known_both s m = known_if (lowest (named s m (both_fine s m) [])) s m
 
-abbrev pub known_answer : Known → Answer
-known_answer (Record p l) = Done
-known_answer (Refused a) = a
-
 -- the end too, where 1 and 2 do not apply either
-unfoldable pub reached_if : Answer → Store → ℕ → Reached
-reached_if a s m = after a (There (end_of s.mst) (place_for s m) (leader_at s.mst (place_for s m))) (Unreached a)
+unfoldable pub reached_if : Answer → Store → ℕ → Result Reached Refusal
+reached_if a s m = give a (there (end_of s.mst) (place_for s m) (leader_at s.mst (place_for s m)))
 
-unfoldable pub reached_of : Store → ℕ → Reached
+unfoldable pub reached_of : Store → ℕ → Result Reached Refusal
 reached_of s m = reached_if (lowest (gated s (named s m (fine s m) []))) s m
 
-unfoldable pub reached_both : Store → ℕ → Reached
+unfoldable pub reached_both : Store → ℕ → Result Reached Refusal
 reached_both s m = reached_if (lowest (gated s (named s m (both_fine s m) []))) s m
 
-abbrev pub reached_answer : Reached → Answer
-reached_answer (There end p l) = Done
-reached_answer (Unreached a) = a
-
--- the refusal of an entry with no place
-abbrev pub entry_answer : Entry → Answer
-entry_answer Gone = GoneAnswer
-entry_answer Malformed = BadEntry
-entry_answer (At p) = Done
+-- the place of an entry that has one
+abbrev pub place_given : Entry → Result Place Refusal
+place_given Gone = Err GoneRefusal
+place_given Malformed = Err BadEntry
+place_given (At p) = Ok p
 
 -- the record at a place, where it is well formed for m
-unfoldable pub place_known : List ℕ → ℕ → Place → Known
-place_known mst m p = cond (record_fine mst m p) (Record p (leader_at mst p)) (Refused BadRecord)
+unfoldable pub place_known : List ℕ → ℕ → Place → Result Record Refusal
+place_known mst m p = cond (record_fine mst m p) (Ok (found p (leader_at mst p))) (Err BadRecord)
 
 -- the record at an address is a well-formed settled version for m
 unfoldable pub settled_from : List ℕ → ℕ → ℕ → ℕ → Bool

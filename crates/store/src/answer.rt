@@ -1,10 +1,9 @@
-// The answers, and the paper's number of each.
-ghost use Rattle.std.specs.Prelude.{◌≡◌, ◌≤◌};
-ghost use Rattle.store.specs.Answer.{number_of};
+// The refusals, and the paper's number of each answer: 0 where a call is done, else its refusal's.
+ghost use Rattle.std.specs.Prelude.{◌≡◌};
+ghost use Rattle.store.specs.Answer.{refusal_number, number_of};
 
-#[derive(Clone, Copy)]
-pub enum Answer {
-    Done,
+#[derive(Clone, Copy, Debug, PartialEq, Eq)]
+pub enum Refusal {
     BadLength,
     BadControl,
     BadDraft,
@@ -19,32 +18,44 @@ pub enum Answer {
     NoField,
     NoRoom,
     NotSound,
-    FewerFields,
+    // The tag occurs, but so many times only.
+    FewerFields { occurrences: u32 },
     NoRoomInList,
+}
+
+impl From<Refusal> for u32 {
+    ghost from_gives = { λ r n. n ≡ refusal_number r };
+
+    #[tactic(auto, unfolding(crate::specs::Answer::refusal_number))]
+    fn from(refusal: Refusal) -> u32 {
+        match refusal {
+            Refusal::BadLength => 1,
+            Refusal::BadControl => 2,
+            Refusal::BadDraft => 3,
+            Refusal::NoMfn => 4,
+            Refusal::NoSlot => 5,
+            Refusal::BadEntry => 6,
+            Refusal::Gone => 7,
+            Refusal::BadRecord => 8,
+            Refusal::Deleted => 9,
+            Refusal::NotPending => 10,
+            Refusal::NeverSettled => 11,
+            Refusal::NoField => 12,
+            Refusal::NoRoom => 13,
+            Refusal::NotSound => 14,
+            Refusal::FewerFields { occurrences: _ } => 15,
+            Refusal::NoRoomInList => 17,
+        }
+    }
 }
 
 // The number of an answer.
 #[tactic(auto, unfolding(crate::specs::Answer::number_of))]
-pub fn number(a: Answer) -> u32
-    ensures { result ≡ number_of a }
+pub fn number(answer: Result<(), Refusal>) -> u32
+    ensures { result ≡ number_of answer }
 {
-    match a {
-        Answer::Done => 0,
-        Answer::BadLength => 1,
-        Answer::BadControl => 2,
-        Answer::BadDraft => 3,
-        Answer::NoMfn => 4,
-        Answer::NoSlot => 5,
-        Answer::BadEntry => 6,
-        Answer::Gone => 7,
-        Answer::BadRecord => 8,
-        Answer::Deleted => 9,
-        Answer::NotPending => 10,
-        Answer::NeverSettled => 11,
-        Answer::NoField => 12,
-        Answer::NoRoom => 13,
-        Answer::NotSound => 14,
-        Answer::FewerFields => 15,
-        Answer::NoRoomInList => 17,
+    match answer {
+        Ok(()) => 0,
+        Err(refusal) => u32::from(refusal),
     }
 }

@@ -1,4 +1,5 @@
 -- What update and delete decide before they write, one law for each way that the deciding functions return.
+use Rattle.std.specs.Prelude.{Ok, Err}
 use Prim.Native.Nat.{ℕ, ◌+◌, ◌≤◌, ◌<◌}
 use native.Mathlib.Omega.{arith}
 use mathlib.Core.Path.{◌≡◌, refl, sym, ap, ◌∙◌}
@@ -16,7 +17,7 @@ use Rattle.layout.specs.declared.leader.Leader.{Leader}
 use Rattle.drafts.specs.Draft.{need_of, draft_right, draft_fields, draft}
 use Rattle.drafts.specs.Bytes.{need_for}
 use Rattle.drafts.proofs.Draftable.{draft_need}
-use Rattle.store.specs.Answer.{number_of, refuse, after}
+use Rattle.store.specs.Answer.{number_of, refuse, after, Answer}
 use Rattle.store.specs.Reading.{place_for, mfn_in_range, entry_for, is_malformed, is_gone, is_settled, leader_at, current_fields}
 use Rattle.store.specs.Refusals.{fine}
 use Rattle.writing.specs.Refusals.{exceeds, update_answer, delete_answer}
@@ -24,8 +25,7 @@ use Rattle.versions.specs.Written.{update_appends}
 use Rattle.store.specs.Gate.{gate_of, gate_answer, known_of, known_answer, reached_of, reached_answer}
 use Rattle.updating.specs.Plans.{plan_if, update_plan, delete_plan, room_plan}
 use Rattle.versions.specs.Asked.{RecordRead}
-use Rattle.store.specs.declared.answer.Answer.{Answer}
-use Rattle.store.specs.declared.answer.Answer.TheVariants.{Done, BadControl, BadDraft, NoMfn, BadEntry, Gone as GoneAnswer, BadRecord, Deleted, NoRoom}
+use Rattle.store.specs.declared.answer.Refusal.TheVariants.{BadControl, BadDraft, NoMfn, BadEntry, Gone as GoneAnswer, BadRecord, Deleted, NoRoom}
 use Rattle.store.specs.declared.gate.Gate.{Gate}
 use Rattle.store.specs.declared.gate.Gate.TheVariants.{Open, Shut}
 use Rattle.store.specs.declared.gate.Known.{Known}
@@ -55,10 +55,10 @@ module _ (mst xrf : List ℕ) (g : Gate) (p : g ≡ gate_of (store mst xrf)) (ne
 -- the refusal of a record that was not found is the answer of a call, whatever follows
 abbrev named_answer : List ℕ → List ℕ → ℕ → Bool → Answer → Answer
 named_answer mst xrf m ok rest =
-    cond (not (mfn_in_range mst m)) NoMfn
-    (cond (is_malformed (entry_for (store mst xrf) m)) BadEntry
-    (cond (is_gone (entry_for (store mst xrf) m)) GoneAnswer
-    (cond (not ok) BadRecord rest)))
+    cond (not (mfn_in_range mst m)) (Err NoMfn)
+    (cond (is_malformed (entry_for (store mst xrf) m)) (Err BadEntry)
+    (cond (is_gone (entry_for (store mst xrf) m)) (Err GoneAnswer)
+    (cond (not ok) (Err BadRecord) rest)))
 
 -- ---- where a new version goes
 
@@ -67,7 +67,7 @@ module _ (room end need : ℕ) (appends : Bool) (p : Place) (l : Leader) where
   unfolding room_plan
   room_in_place h = rw h
 
-  pub room_none : appends ≡ true → room < end + need → Refuse NoRoom ≡ room_plan room end need appends p l
+  pub room_none : appends ≡ true → room < end + need → Refuse (Err NoRoom) ≡ room_plan room end need appends p l
   unfolding room_plan
   room_none h k = rw (h, lt-ltb _ _ k)
 
@@ -90,7 +90,7 @@ pub ruleset append_tests = (appends_settled, appends_pending)
 
 -- the plan of a call that is refused for want of room alone
 module _ (mst xrf : List ℕ) (m end need : ℕ) (p : Place) (l : Leader) (at : place_for (store mst xrf) m ≡ p) (is : l ≡ leader_at mst p) (e : end ≡ end_of mst) where
-  room_planned : (a : Answer) (appends full : Bool) → exceeds mst need ≡ full → a ≡ cond (appends && full) NoRoom Done
+  room_planned : (a : Answer) (appends full : Bool) → exceeds mst need ≡ full → a ≡ cond (appends && full) (Err NoRoom) (Ok tt)
       → room_plan (length mst) end need appends p l ≡ plan_if a appends (store mst xrf) m
   unfolding room_plan plan_if exceeds after number_of
   room_planned a true true x h = rw (h, e, x)
@@ -112,11 +112,11 @@ module _ (mst xrf : List ℕ) (m : ℕ) (tags lens bytes : List ℕ) (g : Gate) 
       rw t (update_refused a (shut_answer mst xrf a _ e) (gate_shut mst xrf a e).refusing)
 
   module _ (next : Mfn) (end : ℕ) (q : g ≡ Open next end) (d : Bool) (e : d ≡ draft_right tags lens bytes) where
-    pub update_no_draft : not d ≡ true → Refuse BadDraft ≡ update_plan (store mst xrf) m (draft tags lens bytes)
+    pub update_no_draft : not d ≡ true → Refuse (Err BadDraft) ≡ update_plan (store mst xrf) m (draft tags lens bytes)
     unfolding update_answer number_of
     update_no_draft h =
         let o = opened mst xrf g p next end q in
-        update_refused BadDraft (rw (o.lengths, o.control, ← e, h)) (λ z. omega arith)
+        update_refused (Err BadDraft) (rw (o.lengths, o.control, ← e, h)) (λ z. omega arith)
 
     module _ (h : not d ≡ false) (k : Known) (u : k ≡ known_of (store mst xrf) m) where
       pub update_unknown : (a r : Answer) → k ≡ Refused a → r ≡ known_answer k → Refuse r ≡ update_plan (store mst xrf) m (draft tags lens bytes)
@@ -129,12 +129,12 @@ module _ (mst xrf : List ℕ) (m : ℕ) (tags lens bytes : List ℕ) (g : Gate) 
           rw t (update_refused a (rw (o.lengths, o.control, ← e, h) (rest _)) f.refusing)
 
       module _ (pl : Place) (l : Leader) (v : k ≡ Record pl l) where
-        pub update_deleted : pl.deleted ≡ true → Refuse Deleted ≡ update_plan (store mst xrf) m (draft tags lens bytes)
+        pub update_deleted : pl.deleted ≡ true → Refuse (Err Deleted) ≡ update_plan (store mst xrf) m (draft tags lens bytes)
         unfolding update_answer number_of
         update_deleted w =
             let o = opened mst xrf g p next end q in
             let f = known_facts mst xrf m pl l (sym u ∙ v) in
-            update_refused Deleted
+            update_refused (Err Deleted)
             (rw (o.lengths, o.control, ← e, h, f.known, f.entry, f.record_fine_lem, w))
             (λ z. omega arith)
 
@@ -147,7 +147,7 @@ module _ (mst xrf : List ℕ) (m : ℕ) (tags lens bytes : List ℕ) (g : Gate) 
             let own : need_for (draft_fields tags lens bytes) ≡ need = draft_need tags lens bytes (sym e ∙ not-false d h) ∙ sym n in
             let y : update_appends (place_for (store mst xrf) m) (leader_at mst (place_for (store mst xrf) m)) (need_for (draft_fields tags lens bytes)) ≡ appends =
             rw (own, f.place_is, ← f.leader_is) (sym x) in
-            let a : update_answer (store mst xrf) m (draft tags lens bytes) ≡ cond (appends && exceeds mst need) NoRoom Done =
+            let a : update_answer (store mst xrf) m (draft tags lens bytes) ≡ cond (appends && exceeds mst need) (Err NoRoom) (Ok tt) =
             rw (o.lengths, o.control, ← e, h, f.known, y, own, f.entry, f.record_fine_lem, w) in
             s ∙ room_planned mst xrf m end need pl l f.place_is f.leader_is o.end_is (update_answer (store mst xrf) m (draft tags lens bytes)) appends (exceeds mst need) refl a
             ∙ ap (λ (b : Bool). plan_if (update_answer (store mst xrf) m (draft tags lens bytes)) b (store mst xrf) m) (sym y)
@@ -176,23 +176,23 @@ module _ (mst xrf : List ℕ) (m : ℕ) (r : Reached) (p : r ≡ reached_of (sto
     reached : (end ≡ end_of mst) × Planned mst xrf m pl l
     reached = reached_facts mst xrf m end pl l (sym p ∙ q)
 
-    pub delete_deleted : pl.deleted ≡ true → Refuse Deleted ≡ delete_plan (store mst xrf) m
+    pub delete_deleted : pl.deleted ≡ true → Refuse (Err Deleted) ≡ delete_plan (store mst xrf) m
     unfolding number_of
     delete_deleted w =
         let o = reached.1.gate in
         let f = reached.1.found in
-        delete_refused Deleted (delete_late (store mst xrf) m ∙ rw (o.lengths, o.control, f.known, f.entry, f.record_fine_lem, w)) (λ z. omega arith)
+        delete_refused (Err Deleted) (delete_late (store mst xrf) m ∙ rw (o.lengths, o.control, f.known, f.entry, f.record_fine_lem, w)) (λ z. omega arith)
 
     pub count_asked : 64 ≤ length mst
     count_asked = let o = reached.1.gate in omega arith
 
     module _ (w : pl.deleted ≡ false) (none : Bool) (n : none ≡ count_none mst) where
-      pub delete_none : none ≡ true → Refuse BadControl ≡ delete_plan (store mst xrf) m
+      pub delete_none : none ≡ true → Refuse (Err BadControl) ≡ delete_plan (store mst xrf) m
       unfolding number_of
       delete_none h =
           let o = reached.1.gate in
           let f = reached.1.found in
-          delete_refused BadControl
+          delete_refused (Err BadControl)
           (delete_late (store mst xrf) m ∙ rw (o.lengths, o.control, f.known, f.entry, f.record_fine_lem, w, ← n, h)) (λ z. omega arith)
 
     module _ (w : pl.deleted ≡ false) (none : Bool) (n : none ≡ count_none mst) (some : none ≡ false) where
@@ -208,7 +208,7 @@ module _ (mst xrf : List ℕ) (m : ℕ) (r : Reached) (p : r ≡ reached_of (sto
           let o = reached.1.gate in
           let f = reached.1.found in
           let y : is_settled pl.mark ≡ false = not_settled pl.mark x in
-          let a : delete_answer (store mst xrf) m ≡ Done =
+          let a : delete_answer (store mst xrf) m ≡ (Ok tt) =
           delete_late (store mst xrf) m ∙ rw (o.lengths, o.control, f.known, f.entry, f.record_fine_lem, w, ← n, some, y) in
           done_is (delete_answer (store mst xrf) m) _ Refuse (NewVersion end pl l false) a (rw (reached.0, f.place_is, y, ← f.leader_is))
 
@@ -219,7 +219,7 @@ module _ (mst xrf : List ℕ) (m : ℕ) (r : Reached) (p : r ≡ reached_of (sto
           let o = reached.1.gate in
           let f = reached.1.found in
           let y : is_settled (place_for (store mst xrf) m).mark ≡ true = rw (f.place_is, x) in
-          let a : delete_answer (store mst xrf) m ≡ cond (true && exceeds mst need) NoRoom Done =
+          let a : delete_answer (store mst xrf) m ≡ cond (true && exceeds mst need) (Err NoRoom) (Ok tt) =
           delete_late (store mst xrf) m
           ∙ rw (o.lengths, o.control, f.known, y, k, f.place_is, f.entry, f.record_fine_lem, w, ← n, some) in
           s ∙ room_planned mst xrf m end need pl l f.place_is f.leader_is reached.0 (delete_answer (store mst xrf) m) true (exceeds mst need) refl a

@@ -1,4 +1,5 @@
 -- What update and delete return and leave, one law for each way that they return: its premises are the plan and the promise of the write.
+use Rattle.std.specs.Prelude.{Ok, Err}
 use Prim.Native.Nat.{ℕ, ◌+◌, ◌≤◌}
 use native.Mathlib.Omega.{arith}
 use mathlib.Core.Path.{◌≡◌, sym, ◌∙◌}
@@ -18,7 +19,7 @@ use Rattle.drafts.specs.Draft.{need_of, draft_right, draft_fields, draft}
 use Rattle.record.specs.Fields.{Field}
 use Rattle.drafts.specs.Bytes.{need_for}
 use Rattle.drafts.proofs.Draftable.{draft_need}
-use Rattle.store.specs.Answer.{number_of, after}
+use Rattle.store.specs.Answer.{number_of, after, Answer}
 use Rattle.store.specs.Reading.{place_for, is_settled, leader_at, current_fields}
 use Rattle.store.specs.Refusals.{fine}
 use Rattle.writing.specs.Refusals.{exceeds, update_answer, delete_answer}
@@ -26,8 +27,7 @@ use Rattle.versions.specs.Written.{update_appends, place_at_end, pending_mark, v
 use Rattle.writing.specs.Calls.{update_leaves, delete_leaves}
 use Rattle.updating.specs.Plans.{plan_if, plan_answer, update_plan, delete_plan}
 use Rattle.versions.specs.Asked.{HasSlot, AtEnd, DraftFits, RecordRead}
-use Rattle.store.specs.declared.answer.Answer.{Answer}
-use Rattle.store.specs.declared.answer.Answer.TheVariants.{Done, BadControl, BadDraft, Deleted, NoRoom}
+use Rattle.store.specs.declared.answer.Refusal.TheVariants.{BadControl, BadDraft, Deleted, NoRoom}
 use Rattle.updating.specs.declared.changes.Plan.{Plan}
 use Rattle.updating.specs.declared.changes.Plan.TheVariants.{NewVersion, Refuse}
 use Rattle.writing.proofs.Counted.{delete_late}
@@ -46,7 +46,7 @@ module _ (a : Answer) (appends : Bool) (mst xrf : List ℕ) (m : ℕ) where
   plan_new = NewVersion (end_of mst) (place_for (store mst xrf) m) (leader_at mst (place_for (store mst xrf) m)) appends
 
   plan_writes : (end : ℕ) (p : Place) (l : Leader) (b : Bool) → plan_if a appends (store mst xrf) m ≡ NewVersion end p l b
-      → (a ≡ Done) × (appends ≡ b) × (end ≡ end_of mst) × (place_for (store mst xrf) m ≡ p) × (leader_at mst (place_for (store mst xrf) m) ≡ l)
+      → (a ≡ Ok tt) × (appends ≡ b) × (end ≡ end_of mst) × (place_for (store mst xrf) m ≡ p) × (leader_at mst (place_for (store mst xrf) m) ≡ l)
   unfolding plan_if plan_new
   plan_writes end p l b e =
       ⊎_elim
@@ -68,17 +68,17 @@ module _ (mst xrf : List ℕ) (m : ℕ) (tags lens bytes : List ℕ) where
   abbrev drafted : List Field
   drafted = draft_fields tags lens bytes
 
-  update_passed : (p : Place) (l : Leader) → update_answer (store mst xrf) m (draft tags lens bytes) ≡ Done → place_for (store mst xrf) m ≡ p → leader_at mst (place_for (store mst xrf) m) ≡ l
+  update_passed : (p : Place) (l : Leader) → update_answer (store mst xrf) m (draft tags lens bytes) ≡ Ok tt → place_for (store mst xrf) m ≡ p → leader_at mst (place_for (store mst xrf) m) ≡ l
       → Planned mst xrf m p l × (draft_right tags lens bytes ≡ true)
       × (update_appends (place_for (store mst xrf) m) (leader_at mst (place_for (store mst xrf) m)) (need_for drafted) && exceeds mst (need_for drafted) ≡ false)
   unfolding update_answer number_of
   update_passed p l e f h =
       let g = gate_done mst xrf _ e in
-      let d = passed (not (draft_right tags lens bytes)) BadDraft _ (λ z. omega arith) g.2 in
+      let d = passed (not (draft_right tags lens bytes)) (Err BadDraft) _ (λ z. omega arith) g.2 in
       let k = named_done mst xrf m (fine (store mst xrf) m) _ d.1 in
-      let x = passed (place_for (store mst xrf) m).deleted Deleted _ (λ z. omega arith) k.3 in
+      let x = passed (place_for (store mst xrf) m).deleted (Err Deleted) _ (λ z. omega arith) k.3 in
       let y =
-      passed (update_appends (place_for (store mst xrf) m) (leader_at mst (place_for (store mst xrf) m)) (need_for drafted) && exceeds mst (need_for drafted)) NoRoom Done
+      passed (update_appends (place_for (store mst xrf) m) (leader_at mst (place_for (store mst xrf) m)) (need_for drafted) && exceeds mst (need_for drafted)) (Err NoRoom) (Ok tt)
       (λ z. omega arith) x.1 in
       (planned_at mst xrf m p l g.0 g.1 k.0 k.1 k.2 f h, not-false _ d.0, y.0)
 
@@ -92,7 +92,7 @@ module _ (mst xrf : List ℕ) (m : ℕ) (tags lens bytes : List ℕ) where
         (t ∙ h.1, sym (after_refused (update_answer (store mst xrf) m (draft tags lens bytes)) _ (store mst xrf) h.0))
 
     module _ (end : ℕ) (p : Place) (l : Leader) (b : Bool) (q : plan ≡ NewVersion end p l b) where
-      versioning : (update_answer (store mst xrf) m (draft tags lens bytes) ≡ Done)
+      versioning : (update_answer (store mst xrf) m (draft tags lens bytes) ≡ Ok tt)
           × (update_appends (place_for (store mst xrf) m) (leader_at mst (place_for (store mst xrf) m)) (need_for drafted) ≡ b)
           × (end ≡ end_of mst) × (place_for (store mst xrf) m ≡ p) × (leader_at mst (place_for (store mst xrf) m) ≡ l)
       unfolding update_plan
@@ -125,7 +125,7 @@ module _ (mst xrf : List ℕ) (m : ℕ) (tags lens bytes : List ℕ) where
 
         pub update_appended : (last lastX : List ℕ) → last ≡ version_appended mst m p l false (draft_fields tags lens bytes)
             → lastX ≡ with_entry xrf m (place_at_end mst false (pending_mark p.mark))
-            → (Done ≡ update_answer (store mst xrf) m (draft tags lens bytes)) × (store last lastX ≡ update_leaves (store mst xrf) m (draft tags lens bytes))
+            → ((Ok tt) ≡ update_answer (store mst xrf) m (draft tags lens bytes)) × (store last lastX ≡ update_leaves (store mst xrf) m (draft tags lens bytes))
         unfolding update_leaves updated_mst updated_xrf after number_of
         update_appended last lastX s t = let v = versioning in (sym v.0, rw (v.0, v.1, h, v.4, v.3, s, t))
 
@@ -147,24 +147,24 @@ module _ (mst xrf : List ℕ) (m : ℕ) (tags lens bytes : List ℕ) where
             )
 
         pub update_replaced : (last : List ℕ) → last ≡ version_in_place mst m p l false (draft_fields tags lens bytes)
-            → (Done ≡ update_answer (store mst xrf) m (draft tags lens bytes)) × (store last xrf ≡ update_leaves (store mst xrf) m (draft tags lens bytes))
+            → ((Ok tt) ≡ update_answer (store mst xrf) m (draft tags lens bytes)) × (store last xrf ≡ update_leaves (store mst xrf) m (draft tags lens bytes))
         unfolding update_leaves updated_mst updated_xrf after number_of
         update_replaced last s = let v = versioning in (sym v.0, rw (v.0, v.1, h, v.4, v.3, s))
 
 -- ---- delete
 
 module _ (mst xrf : List ℕ) (m : ℕ) where
-  delete_passed : (p : Place) (l : Leader) → delete_answer (store mst xrf) m ≡ Done → place_for (store mst xrf) m ≡ p → leader_at mst (place_for (store mst xrf) m) ≡ l
+  delete_passed : (p : Place) (l : Leader) → delete_answer (store mst xrf) m ≡ Ok tt → place_for (store mst xrf) m ≡ p → leader_at mst (place_for (store mst xrf) m) ≡ l
       → Planned mst xrf m p l
       × (is_settled (place_for (store mst xrf) m).mark && exceeds mst (need_for (current_fields mst (place_for (store mst xrf) m))) ≡ false)
   unfolding number_of
   delete_passed p l e f h =
       let g = gate_done mst xrf _ (sym (delete_late (store mst xrf) m) ∙ e) in
       let k = named_done mst xrf m (fine (store mst xrf) m) _ g.2 in
-      let x = passed (place_for (store mst xrf) m).deleted Deleted _ (λ z. omega arith) k.3 in
-      let c = passed (count_none mst) BadControl _ (λ z. omega arith) x.1 in
+      let x = passed (place_for (store mst xrf) m).deleted (Err Deleted) _ (λ z. omega arith) k.3 in
+      let c = passed (count_none mst) (Err BadControl) _ (λ z. omega arith) x.1 in
       let y =
-      passed (is_settled (place_for (store mst xrf) m).mark && exceeds mst (need_for (current_fields mst (place_for (store mst xrf) m)))) NoRoom Done (λ z. omega arith) c.1 in
+      passed (is_settled (place_for (store mst xrf) m).mark && exceeds mst (need_for (current_fields mst (place_for (store mst xrf) m)))) (Err NoRoom) (Ok tt) (λ z. omega arith) c.1 in
       (planned_at mst xrf m p l g.0 g.1 k.0 k.1 k.2 f h, y.0)
 
   module _ (plan : Plan) (u : plan ≡ delete_plan (store mst xrf) m) where
@@ -177,7 +177,7 @@ module _ (mst xrf : List ℕ) (m : ℕ) where
         (t ∙ h.1, sym (after_refused (delete_answer (store mst xrf) m) _ (store mst xrf) h.0))
 
     module _ (end : ℕ) (p : Place) (l : Leader) (b : Bool) (q : plan ≡ NewVersion end p l b) where
-      deleting : (delete_answer (store mst xrf) m ≡ Done) × (is_settled (place_for (store mst xrf) m).mark ≡ b) × (end ≡ end_of mst)
+      deleting : (delete_answer (store mst xrf) m ≡ Ok tt) × (is_settled (place_for (store mst xrf) m).mark ≡ b) × (end ≡ end_of mst)
           × (place_for (store mst xrf) m ≡ p) × (leader_at mst (place_for (store mst xrf) m) ≡ l)
       unfolding delete_plan
       deleting = plan_writes (delete_answer (store mst xrf) m) (is_settled (place_for (store mst xrf) m).mark) mst xrf m end p l b (sym u ∙ q)
@@ -205,7 +205,7 @@ module _ (mst xrf : List ℕ) (m : ℕ) where
 
         pub delete_copied : (last lastX : List ℕ) → last ≡ counted_less (version_appended mst m p l true (current_fields mst p))
             → lastX ≡ with_entry xrf m (place_at_end mst true Changed)
-            → (Done ≡ delete_answer (store mst xrf) m) × (store last lastX ≡ delete_leaves (store mst xrf) m)
+            → ((Ok tt) ≡ delete_answer (store mst xrf) m) × (store last lastX ≡ delete_leaves (store mst xrf) m)
         unfolding delete_leaves deleted_mst deleted_xrf after number_of
         delete_copied last lastX s t = let v = deleting in (sym v.0, rw (v.0, v.1, h, v.4, v.3, s, t))
 
@@ -219,6 +219,6 @@ module _ (mst xrf : List ℕ) (m : ℕ) where
 
         pub delete_marked : (last lastX : List ℕ) → last ≡ counted_less (version_in_place mst m p l true (current_fields mst p))
             → lastX ≡ with_entry xrf m (placed p.block.0 p.offset true p.mark)
-            → (Done ≡ delete_answer (store mst xrf) m) × (store last lastX ≡ delete_leaves (store mst xrf) m)
+            → ((Ok tt) ≡ delete_answer (store mst xrf) m) × (store last lastX ≡ delete_leaves (store mst xrf) m)
         unfolding delete_leaves deleted_mst deleted_xrf after number_of
         delete_marked last lastX s t = let v = deleting in (sym v.0, rw (v.0, v.1, h, v.4, v.3, s, t))

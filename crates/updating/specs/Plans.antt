@@ -1,5 +1,6 @@
 -- Inner: serves the functions of this crate, no part of what is promised. What an update or a delete has decided before it writes: the refusal, or
 -- where the new version goes.
+use Rattle.std.specs.Prelude.{Ok, Err}
 use Rattle.std.specs.Prelude.{ℕ, ◌+◌, Bool, ◌&&◌, cond, ltb}
 use Rattle.files.specs.Control.{end_of}
 use Rattle.layout.specs.declared.entry.Place.{Place}
@@ -7,10 +8,9 @@ use Rattle.layout.specs.declared.leader.Leader.{Leader}
 use Rattle.drafts.specs.Bytes.{need_for}
 use Rattle.store.specs.Store.{Store}
 use Rattle.drafts.specs.Draft.{Draft, fields_in}
-use Rattle.store.specs.Answer.{after}
+use Rattle.store.specs.Answer.{after, Answer}
 use Rattle.store.specs.Reading.{place_for, is_settled, leader_at}
-use Rattle.store.specs.declared.answer.Answer.{Answer}
-use Rattle.store.specs.declared.answer.Answer.TheVariants.{Done, NoRoom}
+use Rattle.store.specs.declared.answer.Refusal.TheVariants.{NoRoom}
 use Rattle.writing.specs.Refusals.{update_answer, delete_answer}
 use Rattle.versions.specs.Written.{update_appends}
 use Rattle.updating.specs.declared.changes.Plan.{Plan}
@@ -21,7 +21,7 @@ unfoldable pub plan_if : Answer → Bool → Store → ℕ → Plan
 plan_if a appends s m = after a (NewVersion (end_of s.mst) (place_for s m) (leader_at s.mst (place_for s m)) appends) (Refuse a)
 
 abbrev pub plan_answer : Plan → Answer
-plan_answer (NewVersion end p l appends) = Done
+plan_answer (NewVersion end p l appends) = (Ok tt)
 plan_answer (Refuse a) = a
 
 unfoldable pub update_plan : Store → ℕ → Draft → Plan
@@ -33,4 +33,4 @@ delete_plan s m = plan_if (delete_answer s m) (is_settled (place_for s m).mark) 
 
 -- where a version of a need goes in an MST of a length: at the end if it is to be appended, where there is room
 unfoldable pub room_plan : ℕ → ℕ → ℕ → Bool → Place → Leader → Plan
-room_plan room end need appends p l = cond (appends && ltb room (end + need)) (Refuse NoRoom) (NewVersion end p l appends)
+room_plan room end need appends p l = cond (appends && ltb room (end + need)) (Refuse (Err NoRoom)) (NewVersion end p l appends)

@@ -1,5 +1,6 @@
 -- WHICH FIELD a view shows and WHICH KIND OF MISSING it says, on any store: what is asked of the fields comes behind the refusals below 12, and each
 -- of the three ways in which it comes out is one answer.
+use Rattle.std.specs.Prelude.{Ok, Err}
 use Prim.Native.Nat.{ℕ, ◌+◌, ◌-◌, ◌<◌}
 use native.Mathlib.Omega.{arith}
 use mathlib.Core.Path.{◌≡◌, refl, sym, ap, ◌∙◌}
@@ -17,10 +18,9 @@ use Rattle.record.specs.declared.fields.Found.{Found}
 use Rattle.record.proofs.Search.{missing_facts, present_facts, fewer_facts, enough_facts, FoundBy, by_missing, by_fewer, by_span, found_by}
 use Rattle.record.proofs.Find.{found_there}
 use Rattle.store.specs.Store.{Store}
-use Rattle.store.specs.Answer.{number_of, lowest, after}
+use Rattle.store.specs.Answer.{number_of, lowest, after, Answer}
 use Rattle.store.specs.Reading.{place_for, record_from, record_at}
-use Rattle.store.specs.declared.answer.Answer.{Answer}
-use Rattle.store.specs.declared.answer.Answer.TheVariants.{Done, NoField, FewerFields}
+use Rattle.store.specs.declared.answer.Refusal.TheVariants.{NoField, FewerFields}
 use Rattle.store.proofs.Gates.{Refusing, refusing_not_done, after_cases}
 use Rattle.views.specs.Views.{on_current, on_settled, among_fields, view_answer, settled_view_answer, found_start, found_length, occurrences_with, shown_at, view_of, settled_address, settled_view_of, shown_bytes}
 use Rattle.views.specs.Versions.{ReadableAt}
@@ -35,7 +35,7 @@ apart h e = h (ap number_of e)
 -- where the field is among the fields, what the search finds of it in the record at an address are its bytes
 shown_field : (mst : List ℕ) (at end tag occ : ℕ) → ReadableAt mst at end
     → is_missing (fields_of (part mst at (end - at))) tag occ ≡ false → is_fewer (fields_of (part mst at (end - at))) tag occ ≡ false
-    → field_named (fields_of (part mst at (end - at))) tag occ ≡ some (shown_bytes mst (shown_at Done at (part mst at (end - at)) tag occ))
+    → field_named (fields_of (part mst at (end - at))) tag occ ≡ some (shown_bytes mst (shown_at (Ok tt) at (part mst at (end - at)) tag occ))
 unfolding shown_at after number_of
 shown_field mst at end tag occ r m f = go (find_of rec tag occ) (found_by rec tag occ) refl
   where
@@ -48,7 +48,7 @@ shown_field mst at end tag occ r m f = go (find_of rec tag occ) (found_by rec ta
     go _ (by_fewer m e) q = absurd (false_true (sym f ∙ e))
     go _ (by_span start len m f) q = found_there mst at (end - at) r.readable tag occ start len q
 
-module _ (mst : List ℕ) (before : Answer) (at end tag occ : ℕ) (readable : before ≡ Done → ReadableAt mst at end) where
+module _ (mst : List ℕ) (before : Answer) (at end tag occ : ℕ) (readable : before ≡ Ok tt → ReadableAt mst at end) where
   abbrev rec : List ℕ
   rec = part mst at (end - at)
 
@@ -67,8 +67,8 @@ module _ (mst : List ℕ) (before : Answer) (at end tag occ : ℕ) (readable : b
         other = λ e. uncounted before (occurrences_of (fields_of rec) tag) low;
       }
 
-  module _ (d : before ≡ Done) where
-    missing_which : is_missing (fields_of rec) tag occ ≡ true → Says NoField
+  module _ (d : before ≡ Ok tt) where
+    missing_which : is_missing (fields_of rec) tag occ ≡ true → Says (Err NoField)
     unfolding shown_at occurrences_with number_of
     missing_which m =
         let f = missing_facts (fields_of rec) tag occ m in
@@ -81,7 +81,7 @@ module _ (mst : List ℕ) (before : Answer) (at end tag occ : ℕ) (readable : b
         }
 
     module _ (p : is_missing (fields_of rec) tag occ ≡ false) where
-      fewer_which : is_fewer (fields_of rec) tag occ ≡ true → Says FewerFields
+      fewer_which : is_fewer (fields_of rec) tag occ ≡ true → Says (Err FewerFields)
       unfolding shown_at occurrences_with number_of
       fewer_which f =
           let some = present_facts (fields_of rec) tag occ p in
@@ -94,7 +94,7 @@ module _ (mst : List ℕ) (before : Answer) (at end tag occ : ℕ) (readable : b
             other = λ e. absurd (e refl);
           }
 
-      done_which : is_fewer (fields_of rec) tag occ ≡ false → Says Done
+      done_which : is_fewer (fields_of rec) tag occ ≡ false → Says (Ok tt)
       unfolding shown_at occurrences_with number_of
       done_which f =
           let some = present_facts (fields_of rec) tag occ p in

@@ -1,6 +1,7 @@
 -- Which version a call shows, by what its steps found, and that a version which was found can be read. Each law's premises are what is known
 -- at one place of the code, so that `search version_answers` finds them there; a callee's result is a variable with what the callee ensures
 -- of it.
+use Rattle.std.specs.Prelude.{Ok, Err}
 use Prim.Native.Nat.{ℕ, ◌+◌, ◌-◌, ◌≤◌, ◌<◌}
 use native.Mathlib.Omega.{arith}
 use mathlib.Core.Path.{◌≡◌, refl, sym, ap, ◌∙◌}
@@ -19,14 +20,13 @@ use Rattle.layout.specs.declared.entry.Place.{Place}
 use Rattle.layout.specs.declared.leader.Leader.{Leader}
 use Rattle.record.specs.Record.{Readable}
 use Rattle.record.proofs.Facts.{readable_facts}
-use Rattle.store.specs.Answer.{number_of, Refusal, refuse, lowest, after}
+use Rattle.store.specs.Answer.{number_of, Row, refuse, lowest, after, Answer}
 use Rattle.store.specs.Reading.{place_for, is_settled, is_changed, is_new, record_from, leader_at, back_address, shown_settled}
 use Rattle.store.specs.Refusals.{gated, named, fine, both_fine}
 use Rattle.views.specs.Views.{on_current, on_settled, settled_address}
 use Rattle.store.specs.Gate.{known_if, known_of, known_both, reached_of, reached_both, reached_answer}
 use Rattle.views.specs.Versions.{version_if, current_version, settled_version, settled_of, Located, ReadableAt, Legible}
-use Rattle.store.specs.declared.answer.Answer.{Answer}
-use Rattle.store.specs.declared.answer.Answer.TheVariants.{Done, Deleted, NeverSettled}
+use Rattle.store.specs.declared.answer.Refusal.TheVariants.{Deleted, NeverSettled}
 use Rattle.store.specs.declared.gate.Reached.{Reached}
 use Rattle.store.specs.declared.gate.Reached.TheVariants.{There, Refused as Unreached}
 use Rattle.views.specs.declared.views.Version.{Version}
@@ -42,12 +42,12 @@ no_version : (a b : Answer) (at end : ℕ) → b ≡ a → Refusing a → NoVers
 unfolding version_if
 no_version a b at end e h = refused_is b (Begins at end) NoVersion a e h
 
-version_at : (b : Answer) (at at' end end' : ℕ) → b ≡ Done → at ≡ at' → end ≡ end' → Begins at end ≡ version_if b at' end'
+version_at : (b : Answer) (at at' end end' : ℕ) → b ≡ Ok tt → at ≡ at' → end ≡ end' → Begins at end ≡ version_if b at' end'
 unfolding version_if
 version_at b at at' end end' e p q = done_is b (Begins at' end') NoVersion (Begins at end) e (rw (p, q))
 
 -- the refusal of a record that was not reached
-unreached : (mst xrf : List ℕ) (m : ℕ) (ok : Bool) (at end : ℕ) (rest : List Refusal) (r : Reached) (a b : Answer) → r ≡ Unreached b → a ≡ reached_answer r
+unreached : (mst xrf : List ℕ) (m : ℕ) (ok : Bool) (at end : ℕ) (rest : List Row) (r : Reached) (a b : Answer) → r ≡ Unreached b → a ≡ reached_answer r
     → UnreachedFacts mst xrf m ok b → NoVersion a ≡ version_if (lowest (gated (store mst xrf) (named (store mst xrf) m ok rest))) at end
 unreached mst xrf m ok at end rest r a b q s f =
     let t : a ≡ b = s ∙ ap reached_answer q in
@@ -70,15 +70,15 @@ module _ (mst xrf : List ℕ) (m : ℕ) (r : Reached) (p : r ≡ reached_of (sto
     current_block = reached.1.found.place.block
 
     -- behind the gate and the record, 9 is left
-    current_rest : lowest (on_current (store mst xrf) m []) ≡ cond pl.deleted Deleted Done
+    current_rest : lowest (on_current (store mst xrf) m []) ≡ cond pl.deleted (Err Deleted) (Ok tt)
     current_rest =
         let o = reached.1.gate in
         let f = reached.1.found in
         rw (o.lengths, o.control, f.known, f.entry, f.record_fine_lem)
 
-    pub current_deleted : pl.deleted ≡ true → NoVersion Deleted ≡ current_version (store mst xrf) m
+    pub current_deleted : pl.deleted ≡ true → NoVersion (Err Deleted) ≡ current_version (store mst xrf) m
     unfolding current_version number_of
-    current_deleted d = no_version Deleted _ _ _ (current_rest ∙ rw d) (λ z. omega arith)
+    current_deleted d = no_version (Err Deleted) _ _ _ (current_rest ∙ rw d) (λ z. omega arith)
 
     pub current_found : (at : ℕ) → pl.deleted ≡ false → at ≡ place_address pl → Begins at end ≡ current_version (store mst xrf) m
     unfolding current_version
@@ -88,11 +88,11 @@ module _ (mst xrf : List ℕ) (m : ℕ) (r : Reached) (p : r ≡ reached_of (sto
 -- ---- the settled version, of a record that was found with it
 
 module _ (end : ℕ) (p : Place) (l : Leader) where
-  pub mark_deleted : p.mark ≡ Settled → p.deleted ≡ true → NoVersion Deleted ≡ settled_of end p l
+  pub mark_deleted : p.mark ≡ Settled → p.deleted ≡ true → NoVersion (Err Deleted) ≡ settled_of end p l
   unfolding settled_of version_if after number_of
   mark_deleted k d = rw (k, d)
 
-  pub mark_new : p.mark ≡ New → NoVersion NeverSettled ≡ settled_of end p l
+  pub mark_new : p.mark ≡ New → NoVersion (Err NeverSettled) ≡ settled_of end p l
   unfolding settled_of version_if after number_of
   mark_new k = rw (k, and-false)
 
@@ -148,7 +148,7 @@ settled_from mst p = from (is_changed p.mark) (back_address (leader_at mst p)) (
 -- a version that was found can be read
 
 module _ (mst : List ℕ) (a : Answer) (at end : ℕ) where
-  version_cases : (x y : ℕ) → version_if a at end ≡ Begins x y → (a ≡ Done) × (at ≡ x) × (end ≡ y)
+  version_cases : (x y : ℕ) → version_if a at end ≡ Begins x y → (a ≡ Ok tt) × (at ≡ x) × (end ≡ y)
   unfolding version_if
   version_cases x y e =
       ⊎_elim
@@ -156,12 +156,12 @@ module _ (mst : List ℕ) (a : Answer) (at end : ℕ) where
       (λ w. let z : NoVersion a ≡ Begins x y = sym w.1 ∙ e in let n : ◌≡◌ {A = ℕ} 0 1 = cc in absurd (omega arith))
       (after_cases a (Begins at end) (NoVersion a))
 
-  legible : (v : Version) → v ≡ version_if a at end → (a ≡ Done → ReadableAt mst at end) → Legible mst v
+  legible : (v : Version) → v ≡ version_if a at end → (a ≡ Ok tt → ReadableAt mst at end) → Legible mst v
   legible v e f =
       record { found = λ x y h. let q = version_cases x y (sym e ∙ h) in rw (← q.1, ← q.2) (f q.0) }
 
 module _ (mst xrf : List ℕ) (m : ℕ) where
-  pub current_readable : lowest (on_current (store mst xrf) m []) ≡ Done → ReadableAt mst (place_address (place_for (store mst xrf) m)) (end_of mst)
+  pub current_readable : lowest (on_current (store mst xrf) m []) ≡ Ok tt → ReadableAt mst (place_address (place_for (store mst xrf) m)) (end_of mst)
   unfolding known_of known_if after number_of
   current_readable e =
       let g = gate_done mst xrf _ e in
@@ -175,7 +175,7 @@ module _ (mst xrf : List ℕ) (m : ℕ) where
   current_legible v e = legible mst _ _ _ v e current_readable
 
   -- the record with its settled version
-  found_both : lowest (on_settled (store mst xrf) m []) ≡ Done
+  found_both : lowest (on_settled (store mst xrf) m []) ≡ Ok tt
       → OpenFacts mst xrf (record { 0 = next_of mst }) (end_of mst) × BothFacts mst xrf m (place_for (store mst xrf) m) (leader_at mst (place_for (store mst xrf) m))
   unfolding known_both known_if after number_of
   found_both e =
@@ -191,7 +191,7 @@ module _ (mst xrf : List ℕ) (m : ℕ) where
   by_mark p l o f Changed h = let s = f.settled h in record { end_in = o.end_in; before = omega arith; readable = s.readable }
   by_mark p l o f New h = record { end_in = o.end_in; before = let c = f.current in omega arith; readable = f.current.facts.readable }
 
-  pub settled_readable : lowest (on_settled (store mst xrf) m []) ≡ Done → ReadableAt mst (settled_address mst (place_for (store mst xrf) m)) (end_of mst)
+  pub settled_readable : lowest (on_settled (store mst xrf) m []) ≡ Ok tt → ReadableAt mst (settled_address mst (place_for (store mst xrf) m)) (end_of mst)
   settled_readable e =
       let q = found_both e in
       by_mark (place_for (store mst xrf) m) (leader_at mst (place_for (store mst xrf) m)) q.0 q.1 (place_for (store mst xrf) m).mark refl
@@ -216,7 +216,7 @@ module _ (mst : List ℕ) (v : Version) (h : Legible mst v) (at end : ℕ) (e : 
 
 -- ---- the rows of a call, behind the refusals of a version
 
-module _ (mst xrf : List ℕ) (m : ℕ) (rows : List Refusal) where
+module _ (mst xrf : List ℕ) (m : ℕ) (rows : List Row) where
   pub current_then : lowest (on_current (store mst xrf) m rows)
       ≡ after (lowest (on_current (store mst xrf) m [])) (lowest rows) (lowest (on_current (store mst xrf) m []))
   unfolding above number_of

@@ -1,5 +1,6 @@
 -- What the views show of the version that they read. Each law's premises are what is known at one place of the code, so that
 -- `search view_answers` finds them there; a callee's result is a variable with what the callee ensures of it.
+use Rattle.std.specs.Prelude.{Ok, Err}
 use Prim.Native.Nat.{ℕ, ◌+◌, ◌-◌, ◌^◌, ◌≤◌, ◌<◌}
 use native.Mathlib.Omega.{arith}
 use mathlib.Core.Path.{◌≡◌, sym, ◌∙◌}
@@ -16,12 +17,11 @@ use Rattle.record.specs.Fields.{fields_of, occurrences_of, find_of}
 use Rattle.record.specs.declared.fields.Found.{Found}
 use Rattle.record.specs.declared.fields.Found.TheVariants.{Span, Fewer, Missing}
 use Rattle.record.proofs.Search.{FoundBy, by_missing, by_fewer, by_span, found_by, found_in}
-use Rattle.store.specs.Answer.{number_of, lowest, after}
+use Rattle.store.specs.Answer.{number_of, lowest, after, Answer}
 use Rattle.store.specs.Reading.{place_for, record_at, record_from}
 use Rattle.views.specs.Views.{on_current, on_settled, among_fields, view_answer, settled_view_answer, found_start, found_length, occurrences_with, shown_at, view_of, settled_address, settled_view_of, shown_bytes}
 use Rattle.views.specs.Versions.{version_if, current_version, settled_version, refused_view, version_answer, shown_found, shown_in, Legible}
-use Rattle.store.specs.declared.answer.Answer.{Answer}
-use Rattle.store.specs.declared.answer.Answer.TheVariants.{Done, NoField, FewerFields}
+use Rattle.store.specs.declared.answer.Refusal.TheVariants.{NoField, FewerFields}
 use Rattle.views.specs.declared.views.Shown.{Shown}
 use Rattle.views.specs.declared.views.Version.{Version}
 use Rattle.views.specs.declared.views.Version.TheVariants.{Begins, Refused as NoVersion}
@@ -74,16 +74,16 @@ module _ (mst : List ℕ) (tag occ : ℕ) (v : Version) where
   show_refused a b r e u s = rw (s, u, e)
 
   module _ (at end : ℕ) (e : v ≡ Begins at end) (f : Found) (x : f ≡ find_of (part mst at (end - at)) tag occ) where
-    pub show_missing : (r : Shown) → f ≡ Missing → r ≡ refused_view NoField 0 → r ≡ shown_in mst tag occ v
+    pub show_missing : (r : Shown) → f ≡ Missing → r ≡ refused_view (Err NoField) 0 → r ≡ shown_in mst tag occ v
     unfolding shown_in
     show_missing r d s = rw (s, e, ← x, d)
 
-    pub show_fewer : (n : ℕ) (r : Shown) → f ≡ Fewer n → r ≡ refused_view FewerFields n → r ≡ shown_in mst tag occ v
+    pub show_fewer : (n : ℕ) (r : Shown) → f ≡ Fewer n → r ≡ refused_view (Err FewerFields) n → r ≡ shown_in mst tag occ v
     unfolding shown_in
     show_fewer n r d s = rw (s, e, ← x, d)
 
     module _ (start len : ℕ) (d : f ≡ Span start len) where
-      pub show_found : record { answer = Done; start = at + start; len = len; occurrences = 0 } ≡ shown_in mst tag occ v
+      pub show_found : record { answer = Ok tt; start = at + start; len = len; occurrences = 0 } ≡ shown_in mst tag occ v
       unfolding shown_in
       show_found = rw (e, ← x, d)
 

@@ -1,5 +1,6 @@
 -- What the calls that hand out a record's fields one after the other show of the version that they read. The theorem stands last: at each index
 -- they hand out the record's field of that number, and from the number of its fields on they answer 12.
+use Rattle.std.specs.Prelude.{Ok, Err}
 use Prim.Native.Nat.{ℕ, ◌+◌, ◌-◌, ◌^◌, ◌≤◌, ◌<◌}
 use native.Mathlib.Omega.{arith}
 use mathlib.Core.Path.{◌≡◌, refl, sym, ◌∙◌}
@@ -24,13 +25,12 @@ use Rattle.walking.specs.declared.walker.Walked.TheVariants.{Field as FieldHere,
 use Rattle.record.proofs.FieldData.{fields_count}
 use Rattle.record.proofs.Facts.{readable_facts}
 use Rattle.walking.proofs.Walking.{field_in_lem, walked_here, walked_is, walked_in_lem}
-use Rattle.store.specs.Answer.{number_of, refuse, lowest, after}
+use Rattle.store.specs.Answer.{number_of, refuse, lowest, after, Answer}
 use Rattle.store.specs.Reading.{place_for, record_at, record_from, shown_settled, current_fields}
 use Rattle.views.specs.Views.{on_current, on_settled, settled_address}
 use Rattle.views.specs.Fields.{field_answer, settled_field_answer, handed_out, field_of, settled_field_of}
 use Rattle.views.specs.Versions.{lastly, version_if, current_version, settled_version, refused_field, version_answer, shown_walked, walked_in, ReadableAt, Legible}
-use Rattle.store.specs.declared.answer.Answer.{Answer}
-use Rattle.store.specs.declared.answer.Answer.TheVariants.{Done, NoField}
+use Rattle.store.specs.declared.answer.Refusal.TheVariants.{NoField}
 use Rattle.views.specs.declared.views.Version.{Version}
 use Rattle.views.specs.declared.views.Version.TheVariants.{Begins, Refused as NoVersion}
 use Rattle.views.specs.declared.walk.ShownField.{ShownField}
@@ -54,13 +54,13 @@ pub refused_within : (mst : List ℕ) (a : Answer) (r : ShownField) → r ≡ re
 refused_within mst a r s = rw s (omega arith)
 
 -- 12, at the end of the directory
-handed_walked : (at : ℕ) (rec : List ℕ) (i : ℕ) → shown_walked at (walked_at rec i) ≡ handed_out (lastly NoField (at_end rec i)) at rec i
+handed_walked : (at : ℕ) (rec : List ℕ) (i : ℕ) → shown_walked at (walked_at rec i) ≡ handed_out (lastly (Err NoField) (at_end rec i)) at rec i
 unfolding walked_at handed_out after number_of
 handed_walked at rec i = by (at_end rec i)
   where
     by : (over : Bool)
         → shown_walked at (cond over End (FieldHere (record { 0 = tag_at rec i }) ((leader_of rec).base + pos_at rec i) (len_at rec i)))
-        ≡ handed_out (lastly NoField over) at rec i
+        ≡ handed_out (lastly (Err NoField) over) at rec i
     by true = refl
     by false = refl
 
@@ -72,12 +72,12 @@ module _ (mst : List ℕ) (i : ℕ) (v : Version) where
   walk_refused a b r e u s = rw (s, u, e)
 
   module _ (at end : ℕ) (e : v ≡ Begins at end) (w : Walked) (x : w ≡ walked_at (part mst at (end - at)) i) where
-    pub walk_ended : (r : ShownField) → w ≡ End → r ≡ refused_field NoField → r ≡ walked_in mst i v
+    pub walk_ended : (r : ShownField) → w ≡ End → r ≡ refused_field (Err NoField) → r ≡ walked_in mst i v
     unfolding walked_in
     walk_ended r d s = rw (s, e, ← x, d)
 
     module _ (tag : Tag) (start len : ℕ) (d : w ≡ FieldHere tag start len) where
-      pub walk_found : record { answer = Done; tag = tag; start = at + start; len = len } ≡ walked_in mst i v
+      pub walk_found : record { answer = Ok tt; tag = tag; start = at + start; len = len } ≡ walked_in mst i v
       unfolding walked_in
       walk_found = rw (e, ← x, d)
 
@@ -89,12 +89,12 @@ module _ (mst : List ℕ) (i : ℕ) (v : Version) where
       walk_sum h n = omega (arith, walk_within h)
 
 module _ (mst xrf : List ℕ) (m i : ℕ) (v : Version) (r : ShownField) (s : r ≡ walked_in mst i v) where
-  version_handed : (a b : Answer) (at : ℕ) → v ≡ version_if a at (end_of mst) → b ≡ after a (lastly NoField (at_end (record_from mst at) i)) a
+  version_handed : (a b : Answer) (at : ℕ) → v ≡ version_if a at (end_of mst) → b ≡ after a (lastly (Err NoField) (at_end (record_from mst at) i)) a
       → r ≡ handed_out b at (record_from mst at) i
   unfolding walked_in
   version_handed a b at e t =
       let rec : List ℕ = record_from mst at in
-      rw (s, e, t) (version_shows (walked_in mst i) (λ c. handed_out c at rec i) a (lastly NoField (at_end rec i)) at (end_of mst) (handed_walked at rec i) (handed_refused a at rec i))
+      rw (s, e, t) (version_shows (walked_in mst i) (λ c. handed_out c at rec i) a (lastly (Err NoField) (at_end rec i)) at (end_of mst) (handed_walked at rec i) (handed_refused a at rec i))
 
   pub field_handed : v ≡ current_version (store mst xrf) m → r ≡ field_of (store mst xrf) m i
   unfolding current_version field_of field_answer
@@ -120,8 +120,8 @@ field_shown mst s = record { tag = s.tag.0; bytes = part mst s.start s.len }
 
 -- what a call hands out at index i of a list of fields: the field of that number, counted from 0, and 12 past the last one
 pub record HandsOut (mst : List ℕ) (fields : List Field) (i : ℕ) (s : ShownField) : Type 0 where
-  pub there : i < length fields → (s.answer ≡ Done) × (field_shown mst s ∷ [] ≡ take 1 (drop i fields))
-  pub past : length fields ≤ i → s.answer ≡ NoField
+  pub there : i < length fields → (s.answer ≡ Ok tt) × (field_shown mst s ∷ [] ≡ take 1 (drop i fields))
+  pub past : length fields ≤ i → s.answer ≡ Err NoField
 
 module _ (mst : List ℕ) (at end i : ℕ) (h : ReadableAt mst at end) where
   abbrev rec : List ℕ
@@ -134,7 +134,7 @@ module _ (mst : List ℕ) (at end i : ℕ) (h : ReadableAt mst at end) where
       (part_part mst at (end - at) ((leader_of rec).base + pos_at rec i) (len_at rec i)
       (omega (arith, field_in_lem rec i h.readable l, (readable_facts h.readable).record_in, part_short mst at (end - at))))
 
-  hands_out : (a : Answer) → a ≡ Done → HandsOut mst (fields_of rec) i (handed_out (after a (lastly NoField (at_end rec i)) a) at rec i)
+  hands_out : (a : Answer) → a ≡ Ok tt → HandsOut mst (fields_of rec) i (handed_out (after a (lastly (Err NoField) (at_end rec i)) a) at rec i)
   unfolding handed_out after number_of
   hands_out a e =
       record {
@@ -147,14 +147,14 @@ module _ (mst : List ℕ) (at end i : ℕ) (h : ReadableAt mst at end) where
 
 module _ (mst xrf : List ℕ) (m i : ℕ) where
   -- where the current version is found, the fields that are handed out are its fields
-  pub handed_out_lem : lowest (on_current (store mst xrf) m []) ≡ Done → HandsOut mst (current_fields mst (place_for (store mst xrf) m)) i (field_of (store mst xrf) m i)
+  pub handed_out_lem : lowest (on_current (store mst xrf) m []) ≡ Ok tt → HandsOut mst (current_fields mst (place_for (store mst xrf) m)) i (field_of (store mst xrf) m i)
   unfolding field_of field_answer
   handed_out_lem e =
       rw (current_then mst xrf m (refuse NoField (at_end (record_at mst (place_for (store mst xrf) m)) i) ∷ []))
       (hands_out mst (place_address (place_for (store mst xrf) m)) (end_of mst) i (current_readable mst xrf m e) (lowest (on_current (store mst xrf) m [])) e)
 
   -- and those of the settled version the fields of the record that the settled view reads
-  pub settled_handed_out : lowest (on_settled (store mst xrf) m []) ≡ Done
+  pub settled_handed_out : lowest (on_settled (store mst xrf) m []) ≡ Ok tt
       → HandsOut mst (fields_of (shown_settled mst (place_for (store mst xrf) m))) i (settled_field_of (store mst xrf) m i)
   unfolding settled_field_of settled_field_answer
   settled_handed_out e =

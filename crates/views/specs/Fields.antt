@@ -6,21 +6,20 @@ use Rattle.layout.specs.Entry.{place_address}
 use Rattle.record.specs.Directory.{tag_at, pos_at, len_at}
 use Rattle.walking.specs.Walker.{at_end}
 use Rattle.store.specs.Store.{Store}
-use Rattle.store.specs.Answer.{Refusal, refuse, lowest, after}
+use Rattle.store.specs.Answer.{Row, refuse, lowest, after, Answer}
 use Rattle.store.specs.Reading.{place_for, record_at, shown_settled}
-use Rattle.store.specs.declared.answer.Answer.{Answer}
-use Rattle.store.specs.declared.answer.Answer.TheVariants.{NoField}
+use Rattle.store.specs.declared.answer.Refusal.TheVariants.{NoField}
 use Rattle.views.specs.Views.{on_current, on_settled, settled_address}
 use Rattle.views.specs.declared.walk.ShownField.{ShownField}
 
 -- 12 where the directory has no entry of that index, of the current version and of the settled one
-abbrev pub field_refusals : Store → ℕ → ℕ → List Refusal
+abbrev pub field_refusals : Store → ℕ → ℕ → List Row
 field_refusals s m i = on_current s m (refuse NoField (at_end (record_at s.mst (place_for s m)) i) ∷ [])
 
 unfoldable pub field_answer : Store → ℕ → ℕ → Answer
 field_answer s m i = lowest (field_refusals s m i)
 
-abbrev pub settled_field_refusals : Store → ℕ → ℕ → List Refusal
+abbrev pub settled_field_refusals : Store → ℕ → ℕ → List Row
 settled_field_refusals s m i = on_settled s m (refuse NoField (at_end (shown_settled s.mst (place_for s m)) i) ∷ [])
 
 unfoldable pub settled_field_answer : Store → ℕ → ℕ → Answer

@@ -1,5 +1,6 @@
 -- Inner: serves the functions of this crate, no part of what is promised. A call that shows a field finds the version that it reads, current or
 -- settled, and then shows a field of it.
+use Rattle.std.specs.Prelude.{Ok, Err}
 use Rattle.std.specs.Prelude.{ℕ, ◌+◌, ◌-◌, ◌≤◌, ◌≡◌, Bool, ◌&&◌, cond, List, [], ◌∷◌, length}
 use Rattle.word.specs.Overwrite.{part}
 use Rattle.files.specs.Control.{end_of}
@@ -15,10 +16,9 @@ use Rattle.record.specs.declared.fields.Found.TheVariants.{Span, Fewer, Missing}
 use Rattle.walking.specs.declared.walker.Walked.{Walked}
 use Rattle.walking.specs.declared.walker.Walked.TheVariants.{Field as FieldHere, End}
 use Rattle.store.specs.Store.{Store}
-use Rattle.store.specs.Answer.{refuse, lowest, after}
+use Rattle.store.specs.Answer.{refuse, lowest, after, Answer}
 use Rattle.store.specs.Reading.{place_for, is_settled, is_changed, is_new, back_address}
-use Rattle.store.specs.declared.answer.Answer.{Answer}
-use Rattle.store.specs.declared.answer.Answer.TheVariants.{Done, Deleted, NeverSettled, NoField, FewerFields}
+use Rattle.store.specs.declared.answer.Refusal.TheVariants.{Deleted, NeverSettled, NoField, FewerFields}
 use Rattle.views.specs.Views.{on_current, on_settled, settled_address}
 use Rattle.views.specs.declared.views.Shown.{Shown}
 use Rattle.views.specs.declared.views.Version.{Version}
@@ -32,7 +32,7 @@ unfoldable pub version_if : Answer → ℕ → ℕ → Version
 version_if a at end = after a (Begins at end) (Refused a)
 
 abbrev pub version_answer : Version → Answer
-version_answer (Begins at end) = Done
+version_answer (Begins at end) = (Ok tt)
 version_answer (Refused a) = a
 
 -- the current version of MFN m, and its settled version, where none of the refusals before 12 applies
@@ -68,7 +68,7 @@ pub record Legible (mst : List ℕ) (v : Version) : Type 0 where
 
 -- one more answer, behind the refusals of a version
 abbrev pub lastly : Answer → Bool → Answer
-lastly a applies = cond applies a Done
+lastly a applies = cond applies a (Ok tt)
 
 -- a refused view is empty
 abbrev pub refused_view : Answer → ℕ → Shown
@@ -79,9 +79,9 @@ refused_field a = record { answer = a; tag = record { 0 = 0 }; start = 0; len = 
 
 -- what a search in the record at an address shows
 abbrev pub shown_found : ℕ → Found → Shown
-shown_found at (Span start len) = record { answer = Done; start = at + start; len = len; occurrences = 0 }
-shown_found at (Fewer n) = refused_view FewerFields n
-shown_found at Missing = refused_view NoField 0
+shown_found at (Span start len) = record { answer = Ok tt; start = at + start; len = len; occurrences = 0 }
+shown_found at (Fewer n) = refused_view (Err FewerFields) n
+shown_found at Missing = refused_view (Err NoField) 0
 
 unfoldable pub shown_in : List ℕ → ℕ → ℕ → Version → Shown
 shown_in mst tag occ (Begins at end) = shown_found at (find_of (part mst at (end - at)) tag occ)
@@ -89,8 +89,8 @@ shown_in mst tag occ (Refused a) = refused_view a 0
 
 -- what stands at a directory index of the record at an address
 abbrev pub shown_walked : ℕ → Walked → ShownField
-shown_walked at (FieldHere tag start len) = record { answer = Done; tag = tag; start = at + start; len = len }
-shown_walked at End = refused_field NoField
+shown_walked at (FieldHere tag start len) = record { answer = Ok tt; tag = tag; start = at + start; len = len }
+shown_walked at End = refused_field (Err NoField)
 
 unfoldable pub walked_in : List ℕ → ℕ → Version → ShownField
 walked_in mst i (Begins at end) = shown_walked at (walked_at (part mst at (end - at)) i)

@@ -8,21 +8,20 @@ use Rattle.record.specs.Fields.{Field, fields_of, occurrences_of, is_missing, is
 use Rattle.record.specs.declared.fields.Found.{Found}
 use Rattle.record.specs.declared.fields.Found.TheVariants.{Span, Fewer, Missing}
 use Rattle.store.specs.Store.{Store}
-use Rattle.store.specs.Answer.{number_of, Refusal, refuse, lowest, after}
+use Rattle.store.specs.Answer.{number_of, Row, refuse, lowest, after, Answer}
 use Rattle.store.specs.Reading.{place_for, is_settled, is_changed, is_new, record_at, leader_at, back_address, shown_settled}
 use Rattle.store.specs.Refusals.{gated, named, fine, both_fine}
-use Rattle.store.specs.declared.answer.Answer.{Answer}
-use Rattle.store.specs.declared.answer.Answer.TheVariants.{Deleted, NeverSettled, NoField, FewerFields}
+use Rattle.store.specs.declared.answer.Refusal.TheVariants.{Deleted, NeverSettled, NoField, FewerFields}
 use Rattle.views.specs.declared.views.Shown.{Shown}
 
 -- ---- refusals
 
 -- 1, 2, 4, 6, 7, 8 and 9, for calls that show the current version
-abbrev pub on_current : Store → ℕ → List Refusal → List Refusal
+abbrev pub on_current : Store → ℕ → List Row → List Row
 on_current s m rest = gated s (named s m (fine s m) (refuse Deleted (place_for s m).deleted ∷ rest))
 
 -- the same and 11, for calls that show the settled version: 9 if deleted and settled
-abbrev pub on_settled : Store → ℕ → List Refusal → List Refusal
+abbrev pub on_settled : Store → ℕ → List Row → List Row
 on_settled s m rest =
     gated s
     (named s m (both_fine s m)
@@ -31,18 +30,18 @@ on_settled s m rest =
     ∷ rest))
 
 -- 12 if occurrence 0 is asked or the tag does not occur, and 15 if it occurs fewer times than asked, among the fields of the version
-abbrev pub among_fields : List Field → ℕ → ℕ → List Refusal
+abbrev pub among_fields : List Field → ℕ → ℕ → List Row
 among_fields fs tag occ = refuse NoField (is_missing fs tag occ) ∷ refuse FewerFields (is_fewer fs tag occ) ∷ []
 
 -- the current view
-abbrev pub view_refusals : Store → ℕ → ℕ → ℕ → List Refusal
+abbrev pub view_refusals : Store → ℕ → ℕ → ℕ → List Row
 view_refusals s m tag occ = on_current s m (among_fields (fields_of (record_at s.mst (place_for s m))) tag occ)
 
 unfoldable pub view_answer : Store → ℕ → ℕ → ℕ → Answer
 view_answer s m tag occ = lowest (view_refusals s m tag occ)
 
 -- the settled view
-abbrev pub settled_view_refusals : Store → ℕ → ℕ → ℕ → List Refusal
+abbrev pub settled_view_refusals : Store → ℕ → ℕ → ℕ → List Row
 settled_view_refusals s m tag occ = on_settled s m (among_fields (fields_of (shown_settled s.mst (place_for s m))) tag occ)
 
 unfoldable pub settled_view_answer : Store → ℕ → ℕ → ℕ → Answer

@@ -1,5 +1,6 @@
 -- What RECCNT does to a table: the second reason for 2 of a create and a revert may as well be a row behind the gate, where the code asks it, and that
 -- of a delete one behind 4 to 9. Where it does not bar a call, the table is the one without it.
+use Rattle.std.specs.Prelude.{Ok, Err}
 use Prim.Native.Nat.{ℕ, ◌+◌}
 use native.Mathlib.Omega.{arith}
 use mathlib.Core.Path.{◌≡◌, refl, sym, ap, ◌∙◌}
@@ -13,11 +14,10 @@ use Rattle.files.specs.Control.{next_of, count_full, count_none}
 use Rattle.drafts.specs.Bytes.{need_for}
 use Rattle.drafts.specs.Draft.{Draft, is_right, fields_in}
 use Rattle.store.specs.Store.{Store}
-use Rattle.store.specs.Answer.{Refusal, number_of, refuse, lowest}
+use Rattle.store.specs.Answer.{Row, number_of, refuse, lowest, Answer}
 use Rattle.store.specs.Reading.{lengths_permitted, control_fine, place_for, is_settled, is_new, current_fields}
 use Rattle.store.specs.Refusals.{gated, named, both_fine}
-use Rattle.store.specs.declared.answer.Answer.{Answer}
-use Rattle.store.specs.declared.answer.Answer.TheVariants.{Done, BadLength, BadControl, BadDraft, NoSlot, BadEntry, NotPending, NeverSettled, NoRoom}
+use Rattle.store.specs.declared.answer.Refusal.TheVariants.{BadLength, BadControl, BadDraft, NoSlot, BadEntry, NotPending, NeverSettled, NoRoom}
 use Rattle.store.proofs.Gates.{passed, gated_passes, gate_done}
 use Rattle.writing.specs.Refusals.{exceeds, gated_unless, none_of, delete_named, create_answer, delete_answer, revert_answer}
 
@@ -28,25 +28,25 @@ either : (a b : Bool) (x y : Answer) → cond (a || b) x y ≡ cond a x (cond b 
 either true b x y = refl
 either false b x y = refl
 
-module _ (s : Store) (barred : Bool) (rest : List Refusal) where
+module _ (s : Store) (barred : Bool) (rest : List Row) where
   -- as two rows
   pub unless_rows : lowest (gated_unless s barred rest) ≡ lowest (gated s (refuse BadControl barred ∷ rest))
-  unless_rows = ap (cond (not (lengths_permitted s)) BadLength) (either (not (control_fine s)) barred BadControl (lowest rest))
+  unless_rows = ap (cond (not (lengths_permitted s)) (Err BadLength)) (either (not (control_fine s)) barred (Err BadControl) (lowest rest))
 
   -- where it does not
   pub unless_clear : barred ≡ false → lowest (gated_unless s barred rest) ≡ lowest (gated s rest)
   unless_clear h = unless_rows ∙ rw h
 
   -- a call that is done was not barred
-  unless_done : lowest (gated_unless s barred rest) ≡ Done → lowest (gated s rest) ≡ Done
+  unless_done : lowest (gated_unless s barred rest) ≡ Ok tt → lowest (gated s rest) ≡ Ok tt
   unfolding number_of
   unless_done e =
       let g = gate_done s.mst s.xrf _ (sym unless_rows ∙ e) in
-      gated_passes s.mst s.xrf rest g.0 g.1 ∙ (passed barred BadControl (lowest rest) (λ z. omega arith) g.2).1
+      gated_passes s.mst s.xrf rest g.0 g.1 ∙ (passed barred (Err BadControl) (lowest rest) (λ z. omega arith) g.2).1
 
 module _ (s : Store) where
   -- the rows behind the gate
-  abbrev pub create_rows : Draft → List Refusal
+  abbrev pub create_rows : Draft → List Row
   create_rows d =
       refuse BadDraft (not (is_right d))
       ∷ refuse NoSlot (eqb (next_of s.mst) (capacity_of (length s.xrf) + 1))
@@ -54,7 +54,7 @@ module _ (s : Store) where
       ∷ refuse NoRoom (exceeds s.mst (need_for (fields_in d)))
       ∷ []
 
-  abbrev pub revert_rows : ℕ → List Refusal
+  abbrev pub revert_rows : ℕ → List Row
   revert_rows m =
       named s m (both_fine s m)
       (refuse NotPending (is_settled (place_for s m).mark) ∷ refuse NeverSettled (is_new (place_for s m).mark) ∷ [])
@@ -77,18 +77,18 @@ module _ (s : Store) where
   unfolding revert_answer
   revert_clear m h = unless_clear s (count_full s.mst) (revert_rows m) h
 
-  pub create_through : (d : Draft) → create_answer s d ≡ Done → lowest (gated s (create_rows d)) ≡ Done
+  pub create_through : (d : Draft) → create_answer s d ≡ Ok tt → lowest (gated s (create_rows d)) ≡ Ok tt
   unfolding create_answer
   create_through d e = unless_done s (count_full s.mst) (create_rows d) e
 
-  pub revert_through : (m : ℕ) → revert_answer s m ≡ Done → lowest (gated s (revert_rows m)) ≡ Done
+  pub revert_through : (m : ℕ) → revert_answer s m ≡ Ok tt → lowest (gated s (revert_rows m)) ≡ Ok tt
   unfolding revert_answer
   revert_through m e = unless_done s (count_full s.mst) (revert_rows m) e
 
 -- ---- delete
 
 -- a row that is given only where none of some others applies may stand behind them
-pub late : (a : Answer) (c : Bool) (rows rest : List Refusal) → lowest (refuse a (c && none_of rows) ∷ (rows ++ rest)) ≡ lowest (rows ++ (refuse a c ∷ rest))
+pub late : (a : Answer) (c : Bool) (rows rest : List Row) → lowest (refuse a (c && none_of rows) ∷ (rows ++ rest)) ≡ lowest (rows ++ (refuse a c ∷ rest))
 late a c [] rest = ap (λ (b : Bool). cond b a (lowest rest)) (and_true c)
   where
     and_true : (b : Bool) → b && true ≡ b
@@ -103,7 +103,7 @@ late a c (r ∷ rows) rest = go r.applies c (late a c rows rest)
     go false b h = h
 
 module _ (s : Store) (m : ℕ) where
-  abbrev pub room_row : Refusal
+  abbrev pub room_row : Row
   room_row = refuse NoRoom (is_settled (place_for s m).mark && exceeds s.mst (need_for (current_fields s.mst (place_for s m))))
 
   -- as the code asks it
@@ -111,8 +111,8 @@ module _ (s : Store) (m : ℕ) where
   unfolding delete_answer
   delete_late =
       unless_rows s (count_none s.mst && none_of (delete_named s m [])) (delete_named s m (room_row ∷ []))
-      ∙ ap (λ (a : Answer). cond (not (lengths_permitted s)) BadLength (cond (not (control_fine s)) BadControl a))
-      (late BadControl (count_none s.mst) (delete_named s m []) (room_row ∷ []))
+      ∙ ap (λ (a : Answer). cond (not (lengths_permitted s)) (Err BadLength) (cond (not (control_fine s)) (Err BadControl) a))
+      (late (Err BadControl) (count_none s.mst) (delete_named s m []) (room_row ∷ []))
 
   -- where RECCNT is above 0
   pub delete_clear : count_none s.mst ≡ false → delete_answer s m ≡ lowest (gated s (delete_named s m (room_row ∷ [])))

@@ -1,5 +1,6 @@
 -- Which plan each call makes, by what its steps found. Each law's premises are what is known at one `return`, so that `search` finds them
 -- there wherever they stand; a step's result is a variable with what the step ensures of it.
+use Rattle.std.specs.Prelude.{Ok, Err}
 use Prim.Native.Nat.{ℕ, ◌+◌, ◌≤◌, ◌<◌}
 use native.Mathlib.Omega.{arith}
 use mathlib.Core.Path.{refl, ◌≡◌, sym, ap, ◌∙◌}
@@ -17,15 +18,14 @@ use Rattle.layout.specs.declared.leader.Leader.{Leader}
 use Rattle.drafts.specs.Draft.{need_of, draft_right, draft_fields, draft}
 use Rattle.drafts.specs.Bytes.{need_for}
 use Rattle.drafts.proofs.Draftable.{draft_need}
-use Rattle.store.specs.Answer.{number_of, Refusal, refuse, lowest}
+use Rattle.store.specs.Answer.{number_of, Row, refuse, lowest, Answer}
 use Rattle.store.specs.Reading.{lengths_permitted, control_fine, place_for, is_settled, is_new}
 use Rattle.writing.specs.Refusals.{exceeds, create_answer, settle_answer, revert_answer}
 use Rattle.store.specs.Refusals.{gated}
 use Rattle.store.specs.Gate.{gate_of, gate_answer, known_both, known_answer, reached_if, reached_of}
 use Rattle.writing.specs.Plans.{settle_plan, revert_plan, slot_answer, SlotAsked, create_plan}
 use Rattle.writing.proofs.Counted.{create_rows, revert_rows, create_asks_count, revert_asks_count}
-use Rattle.store.specs.declared.answer.Answer.{Answer}
-use Rattle.store.specs.declared.answer.Answer.TheVariants.{Done, BadLength, BadControl, BadDraft, NoMfn, NoSlot, BadEntry, Gone as GoneAnswer, BadRecord, Deleted, NotPending, NeverSettled, NoField, NoRoom, NotSound, FewerFields, NoRoomInList}
+use Rattle.store.specs.declared.answer.Refusal.TheVariants.{BadLength, BadControl, BadDraft, NoMfn, NoSlot, BadEntry, Gone as GoneAnswer, BadRecord, Deleted, NotPending, NeverSettled, NoField, NoRoom, NotSound, FewerFields, NoRoomInList}
 use Rattle.writing.specs.declared.create.Creating.TheVariants.{Write, Unwritten}
 use Rattle.store.specs.declared.gate.Gate.{Gate}
 use Rattle.store.specs.declared.gate.Gate.TheVariants.{Open, Shut}
@@ -40,54 +40,54 @@ use Rattle.store.specs.Store.{Store, store}
 
 -- ---- variants that are left in an `else`
 
-pub not_done : (a : Answer) → (a ≡ Done → ⊥) → Refusing a
+pub not_done : (a : Answer) → (a ≡ Ok tt → ⊥) → Refusing a
 unfolding number_of
-not_done Done v = absurd (v refl)
-not_done BadLength v = λ z. omega arith
-not_done BadControl v = λ z. omega arith
-not_done BadDraft v = λ z. omega arith
-not_done NoMfn v = λ z. omega arith
-not_done NoSlot v = λ z. omega arith
-not_done BadEntry v = λ z. omega arith
-not_done GoneAnswer v = λ z. omega arith
-not_done BadRecord v = λ z. omega arith
-not_done Deleted v = λ z. omega arith
-not_done NotPending v = λ z. omega arith
-not_done NeverSettled v = λ z. omega arith
-not_done NoField v = λ z. omega arith
-not_done NoRoom v = λ z. omega arith
-not_done NotSound v = λ z. omega arith
-not_done FewerFields v = λ z. omega arith
-not_done NoRoomInList v = λ z. omega arith
+not_done (Ok tt) v = absurd (v refl)
+not_done (Err BadLength) v = λ z. omega arith
+not_done (Err BadControl) v = λ z. omega arith
+not_done (Err BadDraft) v = λ z. omega arith
+not_done (Err NoMfn) v = λ z. omega arith
+not_done (Err NoSlot) v = λ z. omega arith
+not_done (Err BadEntry) v = λ z. omega arith
+not_done (Err GoneAnswer) v = λ z. omega arith
+not_done (Err BadRecord) v = λ z. omega arith
+not_done (Err Deleted) v = λ z. omega arith
+not_done (Err NotPending) v = λ z. omega arith
+not_done (Err NeverSettled) v = λ z. omega arith
+not_done (Err NoField) v = λ z. omega arith
+not_done (Err NoRoom) v = λ z. omega arith
+not_done (Err NotSound) v = λ z. omega arith
+not_done (Err FewerFields) v = λ z. omega arith
+not_done (Err NoRoomInList) v = λ z. omega arith
 
 -- the gate's refusal is the answer of a call, whatever follows
 pub shut_answer : (mst xrf : List ℕ) (a rest : Answer) → gate_of (store mst xrf) ≡ Shut a
-    → cond (not (lengths_permitted (store mst xrf))) BadLength (cond (not (control_fine (store mst xrf))) BadControl rest) ≡ a
+    → cond (not (lengths_permitted (store mst xrf))) (Err BadLength) (cond (not (control_fine (store mst xrf))) (Err BadControl) rest) ≡ a
 shut_answer mst xrf a rest e = (gate_shut mst xrf a e).answers (refuse rest true ∷ [])
 
 -- ---- create
 
 module _ (mst xrf : List ℕ) (next end need : ℕ) (s : SlotAsked mst xrf next end need) (cap : ℕ) (c : cap ≡ capacity_of (length xrf)) where
-  pub slot_full : next ≡ cap + 1 → NoSlot ≡ slot_answer (store mst xrf) need
+  pub slot_full : next ≡ cap + 1 → (Err NoSlot) ≡ slot_answer (store mst xrf) need
   unfolding slot_answer
   slot_full h = rw (← s.next_is, ← c, eq-eqb _ _ h)
 
   module _ (h : next ≡ cap + 1 → ⊥) (k : ℕ) (w : k ≡ xrf_block next) (b : Bool) (e : b ≡ head_right xrf k) where
-    pub slot_head : not b ≡ true → BadEntry ≡ slot_answer (store mst xrf) need
+    pub slot_head : not b ≡ true → (Err BadEntry) ≡ slot_answer (store mst xrf) need
     unfolding slot_answer
     slot_head i = rw (← s.next_is, ← c, ne_eqb _ _ h, ← w, ← e, not-true b i)
 
     module _ (i : not b ≡ false) (f : Bool) (g : f ≡ slot_free xrf next) where
-      pub slot_taken : not f ≡ true → BadEntry ≡ slot_answer (store mst xrf) need
+      pub slot_taken : not f ≡ true → (Err BadEntry) ≡ slot_answer (store mst xrf) need
       unfolding slot_answer
       slot_taken j = rw (← s.next_is, ← c, ne_eqb _ _ h, ← w, ← e, not-false b i, ← g, not-true f j)
 
       module _ (j : not f ≡ false) where
-        pub slot_no_room : length mst < end + need → NoRoom ≡ slot_answer (store mst xrf) need
+        pub slot_no_room : length mst < end + need → (Err NoRoom) ≡ slot_answer (store mst xrf) need
         unfolding slot_answer exceeds
         slot_no_room l = rw (← s.next_is, ← c, ne_eqb _ _ h, ← w, ← e, not-false b i, ← g, not-false f j, ← s.end_is, lt-ltb _ _ l)
 
-        pub slot_done : end + need ≤ length mst → Done ≡ slot_answer (store mst xrf) need
+        pub slot_done : end + need ≤ length mst → (Ok tt) ≡ slot_answer (store mst xrf) need
         unfolding slot_answer exceeds
         slot_done l = rw (← s.next_is, ← c, ne_eqb _ _ h, ← w, ← e, not-false b i, ← g, not-false f j, ← s.end_is, le-ltb _ _ l)
 
@@ -110,19 +110,19 @@ module _ (mst xrf tags lens bytes : List ℕ) (g : Gate) (p : g ≡ gate_of (sto
       rw t (refused_is (create_answer (store mst xrf) (draft tags lens bytes)) _ Unwritten a (asks ∙ shut_answer mst xrf a _ e) (gate_shut mst xrf a e).refusing)
 
   module _ (next : Mfn) (end : ℕ) (q : g ≡ Open next end) (full : Bool) (w : full ≡ count_full mst) where
-    pub create_full : full ≡ true → Unwritten BadControl ≡ create_plan (store mst xrf) (draft tags lens bytes)
+    pub create_full : full ≡ true → Unwritten (Err BadControl) ≡ create_plan (store mst xrf) (draft tags lens bytes)
     unfolding create_plan number_of
     create_full h =
         let o = opened mst xrf g p next end q in
-        refused_is (create_answer (store mst xrf) (draft tags lens bytes)) _ Unwritten BadControl (asks ∙ rw (o.lengths, o.control, ← w, h)) (λ z. omega arith)
+        refused_is (create_answer (store mst xrf) (draft tags lens bytes)) _ Unwritten (Err BadControl) (asks ∙ rw (o.lengths, o.control, ← w, h)) (λ z. omega arith)
 
   module _ (next : Mfn) (end : ℕ) (q : g ≡ Open next end) (full : Bool) (w : full ≡ count_full mst) (clear : full ≡ false)
       (d : Bool) (e : d ≡ draft_right tags lens bytes) where
-    pub create_no_draft : not d ≡ true → Unwritten BadDraft ≡ create_plan (store mst xrf) (draft tags lens bytes)
+    pub create_no_draft : not d ≡ true → Unwritten (Err BadDraft) ≡ create_plan (store mst xrf) (draft tags lens bytes)
     unfolding create_plan number_of
     create_no_draft h =
         let o = opened mst xrf g p next end q in
-        refused_is (create_answer (store mst xrf) (draft tags lens bytes)) _ Unwritten BadDraft (asks ∙ rw (o.lengths, o.control, ← w, clear, ← e, h)) (λ z. omega arith)
+        refused_is (create_answer (store mst xrf) (draft tags lens bytes)) _ Unwritten (Err BadDraft) (asks ∙ rw (o.lengths, o.control, ← w, clear, ← e, h)) (λ z. omega arith)
 
     module _ (h : not d ≡ false) (need : ℕ) (n : need ≡ need_of (length tags) (length bytes)) where
       own : need_for (draft_fields tags lens bytes) ≡ need
@@ -149,12 +149,12 @@ module _ (mst xrf tags lens bytes : List ℕ) (g : Gate) (p : g ≡ gate_of (sto
             let o = opened mst xrf g p next end q in
             asks ∙ rw (o.lengths, o.control, ← w, clear, ← e, h, own) (sym s)
 
-        pub create_no_slot : (a ≡ Done → ⊥)
+        pub create_no_slot : (a ≡ Ok tt → ⊥)
             → Unwritten a ≡ create_plan (store mst xrf) (draft tags lens bytes)
         unfolding create_plan
         create_no_slot v = refused_is (create_answer (store mst xrf) (draft tags lens bytes)) _ Unwritten a through (not_done a v)
 
-        pub create_written : a ≡ Done → Write next end need ≡ create_plan (store mst xrf) (draft tags lens bytes)
+        pub create_written : a ≡ Ok tt → Write next end need ≡ create_plan (store mst xrf) (draft tags lens bytes)
         unfolding create_plan
         create_written v =
             let o = opened mst xrf g p next end q in
@@ -178,16 +178,16 @@ module _ (mst xrf : List ℕ) (m : ℕ) (r : Reached) (p : r ≡ reached_of (sto
     settling : (end ≡ end_of mst) × Planned mst xrf m pl l
     settling = reached_facts mst xrf m end pl l (sym p ∙ q)
 
-    settle_answer_lem : settle_answer (store mst xrf) m ≡ cond (is_settled pl.mark) NotPending Done
+    settle_answer_lem : settle_answer (store mst xrf) m ≡ cond (is_settled pl.mark) (Err NotPending) (Ok tt)
     unfolding settle_answer
     settle_answer_lem =
         let o = settling.1.gate in
         let f = settling.1.found in
         rw (o.lengths, o.control, f.known, f.entry, f.record_fine_lem)
 
-    pub settle_settled : pl.mark ≡ Settled → Unreached NotPending ≡ settle_plan (store mst xrf) m
+    pub settle_settled : pl.mark ≡ Settled → Unreached (Err NotPending) ≡ settle_plan (store mst xrf) m
     unfolding settle_plan reached_if number_of
-    settle_settled x = refused_is (settle_answer (store mst xrf) m) _ Unreached NotPending (settle_answer_lem ∙ rw x) (λ z. omega arith)
+    settle_settled x = refused_is (settle_answer (store mst xrf) m) _ Unreached (Err NotPending) (settle_answer_lem ∙ rw x) (λ z. omega arith)
 
     pub settle_planned : (pl.mark ≡ Settled → ⊥) → There end pl l ≡ settle_plan (store mst xrf) m
     unfolding settle_plan reached_if
@@ -208,11 +208,11 @@ module _ (mst xrf : List ℕ) (m : ℕ) (g : Gate) (p : g ≡ gate_of (store mst
       rw t (refused_is (revert_answer (store mst xrf) m) _ Unreached a (counted ∙ shut_answer mst xrf a _ e) (gate_shut mst xrf a e).refusing)
 
   module _ (next : Mfn) (end : ℕ) (q : g ≡ Open next end) (full : Bool) (w : full ≡ count_full mst) where
-    pub revert_full : full ≡ true → Unreached BadControl ≡ revert_plan (store mst xrf) m
+    pub revert_full : full ≡ true → Unreached (Err BadControl) ≡ revert_plan (store mst xrf) m
     unfolding revert_plan reached_if number_of
     revert_full h =
         let o = opened mst xrf g p next end q in
-        refused_is (revert_answer (store mst xrf) m) _ Unreached BadControl (counted ∙ rw (o.lengths, o.control, ← w, h)) (λ z. omega arith)
+        refused_is (revert_answer (store mst xrf) m) _ Unreached (Err BadControl) (counted ∙ rw (o.lengths, o.control, ← w, h)) (λ z. omega arith)
 
     module _ (clear : full ≡ false) (k : Known) (u : k ≡ known_both (store (take (length mst) mst) (take (length xrf) xrf)) m) where
       -- where 1 and 2 do not apply
@@ -224,23 +224,23 @@ module _ (mst xrf : List ℕ) (m : ℕ) (g : Gate) (p : g ≡ gate_of (store mst
       revert_unknown a r v s =
           let f = both_refused mst xrf m a (sym (lent_as (λ (s : Store). known_both s m) mst xrf k u) ∙ v) in
           let t : r ≡ a = rw v at s in
-          let rest : List Refusal = refuse NotPending (is_settled (place_for (store mst xrf) m).mark) ∷ refuse NeverSettled (is_new (place_for (store mst xrf) m).mark) ∷ [] in
+          let rest : List Row = refuse NotPending (is_settled (place_for (store mst xrf) m).mark) ∷ refuse NeverSettled (is_new (place_for (store mst xrf) m).mark) ∷ [] in
           rw t (refused_is (revert_answer (store mst xrf) m) _ Unreached a (behind a (f.answers rest)) f.refusing)
 
       module _ (pl : Place) (l : Leader) (v : k ≡ Record pl l) where
         found : BothFacts mst xrf m pl l
         found = both_facts mst xrf m pl l (sym (lent_as (λ (s : Store). known_both s m) mst xrf k u) ∙ v)
 
-        revert_answer_lem : revert_answer (store mst xrf) m ≡ cond (is_settled pl.mark) NotPending (cond (is_new pl.mark) NeverSettled Done)
+        revert_answer_lem : revert_answer (store mst xrf) m ≡ cond (is_settled pl.mark) (Err NotPending) (cond (is_new pl.mark) (Err NeverSettled) (Ok tt))
         revert_answer_lem = let f = found.current in behind _ (rw (f.known, f.entry, f.record_fine_lem, found.version_fine_lem))
 
-        pub revert_settled : pl.mark ≡ Settled → Unreached NotPending ≡ revert_plan (store mst xrf) m
+        pub revert_settled : pl.mark ≡ Settled → Unreached (Err NotPending) ≡ revert_plan (store mst xrf) m
         unfolding revert_plan reached_if number_of
-        revert_settled x = refused_is (revert_answer (store mst xrf) m) _ Unreached NotPending (revert_answer_lem ∙ rw x) (λ z. omega arith)
+        revert_settled x = refused_is (revert_answer (store mst xrf) m) _ Unreached (Err NotPending) (revert_answer_lem ∙ rw x) (λ z. omega arith)
 
-        pub revert_new : pl.mark ≡ New → Unreached NeverSettled ≡ revert_plan (store mst xrf) m
+        pub revert_new : pl.mark ≡ New → Unreached (Err NeverSettled) ≡ revert_plan (store mst xrf) m
         unfolding revert_plan reached_if number_of
-        revert_new x = refused_is (revert_answer (store mst xrf) m) _ Unreached NeverSettled (revert_answer_lem ∙ rw x) (λ z. omega arith)
+        revert_new x = refused_is (revert_answer (store mst xrf) m) _ Unreached (Err NeverSettled) (revert_answer_lem ∙ rw x) (λ z. omega arith)
 
         pub revert_planned : pl.mark ≡ Changed → There end pl l ≡ revert_plan (store mst xrf) m
         unfolding revert_plan reached_if

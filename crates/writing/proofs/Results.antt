@@ -1,5 +1,6 @@
 -- What a plan tells the writing half, and what the call then returns. A plan that is not a refusal is made where the call's answer is done, so
 -- none of the call's refusals applies; with what the writing half left, that gives the call's answer and both buffers.
+use Rattle.std.specs.Prelude.{Ok, Err}
 use Prim.Native.Nat.{ℕ, ◌+◌, ◌≤◌}
 use native.Mathlib.Omega.{arith}
 use mathlib.Core.Path.{◌≡◌, refl, sym, ap, ◌∙◌}
@@ -22,7 +23,7 @@ use Rattle.word.proofs.Tests.{false_true, and_left}
 use Rattle.drafts.specs.Draft.{need_of, draft_right, draft_fields, draft}
 use Rattle.drafts.specs.Bytes.{need_for}
 use Rattle.drafts.proofs.Draftable.{draft_need}
-use Rattle.store.specs.Answer.{number_of, after}
+use Rattle.store.specs.Answer.{number_of, after, Answer}
 use Rattle.store.specs.Reading.{lengths_permitted, place_for, is_settled, is_new, leader_at}
 use Rattle.store.specs.Refusals.{fine, both_fine}
 use Rattle.writing.specs.Refusals.{exceeds, format_answer, create_answer, settle_answer, revert_answer}
@@ -32,8 +33,7 @@ use Rattle.writing.specs.Calls.{format_leaves, create_of, create_leaves, settle_
 use Rattle.store.specs.Gate.{reached_if, reached_answer}
 use Rattle.writing.specs.Plans.{settle_plan, revert_plan, create_plan, creating_answer}
 use Rattle.versions.specs.Asked.{HasSlot, AtEnd, DraftFits, RecordRead}
-use Rattle.store.specs.declared.answer.Answer.{Answer}
-use Rattle.store.specs.declared.answer.Answer.TheVariants.{Done, BadLength, BadDraft, NoSlot, BadEntry, NotPending, NeverSettled, NoRoom}
+use Rattle.store.specs.declared.answer.Refusal.TheVariants.{BadLength, BadDraft, NoSlot, BadEntry, NotPending, NeverSettled, NoRoom}
 use Rattle.writing.specs.declared.create.Created.{Created}
 use Rattle.writing.specs.declared.create.Creating.{Creating}
 use Rattle.writing.specs.declared.create.Creating.TheVariants.{Write, Unwritten}
@@ -47,7 +47,7 @@ use Rattle.store.specs.Store.{store}
 -- ---- format
 
 module _ (mst xrf : List ℕ) (b : Bool) (e : b ≡ lengths_permitted (store mst xrf)) where
-  pub format_refused : not b ≡ true → (BadLength ≡ format_answer (store mst xrf)) × (store mst xrf ≡ format_leaves (store mst xrf))
+  pub format_refused : not b ≡ true → ((Err BadLength) ≡ format_answer (store mst xrf)) × (store mst xrf ≡ format_leaves (store mst xrf))
   unfolding format_answer format_leaves after number_of
   format_refused h = (rw (← e, h), rw (← e, h))
 
@@ -59,7 +59,7 @@ module _ (mst xrf : List ℕ) (b : Bool) (e : b ≡ lengths_permitted (store mst
     format_asks_xrf = (lengths_both mst xrf (sym e ∙ not-false b h)).1
 
     pub format_done : (m x : List ℕ) → m ≡ formatted_mst (length mst) → x ≡ formatted_xrf (length xrf)
-        → (Done ≡ format_answer (store mst xrf)) × (store m x ≡ format_leaves (store mst xrf))
+        → ((Ok tt) ≡ format_answer (store mst xrf)) × (store m x ≡ format_leaves (store mst xrf))
     unfolding format_answer format_leaves after number_of
     format_done m x p q = (rw (← e, h), rw (← e, h, p, q))
 
@@ -83,7 +83,7 @@ module _ (mst xrf tags lens bytes : List ℕ) (plan : Creating) (p : plan ≡ cr
       (Write (record { 0 = next_of mst }) (end_of mst) (need_for (draft_fields tags lens bytes))) (Unwritten (create_answer (store mst xrf) (draft tags lens bytes))))
 
   module _ (next : Mfn) (end need : ℕ) (q : plan ≡ Write next end need) where
-    written : (create_answer (store mst xrf) (draft tags lens bytes) ≡ Done) × (next ≡ record { 0 = next_of mst }) × (end ≡ end_of mst) × (need ≡ need_for (draft_fields tags lens bytes))
+    written : (create_answer (store mst xrf) (draft tags lens bytes) ≡ Ok tt) × (next ≡ record { 0 = next_of mst }) × (end ≡ end_of mst) × (need ≡ need_for (draft_fields tags lens bytes))
     unfolding create_plan
     written =
         ⊎_elim
@@ -98,10 +98,10 @@ module _ (mst xrf tags lens bytes : List ℕ) (plan : Creating) (p : plan ≡ cr
     create_passed =
         let w = written in
         let g = gate_done mst xrf _ (create_through (store mst xrf) (draft tags lens bytes) w.0) in
-        let d = passed (not (draft_right tags lens bytes)) BadDraft _ (λ z. omega arith) g.2 in
-        let f = passed (eqb (next_of mst) (capacity_of (length xrf) + 1)) NoSlot _ (λ z. omega arith) d.1 in
-        let s = passed (not (head_right xrf (xrf_block (next_of mst)) && slot_free xrf (next_of mst))) BadEntry _ (λ z. omega arith) f.1 in
-        let r = passed (exceeds mst (need_for (draft_fields tags lens bytes))) NoRoom Done (λ z. omega arith) s.1 in
+        let d = passed (not (draft_right tags lens bytes)) (Err BadDraft) _ (λ z. omega arith) g.2 in
+        let f = passed (eqb (next_of mst) (capacity_of (length xrf) + 1)) (Err NoSlot) _ (λ z. omega arith) d.1 in
+        let s = passed (not (head_right xrf (xrf_block (next_of mst)) && slot_free xrf (next_of mst))) (Err BadEntry) _ (λ z. omega arith) f.1 in
+        let r = passed (exceeds mst (need_for (draft_fields tags lens bytes))) (Err NoRoom) (Ok tt) (λ z. omega arith) s.1 in
         (open_from mst xrf next end g.0 g.1 (ap (λ (n : Mfn). n.0) w.1) w.2, not-false _ d.0, f.0, r.0)
 
     pub create_asks : (HasSlot xrf next.0 × (next.0 ≡ next_of mst) × (next.0 ≤ mfn_most))
@@ -118,7 +118,7 @@ module _ (mst xrf tags lens bytes : List ℕ) (plan : Creating) (p : plan ≡ cr
         )
 
     pub create_done : (m x : List ℕ) → m ≡ created_mst mst (draft_fields tags lens bytes) → x ≡ created_xrf mst xrf
-        → (◌≡◌ {A = Created} (record { answer = Done; mfn = next }) (create_of (store mst xrf) (draft tags lens bytes)))
+        → (◌≡◌ {A = Created} (record { answer = Ok tt; mfn = next }) (create_of (store mst xrf) (draft tags lens bytes)))
         × (store m x ≡ create_leaves (store mst xrf) (draft tags lens bytes))
     unfolding create_of create_leaves after number_of
     create_done m x s t = let w = written in (rw (w.0, w.1), rw (w.0, s, t))
@@ -135,7 +135,7 @@ module _ (mst xrf : List ℕ) (m : ℕ) (k : Reached) (u : k ≡ settle_plan (st
       (t ∙ sym h.0, sym (after_refused (settle_answer (store mst xrf) m) _ (store mst xrf) h.1))
 
   module _ (end : ℕ) (p : Place) (l : Leader) (q : k ≡ There end p l) where
-    settling : (settle_answer (store mst xrf) m ≡ Done) × (end_of mst ≡ end) × (place_for (store mst xrf) m ≡ p) × (leader_at mst (place_for (store mst xrf) m) ≡ l)
+    settling : (settle_answer (store mst xrf) m ≡ Ok tt) × (end_of mst ≡ end) × (place_for (store mst xrf) m ≡ p) × (leader_at mst (place_for (store mst xrf) m) ≡ l)
     unfolding settle_plan reached_if
     settling = of_record (settle_answer (store mst xrf) m) _ _ _ end p l (sym u ∙ q)
 
@@ -155,7 +155,7 @@ module _ (mst xrf : List ℕ) (m : ℕ) (k : Reached) (u : k ≡ settle_plan (st
         (slot_known mst xrf m _ (end_of mst) o p l k, read_own mst (end_of mst) p l (read_known mst xrf m _ (end_of mst) o p l k))
 
     pub settle_done : (last lastX : List ℕ) → last ≡ settled_mst mst p → lastX ≡ settled_xrf xrf m p
-        → (Done ≡ settle_answer (store mst xrf) m) × (store last lastX ≡ settle_leaves (store mst xrf) m)
+        → ((Ok tt) ≡ settle_answer (store mst xrf) m) × (store last lastX ≡ settle_leaves (store mst xrf) m)
     unfolding settle_leaves after number_of
     settle_done last lastX s t = let a = settling in (sym a.0, rw (a.0, a.2, s, t))
 
@@ -175,7 +175,7 @@ module _ (mst xrf : List ℕ) (m : ℕ) (k : Reached) (u : k ≡ revert_plan (st
       (t ∙ sym h.0, sym (after_refused (revert_answer (store mst xrf) m) _ (store mst xrf) h.1))
 
   module _ (end : ℕ) (p : Place) (l : Leader) (q : k ≡ There end p l) where
-    reverting : (revert_answer (store mst xrf) m ≡ Done) × (end_of mst ≡ end) × (place_for (store mst xrf) m ≡ p) × (leader_at mst (place_for (store mst xrf) m) ≡ l)
+    reverting : (revert_answer (store mst xrf) m ≡ Ok tt) × (end_of mst ≡ end) × (place_for (store mst xrf) m ≡ p) × (leader_at mst (place_for (store mst xrf) m) ≡ l)
     unfolding revert_plan reached_if
     reverting = of_record (revert_answer (store mst xrf) m) _ _ _ end p l (sym u ∙ q)
 
@@ -185,8 +185,8 @@ module _ (mst xrf : List ℕ) (m : ℕ) (k : Reached) (u : k ≡ revert_plan (st
         let a = reverting in
         let g = gate_done mst xrf _ (revert_through (store mst xrf) m a.0) in
         let n = named_done mst xrf m (both_fine (store mst xrf) m) _ g.2 in
-        let x = passed (is_settled (place_for (store mst xrf) m).mark) NotPending _ (λ z. omega arith) n.3 in
-        let y = passed (is_new (place_for (store mst xrf) m).mark) NeverSettled Done (λ z. omega arith) x.1 in (
+        let x = passed (is_settled (place_for (store mst xrf) m).mark) (Err NotPending) _ (λ z. omega arith) n.3 in
+        let y = passed (is_new (place_for (store mst xrf) m).mark) (Err NeverSettled) (Ok tt) (λ z. omega arith) x.1 in (
           planned_at mst xrf m p l g.0 g.1 n.0 n.1 (and_left _ _ n.2) a.2 a.3,
           rw a.2 at (only_changed (place_for (store mst xrf) m).mark x.0 y.0),
         )
@@ -205,6 +205,6 @@ module _ (mst xrf : List ℕ) (m : ℕ) (k : Reached) (u : k ≡ revert_plan (st
     revert_long = let o = revert_passed.0.gate in omega arith
 
     pub revert_done : (master last : List ℕ) → master ≡ cond p.deleted (counted_more mst) mst → last ≡ with_entry xrf m (placed l.mfbwb.0 l.mfbwp false Settled)
-        → (Done ≡ revert_answer (store mst xrf) m) × (store master last ≡ revert_leaves (store mst xrf) m)
+        → ((Ok tt) ≡ revert_answer (store mst xrf) m) × (store master last ≡ revert_leaves (store mst xrf) m)
     unfolding revert_leaves reverted_mst reverted_xrf after number_of
     revert_done master last w s = let a = reverting in (sym a.0, rw (a.0, a.3, a.2, w, s))

@@ -1,5 +1,6 @@
 -- Inner: serves the functions of this crate, no part of what is promised. What a call has decided before it writes: the refusal, or what the
 -- writing half needs to know.
+use Rattle.std.specs.Prelude.{Ok}
 use Rattle.std.specs.Prelude.{ℕ, ◌+◌, ◌≤◌, ◌≡◌, not, ◌&&◌, List, [], ◌∷◌, eqb, length}
 use Rattle.layout.specs.Sizes.{xrf_most, mst_most, record_most, capacity_of}
 use Rattle.files.specs.CrossReference.{xrf_block, head_right, slot_free}
@@ -7,10 +8,9 @@ use Rattle.files.specs.Control.{next_of, end_of}
 use Rattle.drafts.specs.Bytes.{need_for}
 use Rattle.store.specs.Store.{Store}
 use Rattle.drafts.specs.Draft.{Draft, fields_in}
-use Rattle.store.specs.Answer.{refuse, lowest, after}
+use Rattle.store.specs.Answer.{refuse, lowest, after, Answer}
 use Rattle.store.specs.Gate.{reached_if}
-use Rattle.store.specs.declared.answer.Answer.{Answer}
-use Rattle.store.specs.declared.answer.Answer.TheVariants.{Done, NoSlot, BadEntry, NoRoom}
+use Rattle.store.specs.declared.answer.Refusal.TheVariants.{NoSlot, BadEntry, NoRoom}
 use Rattle.store.specs.declared.gate.Reached.{Reached}
 use Rattle.writing.specs.Refusals.{exceeds, create_answer, settle_answer, revert_answer}
 use Rattle.writing.specs.declared.create.Creating.{Creating}
@@ -47,5 +47,5 @@ create_plan s d =
     after (create_answer s d) (Write (record { 0 = next_of s.mst }) (end_of s.mst) (need_for (fields_in d))) (Unwritten (create_answer s d))
 
 abbrev pub creating_answer : Creating → Answer
-creating_answer (Write next end need) = Done
+creating_answer (Write next end need) = (Ok tt)
 creating_answer (Unwritten a) = a
