@@ -23,7 +23,7 @@ use Rattle.layout.specs.Entry.{entry_of, encode_of}
 use Rattle.files.specs.Control.{offsets_from, stored_offset, read_offset, next_of, end_from, end_of, numbers_right, end_right_from, control_right_from, control_right, with_next, with_end, formatted_mst, migrated_mst}
 use Rattle.files.specs.CrossReference.{xrf_block, slot_at, head_bits, head_right, slot_free, entry_at, with_entry, with_heads, formatted_xrf}
 use Rattle.files.specs.Inner.{control_of}
-use Rattle.files.specs.declared.control.Control.TheVariants.{Right, Wrong}
+use Rattle.std.proofs.Common.{Some, None}
 use Rattle.layout.specs.declared.entry.Place.{Place}
 use Rattle.layout.specs.declared.entry.Entry.{Entry}
 use Rattle.layout.specs.declared.entry.Entry.TheVariants.{Malformed}
@@ -116,19 +116,19 @@ pub ruleset control_answers =
 
 -- what is read by the rule of today
 module _ (mst : List ℕ) (capacity : ℕ) where
-  is_wrong : false ≡ control_right mst capacity → Wrong ≡ control_of mst capacity
+  is_wrong : false ≡ control_right mst capacity → None ≡ control_of mst capacity
   unfolding control_of
   is_wrong e = rw (← e)
 
-  pub read_short : length mst < 64 → Wrong ≡ control_of mst capacity
+  pub read_short : length mst < 64 → None ≡ control_of mst capacity
   read_short h = is_wrong (control_short offsets_from mst capacity h)
 
   module _ (numbers : Bool) (e : numbers ≡ numbers_right mst capacity) where
-    pub read_numbers : not numbers ≡ true → Wrong ≡ control_of mst capacity
+    pub read_numbers : not numbers ≡ true → None ≡ control_of mst capacity
     read_numbers h = is_wrong (control_numbers offsets_from mst capacity numbers e h)
 
     module _ (h : not numbers ≡ false) (end : Bool) (f : end ≡ end_right_from offsets_from mst) where
-      pub read_end : not end ≡ true → Wrong ≡ control_of mst capacity
+      pub read_end : not end ≡ true → None ≡ control_of mst capacity
       read_end i = is_wrong (sym (not-true end i) ∙ control_end offsets_from mst capacity numbers e end h f)
 
       module _ (i : not end ≡ false) where
@@ -141,7 +141,7 @@ module _ (mst : List ℕ) (capacity : ℕ) where
         pub read_offset_lem : offsets_from ≤ u16_at mst 12
         read_offset_lem = let s = (end_stored offsets_from mst capacity is_right).even in omega arith
 
-        pub read_right : (n r : ℕ) → n ≡ u32_at mst 4 → r ≡ end_of mst → Right (record { 0 = n }) r ≡ control_of mst capacity
+        pub read_right : (n r : ℕ) → n ≡ u32_at mst 4 → r ≡ end_of mst → Some (record { next = record { 0 = n }; end = r }) ≡ control_of mst capacity
         unfolding control_of next_of
         read_right n r p q = rw (is_right, p, q)
 

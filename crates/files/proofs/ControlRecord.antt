@@ -15,8 +15,8 @@ use Rattle.word.proofs.Integers.{u16_same, u32_same, u16_inside, u32_inside, u16
 use Rattle.layout.specs.Sizes.{mst_blocks, offset_most, address_limit, mst_permitted, block_at, offset_at}
 use Rattle.files.specs.Control.{offsets_from, old_offsets_from, control_read, stored_offset, read_offset, end_bytes, next_of, end_from, end_of, old_end_of, numbers_right, end_right_from, control_right_from, control_right, old_control_right, with_next, with_end, formatted_mst, migrated_mst}
 use Rattle.files.specs.Inner.{control_of}
-use Rattle.layout.specs.declared.sizes.Mfn.{Mfn}
-use Rattle.files.specs.declared.control.Control.TheVariants.{Right, Wrong}
+use Rattle.std.proofs.Common.{Some, None}
+use Rattle.files.specs.declared.control.Control.{Control}
 use Rattle.word.proofs.Tests.{tests, false_true}
 use Rattle.files.proofs.Zero.{zeros, zero_u16, zero_u32}
 use Rattle.layout.proofs.Facts.{address_of_at, blocks_facts}
@@ -75,21 +75,21 @@ unfolding control_right_from numbers_right end_right_from
 control_from mst capacity a b c d s h i = simp tests ((((a, b), c), d), ((((s.block, s.even), s.offset), h), i))
 
 -- what is read where it is right
-right_cases : (t : Bool) (n : Mfn) (e : ℕ) (m : Mfn) (end : ℕ) → cond t (Right n e) Wrong ≡ Right m end → (t ≡ true) × (n ≡ m) × (e ≡ end)
-right_cases true n e m end p = (refl, (cc), (cc))
-right_cases false n e m end p = let z : ◌≡◌ {A = ℕ} 0 1 = cc in absurd (omega arith)
+right_cases : (t : Bool) (k l : Control) → cond t (Some k) None ≡ Some l → (t ≡ true) × (k ≡ l)
+right_cases true k l p = (refl, (cc))
+right_cases false k l p = absurd (cc)
 
 -- the control record was read, and NXTMFN and the end with it
-pub record ControlRead (mst : List ℕ) (capacity : ℕ) (next : Mfn) (end : ℕ) : Type 0 where
+pub record ControlRead (mst : List ℕ) (capacity : ℕ) (k : Control) : Type 0 where
   pub right : control_right mst capacity ≡ true
-  pub next_is : next.0 ≡ next_of mst
-  pub end_is : end ≡ end_of mst
+  pub next_is : k.next.0 ≡ next_of mst
+  pub end_is : k.end ≡ end_of mst
 
-pub control_read_lem : (mst : List ℕ) (capacity : ℕ) (next : Mfn) (end : ℕ) → control_of mst capacity ≡ Right next end → ControlRead mst capacity next end
+pub control_read_lem : (mst : List ℕ) (capacity : ℕ) (k : Control) → control_of mst capacity ≡ Some k → ControlRead mst capacity k
 unfolding control_of
-control_read_lem mst capacity next end e =
-    let q = right_cases (control_right mst capacity) (record { 0 = next_of mst }) (end_of mst) next end e in
-    record { right = q.0; next_is = ap (λ (m : Mfn). m.0) (sym q.1); end_is = sym q.2 }
+control_read_lem mst capacity k e =
+    let q = right_cases (control_right mst capacity) (record { next = record { 0 = next_of mst }; end = end_of mst }) k e in
+    record { right = q.0; next_is = ap (λ (l : Control). l.next.0) (sym q.1); end_is = ap (λ (l : Control). l.end) (sym q.1) }
 
 -- ---- what keeps the bytes that are read
 

@@ -19,11 +19,11 @@ const OLD_OFFSETS_FROM: u16 = 0;
 // The greatest signed number of 4 bytes.
 const COUNT_MOST: u32 = 2147483647;
 
-// What the control record says, where it is right.
-#[derive(Clone, Copy)]
-pub enum Control {
-    Right { next: Mfn, end: usize },
-    Wrong,
+// What a right control record says.
+#[derive(Clone, Copy, Debug, PartialEq, Eq)]
+pub struct Control {
+    pub next: Mfn,
+    pub end: usize,
 }
 
 fn numbers_right(mst: &[u8], capacity: usize) -> bool
@@ -73,22 +73,22 @@ fn end_right(mst: &[u8], from: u16) -> bool
 }
 
 // Reads the control record of an MST, for a capacity.
-pub fn read_control(mst: &[u8], capacity: usize) -> Control
+pub fn read_control(mst: &[u8], capacity: usize) -> Option<Control>
     ensures { result ≡ control_of mst.now capacity }
 {
     if mst.len() < 64 {
-        return Control::Wrong;
+        return None;
     }
     if !numbers_right(mst, capacity) {
-        return Control::Wrong;
+        return None;
     }
     if !end_right(mst, OFFSETS_FROM) {
-        return Control::Wrong;
+        return None;
     }
-    Control::Right {
+    Some(Control {
         next: Mfn(u32_at(mst, 4)),
         end: end_of(mst, OFFSETS_FROM),
-    }
+    })
 }
 
 // Whether the control record is right by the old rule.

@@ -6,7 +6,7 @@ ghost use Rattle.layout.specs.Entry.{well_placed, block_of, low_of, marked_place
 use crate::sizes::{Block, OFFSET_MOST};
 
 // What is pending: nothing, a change of a settled record, or a record never settled.
-#[derive(Clone, Copy)]
+#[derive(Clone, Copy, Debug, PartialEq, Eq)]
 pub enum Mark {
     Settled,
     Changed,
@@ -14,7 +14,7 @@ pub enum Mark {
 }
 
 // Where a record stands, and what its entry says of it.
-#[derive(Clone, Copy)]
+#[derive(Clone, Copy, Debug, PartialEq, Eq)]
 pub struct Place {
     pub block: Block,
     pub offset: u16,
@@ -23,7 +23,7 @@ pub struct Place {
 }
 
 // The kinds of entry below NXTMFN.
-#[derive(Clone, Copy)]
+#[derive(Clone, Copy, Debug, PartialEq, Eq)]
 pub enum Entry {
     Gone,
     Malformed,

@@ -6,7 +6,7 @@ ghost use Rattle.layout.specs.Inner.{first_bytes};
 
 use crate::sizes::{Block, Mfn};
 
-#[derive(Clone, Copy)]
+#[derive(Clone, Copy, Debug, PartialEq, Eq)]
 pub struct Leader {
     pub mfn: Mfn,
     pub mfrl: u16,

@@ -19,15 +19,15 @@ const TAG_MOST: u16 = 32767;
 pub const OFFSET_MOST: u16 = 498;
 
 // A master file number, counted from 1.
-#[derive(Clone, Copy)]
+#[derive(Clone, Copy, Debug, PartialEq, Eq, PartialOrd, Ord)]
 pub struct Mfn(pub u32);
 
 // A block number, counted from 1.
-#[derive(Clone, Copy)]
+#[derive(Clone, Copy, Debug, PartialEq, Eq, PartialOrd, Ord)]
 pub struct Block(pub u32);
 
 // A field tag.
-#[derive(Clone, Copy)]
+#[derive(Clone, Copy, Debug, PartialEq, Eq, PartialOrd, Ord)]
 pub struct Tag(pub u16);
 
 fn blocks_within(most: usize, n: usize) -> bool
