@@ -48,40 +48,22 @@ use Rattle.store.specs.Store.{store}
 
 -- ---- lengths and control record
 
-module _ (mst xrf : List ℕ) where
-  module _ (w : Bool) (e : w ≡ mst_permitted (length mst)) where
-    pub lengths_no : not w ≡ true → false ≡ lengths_permitted (store mst xrf)
-    unfolding lengths_permitted
-    lengths_no h = rw (← e, not-true w h)
+module _ (mst xrf : List ℕ) (w : Bool) (e : w ≡ lengths_permitted (store mst xrf)) where
+  pub gate_lengths : not w ≡ true → Err BadLength ≡ gate_of (store mst xrf)
+  unfolding gate_of give
+  gate_lengths h = rw (← e, not-true w h)
 
-    pub lengths_rest : (r : Bool) → not w ≡ false → r ≡ xrf_permitted (length xrf) → r ≡ lengths_permitted (store mst xrf)
-    unfolding lengths_permitted
-    lengths_rest r h s = rw (s, ← e, not-false w h)
+  module _ (h : not w ≡ false) (n : ℕ) (s : n ≡ capacity_of (length xrf)) where
+    read : (o : Option Control) → control_of mst (capacity_of (length xrf)) ≡ o → ok_or o BadControl ≡ gate_of (store mst xrf)
+    unfolding gate_of give control_of
+    read None v = rw (← e, not-false w h, control_none (control_fine (store mst xrf)) v)
+    read (Some k) v =
+        let q = control_read_lem mst (capacity_of (length xrf)) k v in
+        let r : control_with (next_of mst) (end_of mst) ≡ k = cc (q.next_is, q.end_is) in
+        rw (← e, not-false w h, q.right) (ap Ok (sym r))
 
-  module _ (w : Bool) (e : w ≡ lengths_permitted (store mst xrf)) where
-    pub gate_lengths : not w ≡ true → Shut (Err BadLength) ≡ gate_of (store mst xrf)
-    unfolding gate_of after number_of
-    gate_lengths h = rw (← e, not-true w h)
-
-    module _ (h : not w ≡ false) (n : ℕ) (s : n ≡ capacity_of (length xrf)) (k : Control) (u : k ≡ control_of mst n) where
-      control_wrong : (t : Bool) (next : Mfn) (end : ℕ) → cond t (Right next end) Wrong ≡ Wrong → t ≡ false
-      control_wrong true next end p = let z : ◌≡◌ {A = ℕ} 0 1 = cc in absurd (omega arith)
-      control_wrong false next end p = refl
-
-      read : control_of mst (capacity_of (length xrf)) ≡ k
-      read = ap (control_of mst) (sym s) ∙ sym u
-
-      pub gate_wrong : k ≡ Wrong → Shut (Err BadControl) ≡ gate_of (store mst xrf)
-      unfolding control_of gate_of after number_of
-      gate_wrong v =
-          let q : control_fine (store mst xrf) ≡ false = control_wrong (control_fine (store mst xrf)) (record { 0 = next_of mst }) (end_of mst) (read ∙ v) in
-          rw (← e, not-false w h, q)
-
-      pub gate_right : (next : Mfn) (end : ℕ) → k ≡ Right next end → Open next end ≡ gate_of (store mst xrf)
-      unfolding gate_of after number_of
-      gate_right next end v =
-          let q = control_read_lem mst (capacity_of (length xrf)) next end (read ∙ v) in
-          rw (← e, not-false w h, q.right, q.end_is) (ap (λ (x : ℕ). Open (record { 0 = x }) (end_of mst)) q.next_is)
+    pub gate_read : (o : Option Control) → o ≡ control_of mst n → ok_or o BadControl ≡ gate_of (store mst xrf)
+    gate_read o u = read o (ap (control_of mst) (sym s) ∙ sym u)
 
 -- ---- the back pointer
 

@@ -34,7 +34,7 @@ use Rattle.record.proofs.Facts.{LeaderFacts, well_formed_both, right_facts, righ
 use Rattle.store.specs.Answer.{refusal_number, number_of, Row, lowest, after, give, Answer}
 use Rattle.store.specs.Reading.{lengths_permitted, control_fine, mfn_in_range, entry_for, place_in, place_for, is_malformed, is_gone, is_changed, record_at, leader_at, back_address, back_fine, record_fine, settled_record, settled_fine, version_fine, current_fields}
 use Rattle.store.specs.Refusals.{gated, named, fine, both_fine}
-use Rattle.store.specs.Gate.{control, found, gate_of, known_if, known_of, known_both}
+use Rattle.store.specs.Gate.{control_with, record_of, gate_of, known_if, known_of, known_both}
 use Rattle.store.specs.declared.answer.Refusal.TheVariants.{BadLength, BadControl, BadDraft, NoMfn, NoSlot, BadEntry, Gone as GoneRefusal, BadRecord, Deleted, NotPending, NeverSettled, NoField, NoRoom, NotSound, FewerFields, NoRoomInList}
 use Rattle.store.specs.declared.answer.Refusal.{Refusal}
 use Rattle.files.specs.declared.control.Control.{Control}
@@ -174,7 +174,7 @@ open_cases false control e = let z : ◌≡◌ {A = ℕ} 0 1 = cc in absurd (ome
 pub gate_shut : (mst xrf : List ℕ) (r : Refusal) → gate_of (store mst xrf) ≡ Err r → ShutFacts mst xrf r
 unfolding gate_of
 gate_shut mst xrf r e =
-    let q = given_refused (lowest (gated (store mst xrf) [])) (control (next_of mst) (end_of mst)) r e in
+    let q = given_refused (lowest (gated (store mst xrf) [])) (control_with (next_of mst) (end_of mst)) r e in
     record { answers = λ rest. shut_cases r (lengths_permitted (store mst xrf)) (control_fine (store mst xrf)) q (lowest rest) }
 
 -- both lengths are permitted
@@ -239,7 +239,7 @@ open_from mst xrf next end a b c d =
 pub gate_open : (mst xrf : List ℕ) (k : Control) → gate_of (store mst xrf) ≡ Ok k → OpenFacts mst xrf k.next k.end
 unfolding gate_of
 gate_open mst xrf k e =
-    let q = given_done (lowest (gated (store mst xrf) [])) (control (next_of mst) (end_of mst)) k e in
+    let q = given_done (lowest (gated (store mst xrf) [])) (control_with (next_of mst) (end_of mst)) k e in
     let w = open_cases (lengths_permitted (store mst xrf)) (control_fine (store mst xrf)) q.0 in
     open_from mst xrf k.next k.end w.0 w.1 (ap (λ (c : Control). c.next.0) (sym q.1)) (ap (λ (c : Control). c.end) (sym q.1))
 
@@ -462,16 +462,16 @@ module _ (mst xrf : List ℕ) (m : ℕ) (p : Place) (l : Leader) where
       }
 
   -- the MFN, its entry and what 8 asks, where a record was found
-  found_by : (ok : Bool) → known_if (lowest (named (store mst xrf) m ok [])) (store mst xrf) m ≡ Ok (found p l)
+  found_by : (ok : Bool) → known_if (lowest (named (store mst xrf) m ok [])) (store mst xrf) m ≡ Ok (record_of p l)
       → (mfn_in_range mst m ≡ true) × (entry_for (store mst xrf) m ≡ At p) × (ok ≡ true) × (l ≡ leader_in mst (entry_for (store mst xrf) m))
   unfolding known_if leader_in
   found_by ok h =
-      let q = given_done _ _ (found p l) h in
+      let q = given_done _ _ (record_of p l) h in
       let n = list_done (mfn_in_range mst m) (entry_for (store mst xrf) m) ok (Ok tt) q.0 in
       let at : place_for (store mst xrf) m ≡ p = ap (λ (x : Record). x.place) q.1 in
       (n.0, rw at at n.1, n.2, ap (λ (x : Record). x.leader) (sym q.1))
 
-  pub known_facts : known_of (store mst xrf) m ≡ Ok (found p l) → KnownFacts mst xrf m p l
+  pub known_facts : known_of (store mst xrf) m ≡ Ok (record_of p l) → KnownFacts mst xrf m p l
   unfolding known_of
   known_facts h = let q = found_by (fine (store mst xrf) m) h in known_from q.0 q.1 q.2 q.3
 
@@ -523,7 +523,7 @@ module _ (mst xrf : List ℕ) (m : ℕ) (p : Place) (l : Leader) where
         settled = λ c. rw k.leader_is (settled_facts mst m p k.record_fine_lem c (changed_fine v c));
       }
 
-  pub both_facts : known_both (store mst xrf) m ≡ Ok (found p l) → BothFacts mst xrf m p l
+  pub both_facts : known_both (store mst xrf) m ≡ Ok (record_of p l) → BothFacts mst xrf m p l
   unfolding known_both
   both_facts h =
       let q = found_by mst xrf m p l (both_fine (store mst xrf) m) h in

@@ -21,24 +21,24 @@ use Rattle.store.specs.declared.gate.Reached.{Reached}
 
 -- ---- what is found
 
-abbrev pub control : ℕ → ℕ → Control
-control next end = record { next = record { 0 = next }; end = end }
+abbrev pub control_with : ℕ → ℕ → Control
+control_with next end = record { next = record { 0 = next }; end = end }
 
-abbrev pub found : Place → Leader → Record
-found p l = record { place = p; leader = l }
+abbrev pub record_of : Place → Leader → Record
+record_of p l = record { place = p; leader = l }
 
-abbrev pub there : ℕ → Place → Leader → Reached
-there end p l = record { end = end; place = p; leader = l }
+abbrev pub reached_at : ℕ → Place → Leader → Reached
+reached_at end p l = record { end = end; place = p; leader = l }
 
 -- ---- where
 
 -- NXTMFN and the end, where 1 and 2 do not apply
 unfoldable pub gate_of : Store → Result Control Refusal
-gate_of s = give (lowest (gated s [])) (control (next_of s.mst) (end_of s.mst))
+gate_of s = give (lowest (gated s [])) (control_with (next_of s.mst) (end_of s.mst))
 
 -- the place and the leader of MFN m's record, where the answer is done
 unfoldable pub known_if : Answer → Store → ℕ → Result Record Refusal
-known_if a s m = give a (found (place_for s m) (leader_at s.mst (place_for s m)))
+known_if a s m = give a (record_of (place_for s m) (leader_at s.mst (place_for s m)))
 
 -- the record of MFN m, where 4, 6, 7 and 8 do not apply
 unfoldable pub known_of : Store → ℕ → Result Record Refusal
@@ -50,7 +50,7 @@ known_both s m = known_if (lowest (named s m (both_fine s m) [])) s m
 
 -- the end too, where 1 and 2 do not apply either
 unfoldable pub reached_if : Answer → Store → ℕ → Result Reached Refusal
-reached_if a s m = give a (there (end_of s.mst) (place_for s m) (leader_at s.mst (place_for s m)))
+reached_if a s m = give a (reached_at (end_of s.mst) (place_for s m) (leader_at s.mst (place_for s m)))
 
 unfoldable pub reached_of : Store → ℕ → Result Reached Refusal
 reached_of s m = reached_if (lowest (gated s (named s m (fine s m) []))) s m
@@ -66,7 +66,7 @@ place_given (At p) = Ok p
 
 -- the record at a place, where it is well formed for m
 unfoldable pub place_known : List ℕ → ℕ → Place → Result Record Refusal
-place_known mst m p = cond (record_fine mst m p) (Ok (found p (leader_at mst p))) (Err BadRecord)
+place_known mst m p = cond (record_fine mst m p) (Ok (record_of p (leader_at mst p))) (Err BadRecord)
 
 -- the record at an address is a well-formed settled version for m
 unfoldable pub settled_from : List ℕ → ℕ → ℕ → ℕ → Bool
