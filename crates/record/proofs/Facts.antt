@@ -1,8 +1,8 @@
 -- The tests of `specs/` as facts on numbers: a test that came out true gives a record of facts, and the facts give the test back. Callers
 -- read the records and never the tests.
-use Prim.Native.Nat.{ℕ, suc, ◌+◌, ◌*◌, ◌-◌, ◌%◌, ◌≤◌}
+use Prim.Native.Nat.{ℕ, zero, suc, ◌+◌, ◌*◌, ◌-◌, ◌%◌, ◌≤◌}
 use native.Mathlib.Omega.{arith}
-use mathlib.Core.Path.{◌≡◌, refl, ap}
+use mathlib.Core.Path.{◌≡◌, refl, ap, ◌∙◌}
 use mathlib.Core.Bool.{Bool, true, false, ◌&&◌, cond, and-true, and-false}
 use mathlib.Core.List.{List}
 use lib.ListN.{length}
@@ -14,8 +14,9 @@ use Rattle.word.proofs.Tests.{tests}
 use Rattle.layout.proofs.Facts.{record_length_facts}
 use Rattle.record.specs.Directory.{tag_at, pos_at, len_at, entry_right, entries_right, directory_right}
 use Rattle.record.specs.Record.{leader_right, extent_right, base_right, fields_right, status_for, status_right, back_fine, well_formed, record_right, broken_entry, no_back, Readable}
-use Rattle.record.specs.Inner.{test_of}
-use Rattle.record.specs.declared.test.Tested.TheVariants.{WellFormed, Broken}
+use Rattle.record.specs.Inner.{broken_of, number_told, test_of}
+use Rattle.std.proofs.Common.{Ok, Err}
+use Rattle.record.specs.declared.test.Broken.{Broken}
 
 -- ---- the directory
 
@@ -139,24 +140,30 @@ readable_facts {rec} r =
 
 -- ---- the test and the back pointer
 
-tested_right : (b : Bool) (l k : Leader) (n : ℕ) → cond b (WellFormed l) (Broken n) ≡ WellFormed k → (b ≡ true) × (l ≡ k)
-tested_right true l k n p = (refl, (cc))
-tested_right false l k n p = let z : ◌≡◌ {A = ℕ} 0 1 = cc in absurd (omega arith)
+tested_right : (b : Bool) (l k : Leader) (x : Broken) → cond b (Ok l) (Err x) ≡ Ok k → (b ≡ true) × (l ≡ k)
+tested_right true l k x p = (refl, (cc))
+tested_right false l k x p = absurd (cc)
 
-tested_broken : (b : Bool) (l : Leader) (n k : ℕ) → cond b (WellFormed l) (Broken n) ≡ Broken k → (b ≡ false) × (n ≡ k)
-tested_broken true l n k p = let z : ◌≡◌ {A = ℕ} 0 1 = cc in absurd (omega arith)
-tested_broken false l n k p = (refl, (cc))
+tested_broken : (b : Bool) (l : Leader) (x y : Broken) → cond b (Ok l) (Err x) ≡ Err y → (b ≡ false) × (x ≡ y)
+tested_broken true l x y p = absurd (cc)
+tested_broken false l x y p = (refl, (cc))
+
+told_back : (n : ℕ) → n ≡ number_told (broken_of n)
+told_back zero = refl
+told_back (suc n) = refl
 
 module _ (rec : List ℕ) (m : ℕ) (deleted : Bool) where
   -- a record that was tested well formed, with its leader
-  pub test_right : (l : Leader) → test_of rec m deleted ≡ WellFormed l → (record_right rec m deleted ≡ true) × (leader_of rec ≡ l)
+  pub test_right : (l : Leader) → test_of rec m deleted ≡ Ok l → (record_right rec m deleted ≡ true) × (leader_of rec ≡ l)
   unfolding test_of
-  test_right l e = tested_right (record_right rec m deleted) (leader_of rec) l (broken_entry rec m deleted) e
+  test_right l e = tested_right (record_right rec m deleted) (leader_of rec) l _ e
 
-  -- and one that was not, with the entry that it was told
-  pub test_broken : (n : ℕ) → test_of rec m deleted ≡ Broken n → (record_right rec m deleted ≡ false) × (broken_entry rec m deleted ≡ n)
+  -- and one that was not, with what is told of it
+  pub test_broken : (x : Broken) → test_of rec m deleted ≡ Err x → (record_right rec m deleted ≡ false) × (broken_entry rec m deleted ≡ number_told x)
   unfolding test_of
-  test_broken n e = tested_broken (record_right rec m deleted) (leader_of rec) (broken_entry rec m deleted) n e
+  test_broken x e =
+      let q = tested_broken (record_right rec m deleted) (leader_of rec) _ x e in
+      (q.0, told_back (broken_entry rec m deleted) ∙ ap number_told q.1)
 
 -- the back pointer is 0/0
 pub record NoBackFacts (l : Leader) : Type 0 where

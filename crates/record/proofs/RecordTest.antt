@@ -1,6 +1,6 @@
 -- What the functions of the record test return, by what their tests found. Each law's premises are what is known at one `return`, so that
 -- `search test_answers` finds them there. And what a test that passed tells the caller.
-use Prim.Native.Nat.{ℕ, ◌+◌, ◌*◌, ◌-◌, ◌<◌, ◌≤◌}
+use Prim.Native.Nat.{ℕ, zero, suc, ◌+◌, ◌*◌, ◌-◌, ◌<◌, ◌≤◌}
 use native.Mathlib.Omega.{arith}
 use mathlib.Core.Path.{◌≡◌, refl, sym, ap, ◌∙◌}
 use mathlib.Core.Bool.{Bool, true, false, not, ◌&&◌, cond, and-false}
@@ -16,8 +16,9 @@ use Rattle.layout.specs.declared.entry.Mark.TheVariants.{Settled, Changed, New}
 use Rattle.layout.specs.declared.leader.Leader.{Leader}
 use Rattle.record.specs.Directory.{isis, directory_right}
 use Rattle.record.specs.Record.{leader_right, extent_right, base_right, fields_right, fields_broken, status_for, status_right, record_right, broken_entry, no_back, back_right, Readable}
-use Rattle.record.specs.Inner.{test_of}
-use Rattle.record.specs.declared.test.Tested.TheVariants.{WellFormed, Broken}
+use Rattle.record.specs.Inner.{broken_of, test_of}
+use Rattle.std.proofs.Common.{Ok, Err}
+use Rattle.record.specs.declared.test.Broken.TheVariants.{Leader as BadLeader, Entry as BadEntry}
 use Rattle.record.proofs.Facts.{leader_facts, test_right, right_readable}
 use Rattle.record.proofs.DirectoryTest.{right_none}
 
@@ -62,17 +63,17 @@ module _ (m : ℕ) (deleted : Bool) (left : ℕ) (l : Leader) where
 -- ---- the record
 
 module _ (rec : List ℕ) (m : ℕ) (deleted : Bool) where
-  pub answer_short : length rec < 18 → Broken 0 ≡ test_of rec m deleted
+  pub answer_short : length rec < 18 → Err BadLeader ≡ test_of rec m deleted
   unfolding test_of record_right broken_entry
   answer_short h = pick (leader_right m deleted (length rec) (leader_of rec)) refl
     where
       pick : (b : Bool) → leader_right m deleted (length rec) (leader_of rec) ≡ b
-          → Broken 0 ≡ cond (b && fields_right rec (leader_of rec)) (WellFormed (leader_of rec)) (Broken (cond b (fields_broken rec (leader_of rec)) 0))
+          → Err BadLeader ≡ cond (b && fields_right rec (leader_of rec)) (Ok (leader_of rec)) (Err (broken_of (cond b (fields_broken rec (leader_of rec)) 0)))
       pick true e = let f = leader_facts m deleted (length rec) (leader_of rec) e in absurd (omega arith)
       pick false e = refl
 
   module _ (l : Leader) (b : Bool) (e : l ≡ leader_of rec) (p : b ≡ leader_right m deleted (length rec) l) where
-    pub answer_leader : not b ≡ true → Broken 0 ≡ test_of rec m deleted
+    pub answer_leader : not b ≡ true → Err BadLeader ≡ test_of rec m deleted
     unfolding test_of record_right broken_entry
     answer_leader h = rw (← e, ← p, not-true b h)
 
@@ -88,13 +89,17 @@ module _ (rec : List ℕ) (m : ℕ) (deleted : Bool) where
         unfolding directory_right
         fields_none = right_none isis rec (l.mfrl - l.base) l.nvf 0 0 ∙ ap (λ (x : ℕ). eqb x 0) (sym q)
 
-        pub answer_right : n ≡ 0 → WellFormed l ≡ test_of rec m deleted
+        pub answer_right : n ≡ 0 → Ok l ≡ test_of rec m deleted
         unfolding test_of record_right
         answer_right k = rw (← e, ← p, fields_none, not-false b h, k)
 
-        pub answer_wrong : (n ≡ 0 → ⊥) → Broken n ≡ test_of rec m deleted
+        pub answer_wrong : (n ≡ 0 → ⊥) → Err (BadEntry n) ≡ test_of rec m deleted
         unfolding test_of record_right broken_entry
-        answer_wrong k = rw (← e, ← p, fields_none, not-false b h, ne_eqb n 0 k, ← q)
+        answer_wrong k = rw (← e, ← p, fields_none, not-false b h, ne_eqb n 0 k, ← q, told n k)
+          where
+            told : (n : ℕ) → (n ≡ 0 → ⊥) → broken_of n ≡ BadEntry n
+            told zero k = absurd (k refl)
+            told (suc n) k = refl
 
 -- ---- the back pointer
 
@@ -125,5 +130,5 @@ pub ruleset test_answers =
 
 -- ---- what a test that passed tells
 
-pub readable : (rec : List ℕ) (m : ℕ) (deleted : Bool) (l : Leader) → test_of rec m deleted ≡ WellFormed l → Readable rec
+pub readable : (rec : List ℕ) (m : ℕ) (deleted : Bool) (l : Leader) → test_of rec m deleted ≡ Ok l → Readable rec
 readable rec m deleted l e = right_readable rec m deleted (test_right rec m deleted l e).0

@@ -14,16 +14,18 @@ use Rattle.word.proofs.Overwrite.{lt_or_ge}
 use Rattle.word.proofs.Tests.{false_true, or_false}
 use Rattle.layout.specs.Leader.{leader_of}
 use Rattle.record.specs.Directory.{tag_at, pos_at, len_at, directory_right}
-use Rattle.record.specs.Fields.{Field, fields_from, fields_of, field_named, occurrences_of, is_missing, is_fewer, find_from, find_of, found_bytes}
+use Rattle.record.specs.Fields.{Field, fields_from, fields_of, field_named, occurrences_of, is_missing, is_fewer, span_at, find_from, find_of, found_bytes}
 use Rattle.record.specs.Record.{Readable}
-use Rattle.record.specs.declared.fields.Found.{Found}
-use Rattle.record.specs.declared.fields.Found.TheVariants.{Span, Fewer, Missing}
+use Rattle.std.proofs.Common.{Result, Ok, Err}
+use Rattle.record.specs.declared.fields.Span.{Span}
+use Rattle.record.specs.declared.fields.NotFound.{NotFound}
+use Rattle.record.specs.declared.fields.NotFound.TheVariants.{Missing, Fewer}
 use Rattle.record.proofs.Facts.{entry_facts, readable_facts}
 use Rattle.record.proofs.DirectoryTest.{rest_step}
 
 -- ---- what is found, as bytes
 
-found_cond : (rec : List ℕ) (b : Bool) (f g : Found) → found_bytes rec (cond b f g) ≡ cond b (found_bytes rec f) (found_bytes rec g)
+found_cond : (rec : List ℕ) (b : Bool) (f g : Result Span NotFound) → found_bytes rec (cond b f g) ≡ cond b (found_bytes rec f) (found_bytes rec g)
 found_cond rec true f g = refl
 found_cond rec false f g = refl
 
@@ -35,38 +37,37 @@ find_from_is rec base tag (suc k) i occ =
 
 -- ---- it lies in the record
 
-found_cases : (a b : Bool) (x y s n : ℕ) (f g : Found) → cond a (cond b (Span x y) f) g ≡ Span s n
-    → ((x ≡ s) × (y ≡ n)) ⊎ ((f ≡ Span s n) ⊎ (g ≡ Span s n))
-found_cases true true x y s n f g p = inl ((cc), (cc))
-found_cases true false x y s n f g p = inr (inl p)
-found_cases false b x y s n f g p = inr (inr p)
+found_cases : (a b : Bool) (s t : Span) (f g : Result Span NotFound) → cond a (cond b (Ok s) f) g ≡ Ok t → (s ≡ t) ⊎ ((f ≡ Ok t) ⊎ (g ≡ Ok t))
+found_cases true true s t f g p = inl (cc)
+found_cases true false s t f g p = inr (inl p)
+found_cases false b s t f g p = inr (inr p)
 
-find_from_in : (rec : List ℕ) (base room tag k i pos occ s n : ℕ) → directory_right rec room k i pos ≡ true
-    → find_from rec base k i tag occ ≡ Span s n → s + n ≤ base + room
+find_from_in : (rec : List ℕ) (base room tag k i pos occ : ℕ) (s : Span) → directory_right rec room k i pos ≡ true
+    → find_from rec base k i tag occ ≡ Ok s → s.start + s.len ≤ base + room
 unfolding find_from
-find_from_in rec base room tag zero i pos occ s n d p = let z : ◌≡◌ {A = ℕ} 0 1 = cc in absurd (omega arith)
-find_from_in rec base room tag (suc k) i pos occ s n d p =
+find_from_in rec base room tag zero i pos occ s d p = absurd (cc)
+find_from_in rec base room tag (suc k) i pos occ s d p =
     let f = entry_facts rec room k i pos d in
     let next : ℕ = pos + len_at rec i in
     ⊎_elim
-    (λ w. omega arith)
+    (λ w. rw (← w) (omega (arith, f.pos_is, f.len)))
     (⊎_elim
-    (λ w. find_from_in rec base room tag k (i + 1) next (occ - 1) s n f.rest w)
-    (λ w. find_from_in rec base room tag k (i + 1) next occ s n f.rest w))
-    (found_cases (eqb (tag_at rec i) tag) (eqb occ 1) _ _ s n _ _ p)
+    (λ w. find_from_in rec base room tag k (i + 1) next (occ - 1) s f.rest w)
+    (λ w. find_from_in rec base room tag k (i + 1) next occ s f.rest w))
+    (found_cases (eqb (tag_at rec i) tag) (eqb occ 1) (span_at rec base i) s _ _ p)
 
-last_span : (a b : Bool) (k s n : ℕ) (f : Found) → cond a Missing (cond b (Fewer k) f) ≡ Span s n → f ≡ Span s n
-last_span true b k s n f e = let z : ◌≡◌ {A = ℕ} 0 1 = cc in absurd (omega arith)
-last_span false true k s n f e = let z : ◌≡◌ {A = ℕ} 0 1 = cc in absurd (omega arith)
-last_span false false k s n f e = e
+last_span : (a b : Bool) (k : ℕ) (s : Span) (f : Result Span NotFound) → cond a (Err Missing) (cond b (Err (Fewer k)) f) ≡ Ok s → f ≡ Ok s
+last_span true b k s f e = absurd (cc)
+last_span false true k s f e = absurd (cc)
+last_span false false k s f e = e
 
-pub found_in : (rec : List ℕ) (tag occ s n : ℕ) → Readable rec → find_of rec tag occ ≡ Span s n → s + n ≤ (leader_of rec).mfrl
+pub found_in : (rec : List ℕ) (tag occ : ℕ) (s : Span) → Readable rec → find_of rec tag occ ≡ Ok s → s.start + s.len ≤ (leader_of rec).mfrl
 unfolding find_of
-found_in rec tag occ s n r e =
+found_in rec tag occ s r e =
     let base : ℕ = (leader_of rec).base in
     let d = (readable_facts r).directory in
-    let there = last_span (is_missing (fields_of rec) tag occ) (is_fewer (fields_of rec) tag occ) (occurrences_of (fields_of rec) tag) s n _ e in
-    omega (arith, (readable_facts r).base_in, find_from_in rec base ((leader_of rec).mfrl - base) tag (leader_of rec).nvf 0 0 occ s n d there)
+    let there = last_span (is_missing (fields_of rec) tag occ) (is_fewer (fields_of rec) tag occ) (occurrences_of (fields_of rec) tag) s _ e in
+    omega (arith, (readable_facts r).base_in, find_from_in rec base ((leader_of rec).mfrl - base) tag (leader_of rec).nvf 0 0 occ s d there)
 
 -- ---- a field is among the fields exactly if its tag occurs so often
 
@@ -151,14 +152,14 @@ module _ (fs : List Field) (tag occ : ℕ) where
 
 -- ---- what the search answers, by counting
 
-pub data FoundBy (fs : List Field) (tag occ : ℕ) : Found → Type 0 where
-  by_missing : is_missing fs tag occ ≡ true → FoundBy fs tag occ Missing
-  by_fewer : is_missing fs tag occ ≡ false → is_fewer fs tag occ ≡ true → FoundBy fs tag occ (Fewer (occurrences_of fs tag))
-  by_span : (start len : ℕ) → is_missing fs tag occ ≡ false → is_fewer fs tag occ ≡ false → FoundBy fs tag occ (Span start len)
+pub data FoundBy (fs : List Field) (tag occ : ℕ) : Result Span NotFound → Type 0 where
+  by_missing : is_missing fs tag occ ≡ true → FoundBy fs tag occ (Err Missing)
+  by_fewer : is_missing fs tag occ ≡ false → is_fewer fs tag occ ≡ true → FoundBy fs tag occ (Err (Fewer (occurrences_of fs tag)))
+  by_span : (s : Span) → is_missing fs tag occ ≡ false → is_fewer fs tag occ ≡ false → FoundBy fs tag occ (Ok s)
 
 module _ (rec : List ℕ) (tag occ : ℕ) where
   -- where the walk along the directory finds it
-  abbrev walked : Found
+  abbrev walked : Result Span NotFound
   walked = find_from rec (leader_of rec).base (leader_of rec).nvf 0 tag occ
 
   walked_is : found_bytes rec walked ≡ field_named (fields_of rec) tag occ
@@ -173,13 +174,12 @@ module _ (rec : List ℕ) (tag occ : ℕ) where
   unfolding find_of
   found_by = by (is_missing (fields_of rec) tag occ) refl (is_fewer (fields_of rec) tag occ) refl
     where
-      last : (f : Found) → (found_bytes rec f ≡ none → ⊥) → is_missing (fields_of rec) tag occ ≡ false → is_fewer (fields_of rec) tag occ ≡ false → FoundBy (fields_of rec) tag occ f
-      last (Span start len) h m f = by_span start len m f
-      last (Fewer n) h m f = absurd (h refl)
-      last Missing h m f = absurd (h refl)
+      last : (f : Result Span NotFound) → (found_bytes rec f ≡ none → ⊥) → is_missing (fields_of rec) tag occ ≡ false → is_fewer (fields_of rec) tag occ ≡ false → FoundBy (fields_of rec) tag occ f
+      last (Ok s) h m f = by_span s m f
+      last (Err n) h m f = absurd (h refl)
 
       by : (a : Bool) → is_missing (fields_of rec) tag occ ≡ a → (b : Bool) → is_fewer (fields_of rec) tag occ ≡ b
-          → FoundBy (fields_of rec) tag occ (cond a Missing (cond b (Fewer (occurrences_of (fields_of rec) tag)) walked))
+          → FoundBy (fields_of rec) tag occ (cond a (Err Missing) (cond b (Err (Fewer (occurrences_of (fields_of rec) tag))) walked))
       by true m b f = by_missing m
       by false m true f = by_fewer m f
       by false m false f = last walked (walked_there m f) m f
@@ -189,7 +189,7 @@ module _ (rec : List ℕ) (tag occ : ℕ) where
   find_field_is = by (is_missing (fields_of rec) tag occ) refl (is_fewer (fields_of rec) tag occ) refl
     where
       by : (a : Bool) → is_missing (fields_of rec) tag occ ≡ a → (b : Bool) → is_fewer (fields_of rec) tag occ ≡ b
-          → found_bytes rec (cond a Missing (cond b (Fewer (occurrences_of (fields_of rec) tag)) walked)) ≡ field_named (fields_of rec) tag occ
+          → found_bytes rec (cond a (Err Missing) (cond b (Err (Fewer (occurrences_of (fields_of rec) tag))) walked)) ≡ field_named (fields_of rec) tag occ
       by true m b f = named_missing (fields_of rec) tag occ m
       by false m true f = named_fewer (fields_of rec) tag occ f
       by false m false f = walked_is
@@ -197,7 +197,7 @@ module _ (rec : List ℕ) (tag occ : ℕ) where
 -- ---- the turns of the loop
 
 -- occurrences count from 1
-pub find_no_occurrence : (rec : List ℕ) (tag occ : ℕ) → occ < 1 → Missing ≡ find_of rec tag occ
+pub find_no_occurrence : (rec : List ℕ) (tag occ : ℕ) → occ < 1 → Err Missing ≡ find_of rec tag occ
 unfolding find_of is_missing
 find_no_occurrence rec tag occ h = rw (eq-eqb occ 0 (omega arith))
 
@@ -224,7 +224,7 @@ sought_none rec tag occ base n h b k =
 find_step : (rec : List ℕ) (base n i tag left : ℕ) → i < n
     → find_from rec base (n - i) i tag left
     ≡ cond (eqb (tag_at rec i) tag)
-    (cond (eqb left 1) (Span (base + pos_at rec i) (len_at rec i)) (find_from rec base (n - (i + 1)) (i + 1) tag (left - 1)))
+    (cond (eqb left 1) (Ok (span_at rec base i)) (find_from rec base (n - (i + 1)) (i + 1) tag (left - 1)))
     (find_from rec base (n - (i + 1)) (i + 1) tag left)
 unfolding find_from
 find_step rec base n i tag left h = rw (rest_step n i h)
@@ -248,11 +248,11 @@ module _ (rec : List ℕ) (tag occ base n i left : ℕ) (inv : Sought rec tag oc
         let rest : occurrences_of (fields_from rec base (n - i) i) tag ≡ 0 = rw z in
         omega (arith, inv.met)
 
-    pub find_missing : occ - left ≤ 0 → Missing ≡ find_of rec tag occ
+    pub find_missing : occ - left ≤ 0 → Err Missing ≡ find_of rec tag occ
     unfolding find_of is_missing
     find_missing e = rw (eq-eqb total 0 (omega (arith, met_all)), or-true)
 
-    pub find_fewer : 0 < occ - left → Fewer (occ - left) ≡ find_of rec tag occ
+    pub find_fewer : 0 < occ - left → Err (Fewer (occ - left)) ≡ find_of rec tag occ
     unfolding find_of is_missing is_fewer
     find_fewer e =
         rw (
@@ -284,7 +284,7 @@ module _ (rec : List ℕ) (tag occ base n i left : ℕ) (inv : Sought rec tag oc
             walks = inv.walks ∙ rw (find_step rec base n i tag left h, ← e, eq-eqb t tag same, ne_eqb left 1 b);
           }
 
-      pub find_here : (pos len : ℕ) → left ≡ 1 → pos ≡ pos_at rec i → len ≡ len_at rec i → Span (base + pos) len ≡ find_of rec tag occ
+      pub find_here : (pos len : ℕ) → left ≡ 1 → pos ≡ pos_at rec i → len ≡ len_at rec i → Ok (record { start = base + pos; len = len }) ≡ find_of rec tag occ
       unfolding find_of is_missing is_fewer
       find_here pos len b p l =
           let more : total ≡ occ - left + suc (occurrences_of (fields_from rec base (n - (i + 1)) (i + 1)) tag) =

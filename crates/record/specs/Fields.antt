@@ -1,11 +1,12 @@
 -- The fields that a record's directory names, and the search among them. Document 01, "Records" and answer 12; request C-15, answer 15.
-use Rattle.std.specs.Prelude.{ℕ, zero, suc, ◌+◌, ◌-◌, Bool, ◌||◌, cond, List, [], ◌∷◌, ◌++◌, eqb, ltb}
+use Rattle.std.specs.Prelude.{ℕ, zero, suc, ◌+◌, ◌-◌, Bool, ◌||◌, cond, List, [], ◌∷◌, ◌++◌, eqb, ltb, Result, Ok, Err}
 use Rattle.std.proofs.Math.Option.{Option, some, none}
 use Rattle.word.specs.Overwrite.{part}
 use Rattle.layout.specs.Leader.{leader_of}
 use Rattle.record.specs.Directory.{tag_at, pos_at, len_at}
-use Rattle.record.specs.declared.fields.Found.{Found}
-use Rattle.record.specs.declared.fields.Found.TheVariants.{Span, Fewer, Missing}
+use Rattle.record.specs.declared.fields.Span.{Span}
+use Rattle.record.specs.declared.fields.NotFound.{NotFound}
+use Rattle.record.specs.declared.fields.NotFound.TheVariants.{Missing, Fewer}
 
 -- a field: its tag and its bytes
 pub record Field : Type 0 where
@@ -44,26 +45,29 @@ is_missing fs tag occ = eqb occ 0 || eqb (occurrences_of fs tag) 0
 unfoldable pub is_fewer : List Field → ℕ → ℕ → Bool
 is_fewer fs tag occ = ltb (occurrences_of fs tag) occ
 
+-- where in the record the field of directory entry i lies
+abbrev pub span_at : List ℕ → ℕ → ℕ → Span
+span_at rec base i = record { start = base + pos_at rec i; len = len_at rec i }
+
 -- where in the record the occ-th field of a tag lies, among k entries from entry i on
-unfoldable pub find_from : List ℕ → ℕ → ℕ → ℕ → ℕ → ℕ → Found
-find_from rec base zero i tag occ = Missing
+unfoldable pub find_from : List ℕ → ℕ → ℕ → ℕ → ℕ → ℕ → Result Span NotFound
+find_from rec base zero i tag occ = Err Missing
 find_from rec base (suc k) i tag occ =
     cond (eqb (tag_at rec i) tag)
-    (cond (eqb occ 1) (Span (base + pos_at rec i) (len_at rec i)) (find_from rec base k (i + 1) tag (occ - 1)))
+    (cond (eqb occ 1) (Ok (span_at rec base i)) (find_from rec base k (i + 1) tag (occ - 1)))
     (find_from rec base k (i + 1) tag occ)
 
 -- THE SEARCH: missing; or fewer, with the number of occurrences; or where the field lies
-unfoldable pub find_of : List ℕ → ℕ → ℕ → Found
+unfoldable pub find_of : List ℕ → ℕ → ℕ → Result Span NotFound
 find_of rec tag occ =
-    cond (is_missing (fields_of rec) tag occ) Missing
-    (cond (is_fewer (fields_of rec) tag occ) (Fewer (occurrences_of (fields_of rec) tag))
+    cond (is_missing (fields_of rec) tag occ) (Err Missing)
+    (cond (is_fewer (fields_of rec) tag occ) (Err (Fewer (occurrences_of (fields_of rec) tag)))
     (find_from rec (leader_of rec).base (leader_of rec).nvf 0 tag occ))
 
 -- the bytes that lie there
-abbrev pub found_bytes : List ℕ → Found → Option (List ℕ)
-found_bytes rec (Span start len) = some (part rec start len)
-found_bytes rec (Fewer n) = none
-found_bytes rec Missing = none
+abbrev pub found_bytes : List ℕ → Result Span NotFound → Option (List ℕ)
+found_bytes rec (Ok s) = some (part rec s.start s.len)
+found_bytes rec (Err n) = none
 
 -- the data of fields, one after the other
 unfoldable pub data_of : List Field → List ℕ

@@ -7,21 +7,27 @@ use crate::directory::{len_at, pos_at, tag_at};
 use layout::sizes::Tag;
 use word::integer::u16_at;
 
-// Where in its record a field lies; or that its tag occurs fewer times than asked, and how often; or that it does not occur.
-#[derive(Clone, Copy)]
-pub enum Found {
-    Span { start: usize, len: usize },
-    Fewer { occurrences: u32 },
+// Where in its record a field lies.
+#[derive(Clone, Copy, Debug, Default, PartialEq, Eq)]
+pub struct Span {
+    pub start: usize,
+    pub len: usize,
+}
+
+// Why a field is not found: its tag does not occur, or it occurs fewer times than asked.
+#[derive(Clone, Copy, Debug, PartialEq, Eq)]
+pub enum NotFound {
     Missing,
+    Fewer { occurrences: u32 },
 }
 
 // Finds the field of a tag by its occurrence, counted from 1. What was met of a tag on the way is what `left` fell by.
-pub fn find_field(rec: &[u8], tag: Tag, occurrence: u32) -> Found
+pub fn find_field(rec: &[u8], tag: Tag, occurrence: u32) -> Result<Span, NotFound>
     requires { Readable rec.now }
     ensures { result ≡ find_of rec.now tag.0 occurrence }
 {
     if occurrence < 1 {
-        return Found::Missing;
+        return Err(NotFound::Missing);
     }
     let base = u16_at(rec, 12) as usize;
     let nvf = u16_at(rec, 14) as usize;
@@ -31,10 +37,10 @@ pub fn find_field(rec: &[u8], tag: Tag, occurrence: u32) -> Found
         let t = tag_at(rec, i);
         if t.0 == tag.0 {
             if left == 1 {
-                return Found::Span {
+                return Ok(Span {
                     start: base + pos_at(rec, i),
                     len: len_at(rec, i),
-                };
+                });
             }
             left -= 1;
         }
@@ -42,9 +48,9 @@ pub fn find_field(rec: &[u8], tag: Tag, occurrence: u32) -> Found
     }
     let occurrences = occurrence - left;
     if 0 < occurrences {
-        return Found::Fewer { occurrences };
+        return Err(NotFound::Fewer { occurrences });
     }
-    Found::Missing
+    Err(NotFound::Missing)
 }
 
 // One byte of a record.

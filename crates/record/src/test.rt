@@ -8,14 +8,11 @@ use layout::entry::Mark;
 use layout::leader::Leader;
 use layout::sizes::Mfn;
 
-// The number that is told where the leader fails, so that no entry is looked at.
-const NO_ENTRY: u32 = 0;
-
-// What the test found: the leader of a record that passes, or the number of the first entry that breaks a rule, counted from 1.
-#[derive(Clone, Copy)]
-pub enum Tested {
-    WellFormed(Leader),
-    Broken { entry: u32 },
+// What fails the test: the leader, so that no entry is looked at; or the first entry that breaks a rule, counted from 1.
+#[derive(Clone, Copy, Debug, PartialEq, Eq)]
+pub enum Broken {
+    Leader,
+    Entry { number: u32 },
 }
 
 // The STATUS of a record that is deleted or not.
@@ -48,24 +45,24 @@ fn leader_right(m: Mfn, deleted: bool, left: usize, l: Leader) -> bool
 }
 
 // Tests the record at the front of `rec`, which ends at the store's end, for MFN `m`, all but its back pointer.
-pub fn test_record(rec: &[u8], m: Mfn, deleted: bool) -> Tested
+pub fn test_record(rec: &[u8], m: Mfn, deleted: bool) -> Result<Leader, Broken>
     ensures { result ≡ test_of rec.now m.0 deleted }
 {
     let left = rec.len();
     if left < 18 {
-        return Tested::Broken { entry: NO_ENTRY };
+        return Err(Broken::Leader);
     }
     let l = layout::leader::read_leader(rec);
     if !leader_right(m, deleted, left, l) {
-        return Tested::Broken { entry: NO_ENTRY };
+        return Err(Broken::Leader);
     }
     let nvf = l.nvf as usize;
     let room = (l.mfrl - l.base) as usize;
-    let entry = crate::directory::first_broken(rec, nvf, room) as u32;
-    if entry == 0 {
-        return Tested::WellFormed(l);
+    let number = crate::directory::first_broken(rec, nvf, room) as u32;
+    if number == 0 {
+        return Ok(l);
     }
-    Tested::Broken { entry }
+    Err(Broken::Entry { number })
 }
 
 // Whether both parts of the back pointer are 0.

@@ -21,7 +21,7 @@ use Rattle.record.specs.Fields.{field_at, fields_from, fields_of}
 use Rattle.record.specs.Record.{Readable}
 use Rattle.walking.specs.Walker.{at_end, spot_at, field_in, spots_before, spots_of, walked_at, walked_fields}
 use Rattle.walking.specs.declared.walker.Spot.{Spot}
-use Rattle.walking.specs.declared.walker.Walked.TheVariants.{Field as FieldHere, End}
+use Rattle.std.proofs.Common.{Option, Some, None}
 use Rattle.record.proofs.Facts.{entry_facts, readable_facts}
 
 -- ---- a walk hands out the record's fields
@@ -67,12 +67,12 @@ spots_length rec = before_length rec (leader_of rec).nvf
 
 -- ---- what stands at an index
 
-pub walked_past : (rec : List ℕ) (i : ℕ) → (leader_of rec).nvf ≤ i → walked_at rec i ≡ End
+pub walked_past : (rec : List ℕ) (i : ℕ) → (leader_of rec).nvf ≤ i → walked_at rec i ≡ None
 unfolding walked_at
 walked_past rec i h = rw (le-leb _ _ h)
 
 pub walked_here : (rec : List ℕ) (i : ℕ) → i < (leader_of rec).nvf
-    → walked_at rec i ≡ FieldHere (record { 0 = tag_at rec i }) ((leader_of rec).base + pos_at rec i) (len_at rec i)
+    → walked_at rec i ≡ Some (spot_at rec i)
 unfolding walked_at
 walked_here rec i h = rw (lt-leb _ _ h)
 
@@ -136,17 +136,15 @@ spots_within rec r = before (leader_of rec).nvf (le_refl _)
         rw (← add-one k, ← before_more rec k)
         (within_snoc (leader_of rec).mfrl (spots_before rec k) (spot_at rec k) (before k (omega arith)) (field_in_lem rec k r (omega arith)))
 
-walked_cases : (b : Bool) (t tag : Tag) (s l start len : ℕ) → cond b End (FieldHere t s l) ≡ FieldHere tag start len
-    → (b ≡ false) × (s ≡ start) × (l ≡ len)
-walked_cases true t tag s l start len p = let z : ◌≡◌ {A = ℕ} 0 1 = cc in absurd (omega arith)
-walked_cases false t tag s l start len p = (refl, (cc), (cc))
+walked_cases : (b : Bool) (s t : Spot) → cond b None (Some s) ≡ Some t → (b ≡ false) × (s ≡ t)
+walked_cases true s t p = absurd (cc)
+walked_cases false s t p = (refl, (cc))
 
-pub walked_in_lem : (rec : List ℕ) (i : ℕ) (tag : Tag) (start len : ℕ) → Readable rec → walked_at rec i ≡ FieldHere tag start len
-    → start + len ≤ (leader_of rec).mfrl
+pub walked_in_lem : (rec : List ℕ) (i : ℕ) (s : Spot) → Readable rec → walked_at rec i ≡ Some s → s.start + s.len ≤ (leader_of rec).mfrl
 unfolding walked_at
-walked_in_lem rec i tag start len r p =
-    let q = walked_cases (at_end rec i) _ tag _ _ start len p in
-    omega (arith, q, field_in_lem rec i r (leb-false _ _ q.0))
+walked_in_lem rec i s r p =
+    let q = walked_cases (at_end rec i) (spot_at rec i) s p in
+    rw (← q.1) (field_in_lem rec i r (leb-false _ _ q.0))
 
 -- ---- lists of them: what the first k fields give, written over a list's front
 
@@ -193,14 +191,14 @@ module _ (rec : List ℕ) (i n : ℕ) (c : n ≡ (leader_of rec).nvf) where
       → record { tag = tag; start = 18 + 6 * n + pos; len = len } ≡ spot_at rec i
   spot_is pos len tag r p l t = rw (c, ← (readable_facts r).base_is, p, l, ← t)
 
-  pub walked_end : n ≤ i → End ≡ walked_at rec i
+  pub walked_end : n ≤ i → None ≡ walked_at rec i
   unfolding walked_at
   walked_end h = rw (le-leb (leader_of rec).nvf i (rw (← c) h))
 
   pub come_to : i < n → Readable rec → AtField rec n i
   come_to h r = record { readable = r; counted = c; listed = omega (arith, c, h) }
 
-  pub walked_field : (spot : Spot) → i < n → spot ≡ spot_at rec i → FieldHere spot.tag spot.start spot.len ≡ walked_at rec i
+  pub walked_field : (spot : Spot) → i < n → spot ≡ spot_at rec i → Some spot ≡ walked_at rec i
   unfolding walked_at
   walked_field spot h e = rw (lt-leb (leader_of rec).nvf i (rw (← c) h), e)
 

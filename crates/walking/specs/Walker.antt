@@ -1,13 +1,11 @@
 -- The walk over a record's fields. Document 01, "Records": a field walker keeps the record it walks and its place in the directory, and hands
 -- out tag and field in directory order. Its place is a directory index, counted from 0.
-use Rattle.std.specs.Prelude.{ℕ, zero, suc, ◌+◌, Bool, cond, List, [], ◌∷◌, ◌++◌, map, leb}
+use Rattle.std.specs.Prelude.{ℕ, zero, suc, ◌+◌, Bool, cond, List, [], ◌∷◌, ◌++◌, map, leb, Option, Some, None}
 use Rattle.word.specs.Overwrite.{part}
 use Rattle.layout.specs.Leader.{leader_of}
 use Rattle.record.specs.Directory.{tag_at, pos_at, len_at}
 use Rattle.record.specs.Fields.{Field}
 use Rattle.walking.specs.declared.walker.Spot.{Spot}
-use Rattle.walking.specs.declared.walker.Walked.{Walked}
-use Rattle.walking.specs.declared.walker.Walked.TheVariants.{Field as FieldHere, End}
 
 -- the directory has no entry i: the walk is over
 abbrev pub at_end : List ℕ → ℕ → Bool
@@ -50,11 +48,11 @@ starts_of at rec = map (spot_start at) (spots_of rec)
 abbrev pub lengths_of : List ℕ → List ℕ
 lengths_of rec = map spot_length (spots_of rec)
 
--- what stands at index i, whatever the index: the field there, or the end
-unfoldable pub walked_at : List ℕ → ℕ → Walked
-walked_at rec i = cond (at_end rec i) End (FieldHere (spot_at rec i).tag (spot_at rec i).start (spot_at rec i).len)
+-- what stands at index i, whatever the index: the field there, or nothing, past the last one
+unfoldable pub walked_at : List ℕ → ℕ → Option Spot
+walked_at rec i = cond (at_end rec i) None (Some (spot_at rec i))
 
 -- the field that this is, if any
-abbrev pub walked_fields : List ℕ → Walked → List Field
-walked_fields rec (FieldHere tag start len) = field_in rec (record { tag = tag; start = start; len = len }) ∷ []
-walked_fields rec End = []
+abbrev pub walked_fields : List ℕ → Option Spot → List Field
+walked_fields rec (Some s) = field_in rec s ∷ []
+walked_fields rec None = []

@@ -12,7 +12,7 @@ use record::directory::{len_at, pos_at, tag_at};
 use word::integer::u16_at;
 
 // A field as a walk hands it out: its tag, and where in the record it lies.
-#[derive(Clone, Copy)]
+#[derive(Clone, Copy, Debug, PartialEq, Eq)]
 pub struct Spot {
     pub tag: Tag,
     pub start: usize,
@@ -124,27 +124,14 @@ pub fn list_fields(
     w.index
 }
 
-// What stands at a directory index: a field or the end of the directory.
-#[derive(Clone, Copy)]
-pub enum Walked {
-    Field { tag: Tag, start: usize, len: usize },
-    End,
-}
-
 // What stands at an index, whatever the index, for callers that ask for one field alone.
-pub fn field_span(rec: &[u8], index: usize) -> Walked
+pub fn field_span(rec: &[u8], index: usize) -> Option<Spot>
     requires { Readable rec.now }
     ensures { result ≡ walked_at rec.now index }
 {
     let count = field_count(rec);
     if count <= index {
-        return Walked::End;
+        return None;
     }
-    let spot = spot_at(rec, count, index);
-    let tag = spot.tag;
-    Walked::Field {
-        tag,
-        start: spot.start,
-        len: spot.len,
-    }
+    Some(spot_at(rec, count, index))
 }

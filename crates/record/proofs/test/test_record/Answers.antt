@@ -14,19 +14,19 @@ returns-then-not-leader_right c = answer_leader _ _ _ _ _ c.read_leader-l.ensure
 pub overflow_sub-room : goal.overflow_sub-room
 overflow_sub-room c = search test_answers
 
-pub first_broken-entry-requires : goal.first_broken-entry-requires
-first_broken-entry-requires c =
+pub first_broken-number-requires : goal.first_broken-number-requires
+first_broken-number-requires c =
     let r = c in
     need_directory _ _ _ _ _ r.read_leader-l.ensures r.leader_right.ensures (ap not c.if-not-leader_right.false)
 
-pub returns-then-entry-eq0 : goal.returns-then-entry-eq0
-returns-then-entry-eq0 c =
-    let n = c.first_broken-entry in
+pub returns-then-number-eq0 : goal.returns-then-number-eq0
+returns-then-number-eq0 c =
+    let n = c.first_broken-number in
     let r = c in
     answer_right _ _ _ _ _ r.read_leader-l.ensures r.leader_right.ensures (ap not r.if-not-leader_right.false) _ n.ensures.is (omega arith)
 
 pub returns : goal.returns
 returns c =
-    let n = c.first_broken-entry in
+    let n = c.first_broken-number in
     let r = c in
-    answer_wrong _ _ _ _ _ r.read_leader-l.ensures r.leader_right.ensures (ap not r.if-not-leader_right.false) _ n.ensures.is c.if-entry-eq0.false
+    answer_wrong _ _ _ _ _ r.read_leader-l.ensures r.leader_right.ensures (ap not r.if-not-leader_right.false) _ n.ensures.is c.if-number-eq0.false
