@@ -6,9 +6,9 @@ use native.Mathlib.Omega.{arith}
 use mathlib.Core.Path.{◌≡◌, refl, sym, ap, ◌∙◌}
 use mathlib.Core.Logic.{◌⊎◌, inl, inr}
 use mathlib.Core.Bool.{Bool, true, false, not, ◌&&◌, cond, and-true}
-use mathlib.Core.List.{List}
+use mathlib.Core.List.{List, []}
 use lib.Dec.{eqb}
-use borrow.Author.Tests.{lt-ltb, le-leb, eqb-true, eqb-false, eq-eqb, ne_eqb, not-false}
+use borrow.Author.Tests.{lt-ltb, le-leb, eq-eqb, not-false}
 use lib.ListN.{length}
 use Rattle.word.specs.Overwrite.{part}
 use Rattle.word.proofs.Overwrite.{part_short}
@@ -116,15 +116,14 @@ module _ {A : Type 0} (answer : Answer) (new : A) where
   given_refused r e = by answer e
     where
       by : (a : Answer) → give a new ≡ Err r → a ≡ Err r
-      unfolding give
       by (Ok tt) e = let z : ◌≡◌ {A = ℕ} 0 1 = cc in absurd (omega arith)
       by (Err q) e = cc
 
   pub given_done : (x : A) → give answer new ≡ Ok x → (answer ≡ Ok tt) × (new ≡ x)
+  unfolding give
   given_done x e = by answer e
     where
       by : (a : Answer) → give a new ≡ Ok x → (a ≡ Ok tt) × (new ≡ x)
-      unfolding give
       by (Ok tt) e = (refl, (cc))
       by (Err q) e = let z : ◌≡◌ {A = ℕ} 0 1 = cc in absurd (omega arith)
 

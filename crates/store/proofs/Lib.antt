@@ -1,3 +1,4 @@
+pub mod Marks
 pub mod Gates
 pub mod Lowest
 pub mod GateAnswers

@@ -2,16 +2,13 @@
 -- that was reached or refused. A refusal is the answer of the whole call, whatever the refusals after it.
 use Rattle.std.specs.Prelude.{Result, Ok, Err}
 use Prim.Native.Nat.{ℕ}
-use native.Mathlib.Omega.{arith}
 use mathlib.Core.Path.{◌≡◌, refl, sym, ap, ◌∙◌}
-use mathlib.Core.Logic.{⊎_elim}
 use mathlib.Core.Bool.{Bool, true}
 use mathlib.Core.List.{List, []}
 use native.Mathlib.Nat.{le_refl}
 use lib.ListN.{length, take}
 use lib.Seq.{take_all}
 use Rattle.files.specs.Control.{next_of, end_of}
-use Rattle.layout.specs.declared.sizes.Mfn.{Mfn}
 use Rattle.layout.specs.declared.entry.Place.{Place}
 use Rattle.layout.specs.declared.entry.Entry.TheVariants.{At}
 use Rattle.layout.specs.declared.leader.Leader.{Leader}

@@ -28,6 +28,7 @@ pub struct Reached {
 }
 
 // Whether both lengths are permitted.
+#[tactic(auto, unfolding(crate::specs::Reading::lengths_permitted))]
 pub fn lengths_permitted(mst: &[u8], xrf: &[u8]) -> bool
     ensures { result ≡ lengths_permitted (store mst.now xrf.now) }
 {
@@ -88,7 +89,7 @@ pub fn find_record(mst: &[u8], xrf: &[u8], control: Control, m: Mfn) -> Result<R
     requires { gate_of (store mst.now xrf.now) ≡ Ok control }
     ensures { result ≡ known_of (store mst.now xrf.now) m.0 }
 {
-    if m < Mfn(1) || control.next <= m {
+    if m.0 < 1 || control.next.0 <= m.0 {
         return Err(Refusal::NoMfn);
     }
     let place = place_of(files::cross_reference::entry_at(xrf, control.end, m))?;

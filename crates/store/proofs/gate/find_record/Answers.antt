@@ -1,20 +1,20 @@
+use Rattle.std.proofs.lemmas.Result.{err_from_is_err_and}
 use Rattle.store.proofs.GateAnswers.{gate_answers}
 use Rattle.store.proofs.gate.find_record.Goals as goal
 
 pub returns-then-m-lt1 : goal.returns-then-m-lt1
 returns-then-m-lt1 c = search gate_answers
 
-pub returns-then-next-m : goal.returns-then-next-m
-returns-then-next-m c = search gate_answers
+pub entry_at-requires : goal.entry_at-requires
+entry_at-requires c = search gate_answers
 
-pub entry_at-e-requires : goal.entry_at-e-requires
-entry_at-e-requires c = search gate_answers
-
-pub returns-in_default : goal.returns-in_default
-returns-in_default c = search gate_answers
+pub returns-in_err-place : goal.returns-in_err-place
+returns-in_err-place c =
+    let p = err_from_is_err_and c.from_residual.result c.from_residual.ensures.1 in
+    rw (p.1, p.2) (search (gate_answers, c.in_err-place.was))
 
 pub test_place-requires : goal.test_place-requires
-test_place-requires c = search gate_answers
+test_place-requires c = search (gate_answers, c.in_ok-place.was)
 
 pub returns : goal.returns
-returns c = search gate_answers
+returns c = search (gate_answers, c.in_ok-place.was)

@@ -4,8 +4,5 @@ use Rattle.store.proofs.gate.open_gate.Goals as goal
 pub returns-then-not-lengths_permitted : goal.returns-then-not-lengths_permitted
 returns-then-not-lengths_permitted c = search gate_answers
 
-pub returns-in_default : goal.returns-in_default
-returns-in_default c = search gate_answers
-
 pub returns : goal.returns
-returns c = search gate_answers
+returns c = rw c.ok_or.ensures.value (search gate_answers)

@@ -1,20 +1,16 @@
+use Rattle.std.proofs.lemmas.Result.{err_from_is_err_and}
 use Rattle.store.proofs.Reaching.{reach_answers}
 use Rattle.store.proofs.gate.reach.Goals as goal
 
-pub returns-in_default : goal.returns-in_default
-returns-in_default c = search reach_answers
+pub returns-in_err-control : goal.returns-in_err-control
+returns-in_err-control c =
+    let p = err_from_is_err_and c.from_residual.result c.from_residual.ensures.1 in
+    rw (p.1, p.2) (search (reach_answers, c.in_err-control.was))
 
-pub slice_bounds-find_record-end : goal.slice_bounds-find_record-end
-slice_bounds-find_record-end c = search reach_answers
-
-pub slice_bounds-find_record-end-2 : goal.slice_bounds-find_record-end-2
-slice_bounds-find_record-end-2 c = search reach_answers
-
-pub find_record-k-requires : goal.find_record-k-requires
-find_record-k-requires c = search reach_answers
-
-pub returns-in_default-k : goal.returns-in_default-k
-returns-in_default-k c = search reach_answers
+pub returns-in_err-place : goal.returns-in_err-place
+returns-in_err-place c =
+    let p = err_from_is_err_and c.from_residual-in_err-place.result c.from_residual-in_err-place.ensures.1 in
+    rw (p.1, p.2) (search (reach_answers, c.in_ok-control.was, c.in_err-place.was))
 
 pub returns : goal.returns
-returns c = search reach_answers
+returns c = search (reach_answers, c.in_ok-control.was, c.in_ok-place.was)

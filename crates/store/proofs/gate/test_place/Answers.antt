@@ -1,14 +1,14 @@
 use Rattle.store.proofs.GateAnswers.{gate_answers}
 use Rattle.store.proofs.gate.test_place.Goals as goal
 
-pub slice_bounds-test_record-start : goal.slice_bounds-test_record-start
-slice_bounds-test_record-start c = search gate_answers
-
 pub place_address-at-requires : goal.place_address-at-requires
 place_address-at-requires c = search gate_answers
 
 pub slice_bounds-test_record-count : goal.slice_bounds-test_record-count
 slice_bounds-test_record-count c = search gate_answers
+
+pub slice_bounds-test_record-start : goal.slice_bounds-test_record-start
+slice_bounds-test_record-start c = search gate_answers
 
 pub returns-in_default : goal.returns-in_default
 returns-in_default c = search gate_answers
