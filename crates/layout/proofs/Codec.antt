@@ -6,11 +6,11 @@ use mathlib.Core.Bool.{Bool, true, false, cond}
 use Prim.Native.Nat.{ℕ, zero, suc, ◌+◌, ◌-◌, ◌*◌, ◌/◌, ◌%◌, ◌<◌, ◌≤◌}
 use native.Mathlib.Omega.{arith}
 use lib.Dec.{eqb}
-use lib.IntN.{ℤ, pos, negsuc, neg_ℤ, nat_abs, ◌+ℤ◌, ◌*ℤ◌}
-use lib.Signed.{lt_z}
+use lib.IntN.{ℤ, pos, negsuc, neg_ℤ, nat_abs, ◌+ℤ◌, ◌-ℤ◌, ◌*ℤ◌}
 use mir.Syntax.{w32}
-use mir.Val.{SFits, of_z}
-use borrow.Author.Tests.{lt-ltb, le-ltb, ne_eqb, eqb-true}
+use mir.Val.{Fits, SFits, to_z, of_z}
+use Rattle.std.proofs.lemmas.Int.{ints}
+use borrow.Author.Tests.{lt-ltb, ne_eqb, eqb-true}
 use Rattle.word.specs.Signed.{signed_of, bits_of}
 use Rattle.word.proofs.TwosComplement.{bits_bound, signed_bits, bits_signed}
 use Rattle.layout.specs.Sizes.{mst_blocks, mst_most, offset_most}
@@ -23,15 +23,7 @@ use Rattle.layout.specs.declared.entry.Entry.TheVariants.{Gone, Malformed, At}
 use Rattle.word.proofs.Tests.{false_true}
 use Rattle.layout.proofs.Facts.{well_placed_facts, well_placed_later, encodable}
 
--- ---- what decode and encode ask
-
-pub deleted_is : (z : ℤ) → lt_z z (pos 0) ≡ deleted_of z
-deleted_is (pos n) = le-ltb n 0 (omega arith)
-deleted_is (negsuc n) = refl
-
-pub not_gone : (z : ℤ) → SFits w32 z → (of_z w32 z ≡ 4294965248 → ⊥) → means_gone z ≡ false
-not_gone (pos n) f k = refl
-not_gone (negsuc n) f k = ne_eqb n 2047 (λ e. k (ap (λ (x : ℕ). 4294967296 - suc x) e))
+-- ---- entries below zero
 
 -- -x and a lesser number
 minus_plus : (x low : ℕ) → low < x → neg_ℤ (pos x) +ℤ pos low ≡ negsuc (x - low - 1)
@@ -42,12 +34,12 @@ minus_times : (b : ℕ) → neg_ℤ (pos b) *ℤ pos 2048 ≡ neg_ℤ (pos (b * 
 minus_times zero = refl
 minus_times (suc m) = refl
 
-pub deleted_entry : (b low : ℕ) → low < b * 2048 → neg_ℤ (pos b) *ℤ pos 2048 +ℤ pos low ≡ negsuc (b * 2048 - low - 1)
+deleted_entry : (b low : ℕ) → low < b * 2048 → neg_ℤ (pos b) *ℤ pos 2048 +ℤ pos low ≡ negsuc (b * 2048 - low - 1)
 deleted_entry b low h = rw (minus_times b) (minus_plus (b * 2048) low h)
 
 -- ---- marks
 
-pub marks_small : (m : Mark) → mark_bits m ≤ 1024
+marks_small : (m : Mark) → mark_bits m ≤ 1024
 unfolding mark_bits
 marks_small Settled = omega arith
 marks_small Changed = omega arith
@@ -66,6 +58,34 @@ module _ (b p : ℕ) (d : Bool) (h : p ≤ offset_most) where
   low_mark Settled = let q : (p + 0) / 512 ≡ 0 = omega arith in rw q
   low_mark Changed = let q : (p + 512) / 512 ≡ 1 = omega arith in rw q
   low_mark New = let q : (p + 1024) / 512 ≡ 2 = omega arith in rw q
+
+-- ---- what encode writes
+
+module _ (p : Place) (o k : ℕ) (fits : (p.block.0 ≤ mst_blocks) × (p.offset ≤ offset_most)) (f : o ≡ p.offset) (e : k ≡ mark_bits p.mark) where
+  low_below : o + k ≤ 1522
+  low_below = omega (arith, marks_small p.mark)
+
+  pub low_word : Fits w32 (o + k)
+  low_word = record { fits = omega (arith, low_below) }
+
+  pub low_fits : SFits w32 (pos (o + k))
+  low_fits = record { sfits = omega (arith, low_below) }
+
+  pub live_fits : SFits w32 (to_z w32 (o + k) +ℤ to_z w32 (p.block.0 * 2048))
+  live_fits = let h = low_below in omega (arith, ints)
+
+  pub dead_fits : SFits w32 (to_z w32 (o + k) -ℤ to_z w32 (p.block.0 * 2048))
+  dead_fits = let h = low_below in omega (arith, ints)
+
+  pub live_coded : p.deleted ≡ false → to_z w32 (of_z w32 (to_z w32 (o + k) +ℤ to_z w32 (p.block.0 * 2048))) ≡ encode_of p
+  unfolding encode_of
+  live_coded d = let h = low_below in rw (d, ← f, ← e) (omega (arith, ints))
+
+  pub dead_coded : p.deleted ≡ true → to_z w32 (of_z w32 (to_z w32 (o + k) -ℤ to_z w32 (p.block.0 * 2048))) ≡ encode_of p
+  unfolding encode_of
+  dead_coded d = let h = low_below in rw (d, ← f, ← e, minus_times) (omega (arith, ints))
+
+pub ruleset coding = (low_word, low_fits, live_fits, dead_fits, live_coded, dead_coded)
 
 -- ---- decode undoes encode
 

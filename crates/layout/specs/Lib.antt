@@ -1,4 +1,3 @@
 pub mod Sizes
 pub mod Entry
 pub mod Leader
-pub mod Inner

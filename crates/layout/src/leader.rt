@@ -1,10 +1,10 @@
-// The leader of a record, as a struct and as its eighteen bytes.
+// The leader of a record: eighteen bytes at its front.
 ghost use Rattle.std.specs.Prelude.{◌≡◌, ◌≤◌, length};
 ghost use Rattle.word.specs.Overwrite.{overwrite};
 ghost use Rattle.layout.specs.Leader.{leader_bytes, leader_of};
-ghost use Rattle.layout.specs.Inner.{first_bytes};
 
 use crate::sizes::{Block, Mfn};
+use word::integer::{put_u16, put_u32, u16_at, u32_at};
 
 #[derive(Clone, Copy, Debug, PartialEq, Eq)]
 pub struct Leader {
@@ -17,73 +17,34 @@ pub struct Leader {
     pub status: u16,
 }
 
-// The eighteen bytes of a leader.
-fn leader_bytes(l: Leader) -> [u8; 18]
-    ensures { result ≡ leader_bytes l }
-{
-    let m = l.mfn.0;
-    let b = l.mfbwb.0;
-    [
-        (m % 256) as u8,
-        (m / 256 % 256) as u8,
-        (m / 256 / 256 % 256) as u8,
-        (m / 256 / 256 / 256 % 256) as u8,
-        (l.mfrl % 256) as u8,
-        (l.mfrl / 256 % 256) as u8,
-        (b % 256) as u8,
-        (b / 256 % 256) as u8,
-        (b / 256 / 256 % 256) as u8,
-        (b / 256 / 256 / 256 % 256) as u8,
-        (l.mfbwp % 256) as u8,
-        (l.mfbwp / 256 % 256) as u8,
-        (l.base % 256) as u8,
-        (l.base / 256 % 256) as u8,
-        (l.nvf % 256) as u8,
-        (l.nvf / 256 % 256) as u8,
-        (l.status % 256) as u8,
-        (l.status / 256 % 256) as u8,
-    ]
-}
-
-// The leader that eighteen bytes hold.
-fn leader_of(b: [u8; 18]) -> Leader
-    ensures { result ≡ leader_of b }
-{
-    Leader {
-        mfn: Mfn(word::integer::u32_at(&b, 0)),
-        mfrl: word::integer::u16_at(&b, 4),
-        mfbwb: Block(word::integer::u32_at(&b, 6)),
-        mfbwp: word::integer::u16_at(&b, 10),
-        base: word::integer::u16_at(&b, 12),
-        nvf: word::integer::u16_at(&b, 14),
-        status: word::integer::u16_at(&b, 16),
-    }
-}
-
-// The first eighteen bytes of a record as one piece.
-fn first_bytes(rec: &[u8]) -> [u8; 18]
-    requires { 18 ≤ length rec.now }
-    ensures { result ≡ first_bytes rec.now }
-{
-    [
-        rec[0], rec[1], rec[2], rec[3], rec[4], rec[5], rec[6], rec[7], rec[8], rec[9], rec[10],
-        rec[11], rec[12], rec[13], rec[14], rec[15], rec[16], rec[17],
-    ]
-}
-
 // The leader at the front of a record.
+#[tactic(auto, unfolding(crate::specs::Leader::leader_of))]
 pub fn read_leader(rec: &[u8]) -> Leader
     requires { 18 ≤ length rec.now }
     ensures { result ≡ leader_of rec.now }
 {
-    leader_of(first_bytes(rec))
+    Leader {
+        mfn: Mfn(u32_at(rec, 0)),
+        mfrl: u16_at(rec, 4),
+        mfbwb: Block(u32_at(rec, 6)),
+        mfbwp: u16_at(rec, 10),
+        base: u16_at(rec, 12),
+        nvf: u16_at(rec, 14),
+        status: u16_at(rec, 16),
+    }
 }
 
 // Writes a leader to the front of a record.
+#[tactic(auto, using(crate::proofs::LeaderBytes::leader_put))]
 pub fn put_leader(rec: &mut [u8], l: Leader)
     requires { 18 ≤ length rec.old }
     ensures { rec.new ≡ overwrite rec.old 0 (leader_bytes l) }
 {
-    let bytes = leader_bytes(l);
-    word::bytes::copy_to(rec, 0, &bytes);
+    put_u32(rec, 0, l.mfn.0);
+    put_u16(rec, 4, l.mfrl);
+    put_u32(rec, 6, l.mfbwb.0);
+    put_u16(rec, 10, l.mfbwp);
+    put_u16(rec, 12, l.base);
+    put_u16(rec, 14, l.nvf);
+    put_u16(rec, 16, l.status);
 }

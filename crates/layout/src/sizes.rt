@@ -30,17 +30,12 @@ pub struct Block(pub u32);
 #[derive(Clone, Copy, Debug, PartialEq, Eq, PartialOrd, Ord)]
 pub struct Tag(pub u16);
 
+#[tactic(auto, unfolding(crate::specs::Sizes::blocks_within))]
 fn blocks_within(most: usize, n: usize) -> bool
     requires { most ≤ mst_blocks }
     ensures { result ≡ blocks_within most n }
 {
-    if n % 512 != 0 {
-        return false;
-    }
-    if n < 512 {
-        return false;
-    }
-    n <= 512 * most
+    n % 512 == 0 && (512..=512 * most).contains(&n)
 }
 
 // Whether an MST may be `n` bytes long.
@@ -89,6 +84,7 @@ pub fn offset_at(a: usize) -> u16
 }
 
 // The end after a record that stops at `a`.
+#[tactic(auto, unfolding(crate::specs::Sizes::end_moved))]
 pub fn end_moved(a: usize) -> usize
     requires { a < address_limit }
     ensures { result ≡ end_moved a }
@@ -101,24 +97,17 @@ pub fn end_moved(a: usize) -> usize
 }
 
 // Whether a record may be `n` bytes long.
+#[tactic(auto, unfolding(crate::specs::Sizes::record_length))]
 pub fn record_length(n: usize) -> bool
     ensures { result ≡ record_length n }
 {
-    if n % 2 != 0 {
-        return false;
-    }
-    if n < 18 {
-        return false;
-    }
-    n <= RECORD_MOST
+    n % 2 == 0 && (18..=RECORD_MOST).contains(&n)
 }
 
 // Whether a field may have the tag.
+#[tactic(auto, unfolding(crate::specs::Sizes::tag_permitted))]
 pub fn tag_permitted(t: Tag) -> bool
     ensures { result ≡ tag_permitted t.0 }
 {
-    if t.0 < 1 {
-        return false;
-    }
-    t.0 <= TAG_MOST
+    (1..=TAG_MOST).contains(&t.0)
 }

@@ -1,5 +1,0 @@
-use Rattle.layout.proofs.Answers.{leader_answers}
-use Rattle.layout.proofs.leader.read_leader.Goals as goal
-
-pub returns : goal.returns
-returns c = search leader_answers
