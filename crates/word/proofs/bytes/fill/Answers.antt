@@ -1,26 +1,14 @@
--- After i turns i bytes v are written.
-use mathlib.Core.Path.{◌≡◌, refl, sym}
+use mathlib.Core.Path.{◌≡◌, sym, ap, ◌∙◌}
+use Prim.Native.Nat.{ℕ, ◌+◌, ◌-◌}
 use native.Mathlib.Omega.{arith}
-use lib.ListN.{length-set}
-use Rattle.word.proofs.Overwrite.{overwrite_none}
-use Rattle.word.proofs.Runs.{fill_more}
+use lib.ListN.{length, take, drop, replicate, length-take, length-drop, length-replicate}
+use Rattle.word.proofs.Overwrite.{returned_part}
 use Rattle.word.proofs.bytes.fill.Goals as goal
-
-pub loop-i-init : goal.loop-i-init
-loop-i-init c = (omega arith, refl, sym (overwrite_none c.args.d.now c.args.at))
-
-pub loop-i-preserved : goal.loop-i-preserved
-loop-i-preserved c =
-    let b = c in
-    let l = b.loop-i in
-    let a = b.args in
-    (omega arith, simp length-set l.invariant.1, fill_more a.d.now a.at l.i _ _ a.v l.invariant.2 (omega arith) (omega arith) (omega arith))
-
-pub shape_of-d : goal.shape_of-d
-shape_of-d c = c.loop-i.invariant.1
 
 pub returns : goal.returns
 returns c =
-    let l = c.loop-i in
-    let n : l.i ≡ c.args.n = omega arith in
-    rw (l.invariant.2, n)
+    let a = c.args in
+    let n : length (take (a.at + a.n - a.at) (drop a.at a.d.now)) ≡ a.n = simp (length-take, length-drop) (omega arith) in
+    returned_part a.d.now a.at _ (replicate a.n a.v)
+    (c.fill.ensures.after (λ y e. e) ∙ ap (λ (k : ℕ). replicate k a.v) n)
+    (ap (λ (k : ℕ). a.at + k) (sym (length-replicate a.n a.v)))

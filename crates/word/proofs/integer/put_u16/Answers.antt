@@ -1,10 +1,7 @@
-use native.Mathlib.Omega.{arith}
-use lib.ListN.{length-set}
-use Rattle.word.proofs.Integers.{store_u16}
+use mathlib.Core.Path.{refl, ◌∙◌}
+use Rattle.word.specs.Integer.{le}
+use Rattle.word.proofs.Overwrite.{returned_part}
 use Rattle.word.proofs.integer.put_u16.Goals as goal
 
-pub bounds-s-at-2 : goal.bounds-s-at-2
-bounds-s-at-2 c = simp length-set (omega arith)
-
 pub returns : goal.returns
-returns c = store_u16 c.args.s.now c.args.at c.args.v _ _ _ (omega arith) (omega arith) (omega arith) (omega arith)
+returns c = returned_part c.args.s.now c.args.at _ (le 2 c.args.v) (c.copy_from_slice.ensures.after ∙ c.to_le_bytes.ensures) refl

@@ -1,16 +1,8 @@
-use native.Mathlib.Omega.{arith}
-use lib.ListN.{length-set}
-use Rattle.word.proofs.Integers.{store_u32}
+use mathlib.Core.Path.{refl, ◌∙◌}
+use Rattle.word.specs.Integer.{le}
+use Rattle.word.proofs.Integers.{le_4}
+use Rattle.word.proofs.Overwrite.{returned_part}
 use Rattle.word.proofs.integer.put_u32.Goals as goal
 
-pub bounds-s-at-2 : goal.bounds-s-at-2
-bounds-s-at-2 c = simp length-set (omega arith)
-
-pub bounds-s-at-3 : goal.bounds-s-at-3
-bounds-s-at-3 c = simp length-set (omega arith)
-
-pub bounds-s-at-4 : goal.bounds-s-at-4
-bounds-s-at-4 c = simp length-set (omega arith)
-
 pub returns : goal.returns
-returns c = store_u32 c.args.s.now c.args.at c.args.v _ _ _ _ _ _ _ (omega arith) (omega arith) (omega arith) (omega arith) (omega arith) (omega arith) (omega arith) (omega arith)
+returns c = returned_part c.args.s.now c.args.at _ (le 4 c.args.v) (c.copy_from_slice.ensures.after ∙ c.to_le_bytes.ensures ∙ le_4 c.args.v) refl

@@ -1,7 +1,6 @@
-use Rattle.word.specs.Integer.{u16_at}
-use borrow.Author.Rules.{rules}
+use mathlib.Core.Path.{◌∙◌}
+use Rattle.word.proofs.Integers.{from_2}
 use Rattle.word.proofs.integer.u16_at.Goals as goal
 
 pub returns : goal.returns
-unfolding u16_at
-returns c = search rules
+returns c = c.from_le_bytes.ensures ∙ from_2 c.args.s.now c.args.at

@@ -1,7 +1,6 @@
-use Rattle.word.specs.Integer.{u64_at}
+use mathlib.Core.Path.{◌∙◌}
+use Rattle.word.proofs.Integers.{from_8}
 use Rattle.word.proofs.integer.u64_at.Goals as goal
 
 pub returns : goal.returns
-unfolding u64_at
-returns c =
-    rw (c.wider-2.ensures.0, c.u32_at-2.ensures, c.wider.ensures.0, c.u32_at.ensures)
+returns c = c.from_le_bytes.ensures ∙ from_8 c.args.s.now c.args.at
