@@ -1,7 +1,0 @@
-use mathlib.Core.Path.{refl, ◌∙◌}
-use Rattle.word.specs.Integer.{le}
-use Rattle.word.proofs.Overwrite.{returned_part}
-use Rattle.word.proofs.integer.put_u16.Goals as goal
-
-pub returns : goal.returns
-returns c = returned_part c.args.s.now c.args.at _ (le 2 c.args.v) (c.copy_from_slice.ensures.after ∙ c.to_le_bytes.ensures) refl
