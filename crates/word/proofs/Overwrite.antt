@@ -220,6 +220,13 @@ overwrite_more d at xs v h =
 pub lent_tail : (d : List ℕ) (a : ℕ) → mid_of a (length d - a) d ≡ drop a d
 lent_tail d a = take_all (length d - a) (drop a d) (simp length-drop (le_refl _))
 
+-- `&mut s[a..e]` comes back with xs in it
+pub returned_part : {last : List ℕ} (d : List ℕ) (a e : ℕ) (xs : List ℕ) → last ≡ xs → e ≡ a + length xs
+    → put_mid a (e - a) d last ≡ overwrite d a xs
+returned_part d a e xs p q =
+    let k : e - a ≡ length xs = omega arith in
+    rw (p, k, overwrite_runs d a xs, ← drop-drop (length xs) a d) refl
+
 -- the tail comes back
 pub tail_back : (d : List ℕ) (a : ℕ) (ys : List ℕ) → put_mid a (length d - a) d ys ≡ take a d ++ ys
 tail_back d a ys =
