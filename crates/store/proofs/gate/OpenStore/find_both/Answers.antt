@@ -1,6 +1,6 @@
 use Rattle.std.proofs.lemmas.Result.{err_from_is_err_and}
 use Rattle.store.proofs.GateAnswers.{gate_answers}
-use Rattle.store.proofs.gate.find_both.Goals as goal
+use Rattle.store.proofs.gate.OpenStore.find_both.Goals as goal
 
 pub returns-in_err-record : goal.returns-in_err-record
 returns-in_err-record c =
