@@ -1,23 +1,25 @@
 -- RECCNT: its bits as a signed number, what each write leaves of it, and that a write of it leaves all else. Where the control record stands
 -- is known in this crate alone: callers have `count_of`, `with_count` and these laws.
-use Prim.Native.Nat.{ℕ, suc, ◌+◌, ◌-◌, ◌≤◌, ◌<◌}
+use Prim.Native.Nat.{ℕ, zero, suc, ◌+◌, ◌%◌, ◌≤◌, ◌<◌}
 use native.Mathlib.Omega.{arith}
 use mathlib.Core.Path.{◌≡◌, refl, sym, ap, ◌∙◌}
 use mathlib.Core.Logic.{◌⊎◌, inl, inr, ⊎_elim}
 use mathlib.Core.Bool.{Bool, true, false, cond}
 use mathlib.Core.List.{List}
-use lib.Dec.{eqb, leb, ltb}
+use lib.Dec.{eqb}
 use lib.IntN.{ℤ, pos, negsuc, suc_ℤ, pred_ℤ}
 use lib.ListN.{length, get_or, length-replicate}
-use lib.Signed.{le_z}
+use lib.Signed.{mag}
+use mir.Syntax.{w32}
+use mir.Val.{to_z, of_z}
 use borrow.Author.Tests.{lt-ltb, le-ltb, lt-leb, le-leb, eq-eqb, ne_eqb, eqb-true}
-use Rattle.word.specs.Integer.{u16_at, u32_at, le}
+use Rattle.word.specs.Integer.{u16_at, le}
 use Rattle.word.specs.Overwrite.{overwrite, part}
 use Rattle.word.specs.Signed.{signed_of, bits_of}
 use Rattle.word.proofs.Overwrite.{lt_or_ge, overwrite_length, overwrite_other, overwrite_part_after}
 use Rattle.word.proofs.Integers.{u32_same, u32_other, u32_placed}
 use Rattle.word.proofs.Tests.{false_true}
-use Rattle.word.proofs.TwosComplement.{signed_low, signed_high}
+use Rattle.word.proofs.TwosComplement.{signed_low}
 use Rattle.layout.specs.Sizes.{mst_blocks, mst_permitted}
 use Rattle.layout.proofs.Facts.{blocks_facts}
 use Rattle.files.specs.Control.{end_bytes, next_of, end_of, control_right, with_next, with_end, formatted_mst, migrated_mst, count_of, is_number, count_is, count_most, count_full, count_none, with_count, counted_more, counted_less}
@@ -26,94 +28,49 @@ use Rattle.files.proofs.Zero.{zeros, zero_u32}
 use Rattle.files.proofs.ControlRecord.{next_length, next_placed, end_placed, control_right_placed}
 use Rattle.files.proofs.ControlMoves.{out_of, ControlMoved}
 
--- ---- its bits
-
-module _ (n : ℕ) where
-  pub full_bits : eqb n count_most ≡ le_z (pos count_most) (signed_of n)
-  full_bits = ⊎_elim low (λ h. rw (signed_high n h) (ne_eqb n count_most (λ e. omega arith))) (lt_or_ge n 2147483648)
-    where
-      most : (n < count_most) ⊎ (count_most ≤ n) → n < 2147483648 → eqb n count_most ≡ leb count_most n
-      most (inl l) h = ne_eqb n count_most (λ e. omega arith) ∙ sym (lt-leb count_most n l)
-      most (inr g) h = eq-eqb n count_most (omega arith) ∙ sym (le-leb count_most n g)
-
-      low : n < 2147483648 → eqb n count_most ≡ le_z (pos count_most) (signed_of n)
-      low h = rw (signed_low n h) (most (lt_or_ge n count_most) h)
-
-  pub none_bits : n < 1 → true ≡ le_z (signed_of n) (pos 0)
-  none_bits h = rw (signed_low n (omega arith)) (sym (le-leb n 0 (omega arith)))
-
-  pub negative_bits : 1 ≤ n → ltb count_most n ≡ le_z (signed_of n) (pos 0)
-  negative_bits h =
-      ⊎_elim
-      (λ l. rw (signed_low n l) (le-ltb count_most n (omega arith) ∙ sym (lt-leb n 0 h)))
-      (λ g. rw (signed_high n g) (lt-ltb count_most n (omega arith)))
-      (lt_or_ge n 2147483648)
-
-  pub number_bits : (k : ℕ) → k ≤ count_most → eqb n k ≡ is_number (signed_of n) k
-  number_bits k h =
-      ⊎_elim
-      (λ l. rw (signed_low n l))
-      (λ g. rw (signed_high n g) (ne_eqb n k (λ e. omega arith)))
-      (lt_or_ge n 2147483648)
-
-  pub more_bits : n < 4294967295 → n + 1 ≡ bits_of (suc_ℤ (signed_of n))
-  unfolding bits_of
-  more_bits h =
-      ⊎_elim
-      (λ l. rw (signed_low n l) (omega arith))
-      (λ g. let e : 4294967295 - n ≡ suc (4294967294 - n) = omega arith in rw (signed_high n g, e) (omega arith))
-      (lt_or_ge n 2147483648)
-
-  pub last_bits : 4294967295 ≤ n → n < 4294967296 → 0 ≡ bits_of (suc_ℤ (signed_of n))
-  unfolding bits_of
-  last_bits h f = let e : n ≡ 4294967295 = omega arith in rw (e, signed_high 4294967295 (omega arith))
-
-  pub first_bits : n < 1 → 4294967295 ≡ bits_of (pred_ℤ (signed_of n))
-  unfolding bits_of
-  first_bits h = let e : n ≡ 0 = omega arith in rw (e, signed_low 0 (omega arith))
-
-  pub less_bits : 1 ≤ n → n < 4294967296 → n - 1 ≡ bits_of (pred_ℤ (signed_of n))
-  unfolding bits_of
-  less_bits h f =
-      ⊎_elim
-      (λ l. let e : n ≡ suc (n - 1) = omega arith in rw (signed_low n l, e) (omega arith))
-      (λ g. rw (signed_high n g) (omega arith))
-      (lt_or_ge n 2147483648)
-
 -- ---- what the functions tell
 
-module _ (mst : List ℕ) (r : ℕ) (e : r ≡ u32_at mst 16) where
-  pub full_told : eqb r count_most ≡ count_full mst
-  unfolding count_full count_of
-  full_told = rw (← e) (full_bits r)
+-- the greatest number of 4 bytes, and a number up to it
+pub full_told : (mst : List ℕ) (z : ℤ) → mag z < 2147483648 → z ≡ count_of mst → eqb (of_z w32 z) count_most ≡ count_full mst
+unfolding count_full
+full_told mst (pos n) h e =
+    rw (← e) (⊎_elim (λ l. ne_eqb n count_most (λ q. omega arith) ∙ sym (lt-leb count_most n l)) (λ g. eq-eqb n count_most (omega arith) ∙ sym (le-leb count_most n g)) (lt_or_ge n count_most))
+full_told mst (negsuc n) h e = rw (← e) (ne_eqb (of_z w32 (negsuc n)) count_most (λ q. omega arith))
 
-  pub none_told : r < 1 → true ≡ count_none mst
-  unfolding count_none count_of
-  none_told h = rw (← e) (none_bits r h)
+pub number_told : (mst : List ℕ) (z : ℤ) (n : ℕ) → mag z < 2147483648 → z ≡ count_of mst → n ≤ count_most → eqb (of_z w32 z) n ≡ count_is mst n
+unfolding count_is
+number_told mst (pos k) n h e l = rw (← e)
+number_told mst (negsuc k) n h e l = rw (← e) (ne_eqb (of_z w32 (negsuc k)) n (λ q. omega arith))
 
-  pub negative_told : 1 ≤ r → ltb count_most r ≡ count_none mst
-  unfolding count_none count_of
-  negative_told h = rw (← e) (negative_bits r h)
+-- the bits of a number that is computed with bits
+bits_kept : (n : ℕ) → n < 4294967296 → bits_of (to_z w32 n) ≡ n
+unfolding bits_of
+bits_kept n h = ⊎_elim (λ l. rw (lt-ltb n 2147483648 l)) (λ g. rw (le-ltb n 2147483648 g) (omega arith)) (lt_or_ge n 2147483648)
 
-  pub number_told : (n : ℕ) → n ≤ count_most → eqb r n ≡ count_is mst n
-  unfolding count_is count_of
-  number_told n h = rw (← e) (number_bits r n h)
+more_bits : (z : ℤ) → mag z < 2147483648 → (of_z w32 z + 1) % 4294967296 ≡ bits_of (suc_ℤ z)
+unfolding bits_of
+more_bits (pos n) h = omega arith
+more_bits (negsuc zero) h = refl
+more_bits (negsuc (suc n)) h = omega arith
 
-  pub more_put : (b : Bool) → b ≡ true → (n : ℕ) (out : List ℕ) → n ≡ bits_of (suc_ℤ (signed_of r)) → out ≡ overwrite mst 16 (le 4 n)
-      → out ≡ cond b (counted_more mst) mst
-  unfolding counted_more with_count count_of
-  more_put b h n out f w = rw (h, w, f, e)
+less_bits : (z : ℤ) → mag z < 2147483648 → (of_z w32 z + 4294967295) % 4294967296 ≡ bits_of (pred_ℤ z)
+unfolding bits_of
+less_bits (pos zero) h = refl
+less_bits (pos (suc n)) h = omega arith
+less_bits (negsuc n) h = omega arith
 
-  pub less_put : (n : ℕ) (out : List ℕ) → n ≡ bits_of (pred_ℤ (signed_of r)) → out ≡ overwrite mst 16 (le 4 n) → out ≡ counted_less mst
-  unfolding counted_less with_count count_of
-  less_put n out f w = rw (w, f, e)
+module _ (mst out : List ℕ) (z : ℤ) (h : mag z < 2147483648) (e : z ≡ count_of mst) where
+  pub more_put : (b : Bool) → b ≡ true → out ≡ overwrite mst 16 (le 4 (bits_of (to_z w32 ((of_z w32 z + 1) % 4294967296)))) → out ≡ cond b (counted_more mst) mst
+  unfolding counted_more with_count
+  more_put b t w = rw (t, w, bits_kept ((of_z w32 z + 1) % 4294967296) (omega arith), more_bits z h, e)
+
+  pub less_put : out ≡ overwrite mst 16 (le 4 (bits_of (to_z w32 ((of_z w32 z + 4294967295) % 4294967296)))) → out ≡ counted_less mst
+  unfolding counted_less with_count
+  less_put w = rw (w, bits_kept ((of_z w32 z + 4294967295) % 4294967296) (omega arith), less_bits z h, e)
 
 pub number_put : (mst out : List ℕ) (n : ℕ) → out ≡ overwrite mst 16 (le 4 n) → out ≡ with_count mst (pos n)
 unfolding with_count bits_of
 number_put mst out n w = w
-
-pub ruleset count_answers =
-    (full_told, none_told, negative_told, number_told, less_put, number_put, more_bits, last_bits, first_bits, less_bits, arith)
 
 -- ---- RECCNT as a natural number
 

@@ -1,14 +1,12 @@
-use borrow.Author.Rules.{rules}
-use Rattle.files.proofs.Answers.{long_next, write_answers}
+use Rattle.std.proofs.Common.{arith}
+use Rattle.files.proofs.Answers.{long_zero, long_next, mst_put}
 use Rattle.files.proofs.control.format_mst.Goals as goal
 
 pub put_next-requires : goal.put_next-requires
-put_next-requires c = search write_answers
+put_next-requires c = long_zero _ _ c.requires (c.fill.ensures.after (λ y e. e))
 
 pub put_end-requires : goal.put_end-requires
-put_end-requires c =
-    let filled = c in
-    (long_next _ _ filled.requires filled.fill.ensures _ _ c.put_next.ensures, search rules)
+put_end-requires c = (long_next _ _ c.requires (c.fill.ensures.after (λ y e. e)) _ c.put_next.ensures, omega arith)
 
 pub returns : goal.returns
-returns c = search write_answers
+returns c = mst_put _ _ c.requires (c.fill.ensures.after (λ y e. e)) _ c.put_next.ensures _ c.put_end.ensures

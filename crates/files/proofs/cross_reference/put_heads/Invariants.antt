@@ -1,12 +1,8 @@
 -- `put_heads`: after k turns the first integers of the first k blocks are written.
 use mathlib.Core.Path.{◌≡◌}
-use Prim.Native.Nat.{◌≤◌, ◌-◌}
 use lib.ListN.{length}
 use Rattle.files.specs.CrossReference.{with_heads}
 use Rattle.files.proofs.cross_reference.put_heads.Given as goal
 
 abbrev pub invariant-loop-k : goal.invariant-loop-k
-invariant-loop-k l = (l.k ≤ l.n) × (length l.xrf ≡ length l.initial.xrf) × (l.xrf ≡ with_heads l.n l.k l.initial.xrf)
-
-abbrev pub decreases-loop-k : goal.decreases-loop-k
-decreases-loop-k l = l.n - l.k
+invariant-loop-k l = (length l.xrf ≡ length l.initial.xrf) × (l.xrf ≡ with_heads l.n l.k l.initial.xrf)

@@ -1,5 +1,0 @@
-use Rattle.files.proofs.Count.{count_answers}
-use Rattle.files.proofs.control.put_count.Goals as goal
-
-pub returns : goal.returns
-returns c = search count_answers
