@@ -38,9 +38,8 @@ pub(crate) fn append_draft(
     requires at_end { (AtEnd mst.old end l.mfrl) × (need_of (length tags.now) (length «data».now) ≤ l.mfrl) }
     ensures { mst.new ≡ appended mst.old l (draft_fields tags.now lens.now «data».now) }
 {
-    let stop = end + l.mfrl as usize;
     drafts::writer::write_record(&mut mst[end..], l, tags, lens, data);
-    files::control::put_end(mst, layout::sizes::end_moved(stop));
+    files::control::put_end(mst, layout::sizes::end_moved(end + l.mfrl as usize));
 }
 
 // Writes a draft's record at the end under the next MFN, NXTMFN, RECCNT and the entry.

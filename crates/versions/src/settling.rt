@@ -17,12 +17,9 @@ pub fn settle_place(mst: &mut [u8], xrf: &mut [u8], m: Mfn, place: Place)
 {
     let at = layout::entry::place_address(place);
     drafts::writer::clear_back(&mut mst[at..]);
-    let block = place.block;
-    let p = Place {
-        block,
-        offset: place.offset,
-        deleted: place.deleted,
+    let settled = Place {
         mark: Mark::Settled,
+        ..place
     };
-    files::cross_reference::put_entry(xrf, m, p);
+    files::cross_reference::put_entry(xrf, m, settled);
 }

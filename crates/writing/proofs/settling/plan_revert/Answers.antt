@@ -1,36 +1,28 @@
-use Rattle.writing.proofs.Plans.{revert_full, revert_plans}
+use Rattle.std.proofs.lemmas.Result.{err_from_is_err_and}
+use Rattle.writing.proofs.Plans.{revert_plans}
 use Rattle.writing.proofs.settling.plan_revert.Goals as goal
 
-pub returns-in_default : goal.returns-in_default
-returns-in_default c = search revert_plans
+pub returns-in_err-control : goal.returns-in_err-control
+returns-in_err-control c =
+    let p = err_from_is_err_and c.from_residual.result c.from_residual.ensures.1 in
+    rw (p.1, p.2) (search (revert_plans, c.in_err-control.was))
 
 pub count_full-requires : goal.count_full-requires
-count_full-requires c = search revert_plans
+count_full-requires c = search (revert_plans, c.in_ok-control.was)
 
 pub returns-then-count_full : goal.returns-then-count_full
-returns-then-count_full c =
-    let open-gate = c.open_gate-g in
-    let the-g = c.in-Open in
-    let args = c.args in
-    revert_full _ _ args.m.0 _ open-gate.ensures _ _ the-g.is _ c.count_full.ensures c.if-count_full.true
+returns-then-count_full c = search (revert_plans, c.in_ok-control.was)
 
-pub slice_bounds-find_both-end : goal.slice_bounds-find_both-end
-slice_bounds-find_both-end c = search revert_plans
-
-pub slice_bounds-find_both-end-2 : goal.slice_bounds-find_both-end-2
-slice_bounds-find_both-end-2 c = search revert_plans
-
-pub find_both-k-requires : goal.find_both-k-requires
-find_both-k-requires c = search revert_plans
-
-pub returns-in_default-k : goal.returns-in_default-k
-returns-in_default-k c = search revert_plans
+pub returns-in_err-place : goal.returns-in_err-place
+returns-in_err-place c =
+    let p = err_from_is_err_and c.from_residual-in_err-place.result c.from_residual-in_err-place.ensures.1 in
+    rw (p.1, p.2) (search (revert_plans, c.in_ok-control.was, c.in_err-place.was))
 
 pub returns-in-Settled : goal.returns-in-Settled
-returns-in-Settled c = search revert_plans
+returns-in-Settled c = search (revert_plans, c.in_ok-control.was, c.in_ok-place.was)
 
 pub returns-in-Changed : goal.returns-in-Changed
-returns-in-Changed c = search revert_plans
+returns-in-Changed c = search (revert_plans, c.in_ok-control.was, c.in_ok-place.was)
 
 pub returns-in-New : goal.returns-in-New
-returns-in-New c = search revert_plans
+returns-in-New c = search (revert_plans, c.in_ok-control.was, c.in_ok-place.was)
