@@ -1,5 +1,4 @@
 pub mod Shapes
-pub mod Records
+pub mod Nodes
 pub mod Finding
 pub mod Looking
-pub mod Reading
