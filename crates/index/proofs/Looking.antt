@@ -1,8 +1,7 @@
 -- The lookup over CNT's part: what a tree answers.
 use Prim.Native.Nat.{ℕ, ◌≤◌}
 use native.Mathlib.Omega.{arith}
-use mathlib.Core.Path.{◌≡◌, refl, ◌∙◌}
-use mathlib.Core.Bool.{Bool, true, false, cond}
+use mathlib.Core.Path.{◌≡◌, ◌∙◌}
 use mathlib.Core.List.{List}
 use lib.ListN.{length, replicate}
 use Rattle.std.proofs.Common.{Option, Some, None, Ok, Err}
@@ -12,26 +11,12 @@ use Rattle.terms.specs.Term.{width_of, padded}
 use Rattle.terms.specs.declared.term.Kind.{Kind}
 use Rattle.terms.proofs.Padding.{width_high, key_padded}
 use Rattle.index.specs.Inner.{way_end}
-use Rattle.index.specs.Layout.{nodes_most, tree_of}
-use Rattle.index.specs.Rules.{part_right, part_of}
+use Rattle.index.specs.Layout.{nodes_most}
 use Rattle.index.specs.Lookup.{Found, leaf_answer, search_tree}
 use Rattle.index.specs.declared.layout.Tree.{Tree}
 use Rattle.index.specs.declared.lookup.Refusal.{Refusal}
 use Rattle.index.specs.declared.lookup.Refusal.TheVariants.{BadIndex}
 use Rattle.index.proofs.Finding.{end_answer, down_ends}
-
--- the keys of a tree that CNT's part describes have its type's width
-pub record Widths (kind : Kind) (t : Tree) : Type 0 where
-  pub nodes : t.nodes.width ≡ width_of kind
-  pub leaves : t.leaves.width ≡ width_of kind
-
-pub part_widths : (cnt : List ℕ) (kind : Kind) (t : Tree) → part_of cnt kind ≡ Some t → Widths kind t
-unfolding part_of tree_of
-part_widths cnt kind t = cases (part_right cnt kind)
-  where
-    cases : (b : Bool) → cond b (Some (tree_of cnt kind)) None ≡ Some t → Widths kind t
-    cases true e = let same : tree_of cnt kind ≡ t = cc in rw (← same) (record { nodes = refl; leaves = refl })
-    cases false e = let w : ◌≡◌ {A = ℕ} 0 1 = cc in absurd (omega arith)
 
 -- the padded term, as the front of a buffer of spaces that it was copied to
 pub key_is : (kind : Kind) (term buffer key : List ℕ) (width : ℕ) → length term ≤ width_of kind → width ≡ width_of kind

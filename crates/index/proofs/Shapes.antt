@@ -8,7 +8,7 @@ use mathlib.Core.List.{List}
 use lib.ListN.{length}
 use Rattle.index.specs.Layout.{size_of, place_of, key_place, ock_at}
 use Rattle.index.specs.Rules.{record_there, rest_right, record_right, node_right}
-use Rattle.index.specs.Shape.{Shape}
+use Rattle.index.specs.Shape.{Shape, ShapeFits}
 use Rattle.word.proofs.Tests.{tests, and_left}
 
 -- ---- sizes
@@ -16,6 +16,10 @@ use Rattle.word.proofs.Tests.{tests, and_left}
 -- the bytes of all entries
 pub size_high : (most step : ℕ) → most ≤ 32 → step ≤ 38 → most * step ≤ 1216
 size_high most step h k = mul-le-mul h k
+
+pub size_low : (s : Shape) → ShapeFits s → 8 ≤ size_of s
+unfolding size_of
+size_low s f = omega (arith, f.head_low)
 
 -- a number of 32 bits times a size
 pub times_size : (n size : ℕ) → n < 4294967296 → size ≤ 1228 → n * size ≤ 5274219839488

@@ -1,7 +1,8 @@
 use mathlib.Core.Path.{sym, ◌∙◌}
 use Rattle.std.proofs.lemmas.Result.{err_from_is_err_and}
 use Rattle.index.specs.Lookup.{lookup_in}
-use Rattle.index.proofs.Looking.{part_widths, key_is, search_none, search_err, search_ok}
+use Rattle.index.proofs.Trees.{part_fits}
+use Rattle.index.proofs.Looking.{key_is, search_none, search_err, search_ok}
 use Rattle.index.proofs.lookup.lookup_in.Goals as goal
 
 pub returns-in_err-tree : goal.returns-in_err-tree
@@ -14,7 +15,7 @@ returns-in_err-tree c =
 
 pub leaf_for-requires : goal.leaf_for-requires
 leaf_for-requires c =
-    c.part-key.ensures.size ∙ c.width.ensures.is ∙ sym (part_widths _ _ _ (sym c.read_part.ensures ∙ c.in_ok-tree.ensures.ok_part)).nodes
+    c.part-key.ensures.size ∙ c.width.ensures.is ∙ sym (part_fits _ _ _ (sym c.read_part.ensures ∙ c.in_ok-tree.ensures.ok_part)).nodes_width
 
 pub returns-in_err-leaf : goal.returns-in_err-leaf
 unfolding lookup_in
@@ -26,7 +27,7 @@ returns-in_err-leaf c =
 
 pub leaf_answer-requires : goal.leaf_answer-requires
 leaf_answer-requires c =
-    c.part-key.ensures.size ∙ c.width.ensures.is ∙ sym (part_widths _ _ _ (sym c.read_part.ensures ∙ c.in_ok-tree.ensures.ok_part)).leaves
+    c.part-key.ensures.size ∙ c.width.ensures.is ∙ sym (part_fits _ _ _ (sym c.read_part.ensures ∙ c.in_ok-tree.ensures.ok_part)).leaves_width
 
 pub returns : goal.returns
 unfolding lookup_in
