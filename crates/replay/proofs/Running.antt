@@ -87,7 +87,7 @@ module _ (ops mfns tags lens bytes : List ℕ) where
 
   -- as many calls as there are numbers bounds what is left
   abbrev pub left_calls : Cursor → List Call
-  left_calls at = calls_in (length ops - at.calls) (script_at ops mfns tags lens bytes at)
+  left_calls at = calls_in (length ops - at.calls) (script_at p at)
 
   -- from s₀ and two rooms, after the calls before the cursor
   pub record Going (s₀ : Store) (answers₀ shown₀ : List ℕ) (s : Store) (answers shown : List ℕ) (at : Cursor) : Type 0 where
@@ -107,7 +107,7 @@ module _ (ops mfns tags lens bytes : List ℕ) where
     -- the store is what they leave
     pub store_is : s ≡ after_s s₀ ran
     -- and what is left of the list gives the rest of the calls and of what is told
-    pub rest_is : script_at ops mfns tags lens bytes at ≡ rest_after at.calls p
+    pub rest_is : script_at p at ≡ rest_after at.calls p
     pub calls_are : calls_of p ≡ ran ++ left_calls at
     pub told_are : told s₀ (length answers₀) (length shown₀) p
         ≡ done ++ fitting (length answers₀ - at.numbers) (length shown₀ - at.shown) (answers_s s (left_calls at))
@@ -151,7 +151,7 @@ module _ (ops mfns tags lens bytes : List ℕ) where
       going_start_at s₀ answers₀ shown₀ at z
 
   -- the cursor after a call stands before the rest
-  rest_moved : (at : Cursor) (size len : ℕ) → script_at ops mfns tags lens bytes (moved at (taken_of (first_op (script_at ops mfns tags lens bytes at))) size len) ≡ rest_of (script_at ops mfns tags lens bytes at)
+  rest_moved : (at : Cursor) (size len : ℕ) → script_at p (moved at (taken_of (first_op (script_at p at))) size len) ≡ rest_of (script_at p at)
   unfolding rest_of
   rest_moved at size len =
       let five : call_size * (at.calls + 1) ≡ call_size * at.calls + call_size = omega arith in
@@ -164,7 +164,7 @@ module _ (ops mfns tags lens bytes : List ℕ) where
 
   module _ (s₀ : Store) (answers₀ shown₀ : List ℕ) (s : Store) (answers shown : List ℕ) (at : Cursor) (g : Going s₀ answers₀ shown₀ s answers shown at) where
     abbrev rest : Script
-    rest = script_at ops mfns tags lens bytes at
+    rest = script_at p at
 
     -- what is reported from a cursor on
     abbrev told_from : Cursor → Store → List Outcome

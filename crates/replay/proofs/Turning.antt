@@ -45,7 +45,7 @@ use Rattle.store.specs.Store.{Store, store}
 use Rattle.ledger.specs.Call.{Call, Outcome, listed}
 use Rattle.ledger.specs.StoreRun.{shown_outcome, answer_s, next_s, result_s}
 use Rattle.script.specs.Ops.{call_size, mfns_of, no_draft, counts, taken_by, op_in}
-use Rattle.replay.specs.Calls.{Script, reading_call, writing_call, call_of, left_of, first_op}
+use Rattle.replay.specs.Calls.{Script, script, reading_call, writing_call, call_of, left_of, first_op}
 use Rattle.script.specs.Report.{outcome_size}
 use Rattle.replay.specs.Replay.{numbers_of, stop_at}
 use Rattle.script.specs.Cursor.{left_at, moved, DraftWithin, Within}
@@ -353,7 +353,7 @@ op_front ns left =
 
 module _ (ops mfns tags lens bytes : List ℕ) (at : Cursor) where
   abbrev rest : Script
-  rest = script_at ops mfns tags lens bytes at
+  rest = script_at (script ops mfns tags lens bytes) at
 
   rest_length : length rest.ops ≡ length ops - call_size * at.calls
   rest_length = length-drop (call_size * at.calls) ops

@@ -28,9 +28,14 @@ unfoldable pub writing_at : List ℕ → List ℕ → List ℕ → Cursor → Co
 writing_at tags lens bytes at n w = writing_call (front_draft (drop at.used.tags tags) (drop at.used.lens lens) (drop at.used.bytes bytes) n) w
 
 -- what is left of a list of calls at a cursor
-abbrev pub script_at : List ℕ → List ℕ → List ℕ → List ℕ → List ℕ → Cursor → Script
-script_at ops mfns tags lens bytes at =
-    script (drop (call_size * at.calls) ops) (drop at.used.mfns mfns) (drop at.used.tags tags) (drop at.used.lens lens) (drop at.used.bytes bytes)
+abbrev pub script_at : Script → Cursor → Script
+script_at p at =
+    script
+    (drop (call_size * at.calls) p.ops)
+    (drop at.used.mfns p.mfns)
+    (drop at.used.tags p.tags)
+    (drop at.used.lens p.lens)
+    (drop at.used.bytes p.bytes)
 
 -- ---- one call
 

@@ -244,7 +244,8 @@ fn settle_turn(
 fn next_op(list: &Script, at: Cursor) -> Result<Op, Stop>
     requires ops_in { call_size * at.calls ≤ length list.now.ops.now }
     requires used_in { UsedWithin at (left_of (script_of list.now)) }
-    ensures { MatchResult result (IsFirst (script_at list.now.ops.now list.now.mfns.now list.now.tags.now list.now.lens.now list.now.bytes.now at)) (IsOver (script_at list.now.ops.now list.now.mfns.now list.now.tags.now list.now.lens.now list.now.bytes.now at)) }
+    ensures { let rest = script_at (script_of list.now) at in
+        MatchResult result (IsFirst rest) (IsOver rest) }
 {
     let ops = &list.ops[CALL_SIZE * at.calls..];
     if ops.is_empty() {
@@ -266,7 +267,7 @@ pub(crate) fn one_turn(
     at: Cursor,
 ) -> Result<Cursor, Stop>
     requires { Within list.now.ops.now list.now.mfns.now list.now.tags.now list.now.lens.now list.now.bytes.now answers.old shown.old at }
-    ensures { Turned (script_at list.now.ops.now list.now.mfns.now list.now.tags.now list.now.lens.now list.now.bytes.now at) (store mst.old xrf.old) answers.old shown.old at result (store mst.new xrf.new) answers.new shown.new }
+    ensures { Turned (script_at (script_of list.now) at) (store mst.old xrf.old) answers.old shown.old at result (store mst.new xrf.new) answers.new shown.new }
 {
     match next_op(list, at)? {
         Op::Asks(r) => ask_turn(mst, xrf, r, answers, shown, at),
