@@ -18,8 +18,8 @@ returns-then-not-heads_right c =
 pub returns-in_err-named : goal.returns-in_err-named
 returns-in_err-named c = rw c.from_residual.ensures (search (body_answers, c.in_err-named.was))
 
-pub walk_steps-requires-clause-xrf_value_2 : goal.walk_steps-requires-clause-xrf_value_2
-walk_steps-requires-clause-xrf_value_2 c = search (body_answers, c.in_ok-named.was)
+pub walk_steps-requires : goal.walk_steps-requires
+walk_steps-requires c = search (body_answers, c.in_ok-named.was)
 
 pub returns-then-not-walk_steps : goal.returns-then-not-walk_steps
 returns-then-not-walk_steps c = search (body_answers, c.in_ok-named.was)
