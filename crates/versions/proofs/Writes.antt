@@ -1,7 +1,7 @@
 -- What the writing halves leave. A record is written into the tail of the MST that starts at its place; what the borrow checker hands back of
 -- that tail, with what the writer promises of it, is the MST with the record placed there. Each law's premises are what is known at a call or at
 -- the return of one writing half, so that `search` finds them.
-use Prim.Native.Nat.{ℕ, ◌+◌, ◌-◌, ◌/◌, ◌%◌, ◌≤◌, ◌<◌}
+use Prim.Native.Nat.{ℕ, ◌+◌, ◌-◌, ◌≤◌, ◌<◌}
 use native.Mathlib.Omega.{arith}
 use mathlib.Core.Path.{◌≡◌, sym, ap, ◌∙◌}
 use mathlib.Core.Bool.{Bool, true, false}
@@ -10,28 +10,26 @@ use lib.ListN.{length, replicate, length-take, length-drop, length-append}
 use borrow.Rule.Slice.PartMut.{mid_of, put_mid}
 use Rattle.word.specs.Overwrite.{overwrite}
 use Rattle.word.proofs.Overwrite.{returned_front, returned_tail, tail_back}
-use Rattle.layout.specs.Sizes.{address_limit, record_most, mst_most, mst_blocks, capacity_of, block_at, offset_at, end_moved}
+use Rattle.layout.specs.Sizes.{address_limit, record_most, block_at, offset_at, end_moved}
 use Rattle.layout.specs.Entry.{placed, place_address}
 use Rattle.files.specs.Control.{next_of, end_of, with_next, with_end, counted_more, counted_less}
 use Rattle.files.specs.CrossReference.{with_entry}
 use Rattle.layout.specs.Leader.{leader_of}
-use Rattle.layout.specs.declared.sizes.Block.{Block}
-use Rattle.layout.specs.declared.entry.Mark.{Mark}
 use Rattle.layout.specs.declared.entry.Mark.TheVariants.{Settled, New}
 use Rattle.layout.specs.declared.entry.Place.{Place}
 use Rattle.layout.specs.declared.leader.Leader.{Leader}
 use Rattle.layout.proofs.Facts.{end_moved_facts}
 use Rattle.record.specs.Fields.{Field, fields_of, data_of}
 use Rattle.record.specs.Record.{Readable}
-use Rattle.drafts.specs.Draft.{need_of, draft_right, draft_fields}
+use Rattle.drafts.specs.Draft.{need_of, draft_fields}
 use Rattle.drafts.specs.Bytes.{need_for, record_bytes, leader_for}
 use Rattle.record.proofs.Facts.{right_readable, readable_facts}
 use Rattle.record.proofs.FieldData.{fields_count, data_within}
 use Rattle.record.proofs.Local.{ReadsAs, right_reads, reads_bound}
 use Rattle.drafts.proofs.Draftable.{draft_need, draft_count, readable_draftable}
-use Rattle.store.specs.Reading.{is_settled, record_at, leader_at, current_fields}
-use Rattle.versions.specs.Written.{appended, place_at_end, created_mst, created_xrf, version_leader, version_appended, version_in_place, settled_mst, settled_xrf}
-use Rattle.versions.specs.Asked.{HasSlot, AtEnd, DraftFits, RecordRead}
+use Rattle.store.specs.Reading.{record_at, leader_at, current_fields}
+use Rattle.versions.specs.Written.{appended, created_mst, created_xrf, version_leader, version_appended, version_in_place, settled_mst, settled_xrf}
+use Rattle.versions.specs.Asked.{AtEnd, DraftFits, RecordRead}
 use Rattle.versions.proofs.Told.{need_low}
 
 -- ---- the lent tail
@@ -40,11 +38,7 @@ module _ (mst : List ℕ) (at : ℕ) where
   pub tail_length : length (mid_of at (length mst - at) mst) ≡ length mst - at
   tail_length = simp (length-take, length-drop) (omega arith)
 
-  -- it has room for what ends within the MST
-  pub tail_room : (n : ℕ) → at + n ≤ length mst → n ≤ length (mid_of at (length mst - at) mst)
-  tail_room n h = omega (arith, tail_length)
-
-  -- and comes back as long
+  -- it comes back as long
   tail_kept : (ys : List ℕ) → at ≤ length mst → length ys ≡ length (mid_of at (length mst - at) mst) → length (put_mid at (length mst - at) mst ys) ≡ length mst
   tail_kept ys h e = rw (tail_back mst at ys) (simp (length-append, length-take) (omega (arith, tail_length)))
 
@@ -55,30 +49,13 @@ module _ (mst : List ℕ) (end : ℕ) (l : Leader) (a : AtEnd mst end l.mfrl) wh
   pub control_kept : (ys : List ℕ) → length ys ≡ length (mid_of end (length mst - end) mst) → 64 ≤ length (put_mid end (length mst - end) mst ys)
   control_kept ys e = omega (arith, tail_kept mst end ys (omega arith) e)
 
-  pub end_small : (moved : ℕ) → moved ≡ end_moved (end + l.mfrl) → moved < address_limit
-  end_small moved e = omega (arith, end_moved_facts (end + l.mfrl))
+  pub end_small : (stop moved : ℕ) → moved ≡ end_moved stop → stop ≤ end + l.mfrl → moved < address_limit
+  end_small stop moved e h = omega (arith, end_moved_facts stop)
 
   pub draft_appended : (tail last : List ℕ) (moved : ℕ) (fs : List Field) → tail ≡ overwrite (mid_of end (length mst - end) mst) 0 (record_bytes l fs)
       → moved ≡ end_moved (end + l.mfrl) → last ≡ with_end (put_mid end (length mst - end) mst tail) moved → last ≡ appended mst l fs
   unfolding appended
   draft_appended tail last moved fs e n w = w ∙ rw (n, returned_front mst end (record_bytes l fs) e, a.end_is)
-
-pub ruleset draft_writes = (tail_room, control_kept, end_small, draft_appended)
-
--- the leader of a record whose size has room
-module _ (mst : List ℕ) (end size : ℕ) (a : AtEnd mst end size) (k : Leader) (n : ℕ) (e : n ≡ size) where
-  pub at_end_version : k.mfrl ≡ n → AtEnd mst end k.mfrl
-  at_end_version f = rw (f, e) a
-
-  pub at_end_created : (m b p c : ℕ) (deleted : Bool) → k ≡ leader_for m n b p deleted c → AtEnd mst end k.mfrl
-  at_end_created m b p c deleted f = rw (f, e) a
-
-module _ (size : ℕ) (k : Leader) (n : ℕ) (e : n ≡ size) where
-  pub size_version : k.mfrl ≡ n → size ≤ k.mfrl
-  size_version f = omega arith
-
-  pub size_created : (m b p c : ℕ) (deleted : Bool) → k ≡ leader_for m n b p deleted c → size ≤ k.mfrl
-  size_created m b p c deleted f = rw (f, e) (omega arith)
 
 -- ---- the record that is written again
 
@@ -101,16 +78,7 @@ module _ (mst : List ℕ) (end : ℕ) (p : Place) (l : Leader) (r : RecordRead m
     pub own_lent_readable : Readable (mid_of at (end - at) mst)
     own_lent_readable = rw own_lent own_readable
 
-    -- what the copy to the end asks, and what it leaves
-    pub copy_before : at ≤ end
-    copy_before = omega arith
-
-    pub copy_room : (n : ℕ) → AtEnd mst end n → end + n ≤ length mst
-    copy_room n a = a.room
-
-    pub copy_need : (n : ℕ) → need_for (current_fields mst p) ≤ n → need_for (fields_of (mid_of at (end - at) mst)) ≤ n
-    copy_need n h = rw own_lent h
-
+    -- what the copy to the end leaves
     pub copy_kept : (size : ℕ) (out : List ℕ) → AtEnd mst end size → length out ≡ length mst → 64 ≤ length out
     copy_kept size out a h = omega arith
 
@@ -152,10 +120,6 @@ module _ (mst : List ℕ) (end : ℕ) (p : Place) (l : Leader) (r : RecordRead m
     pub same_mfrl : (k : Leader) → k.mfrl ≡ l.mfrl → k.mfrl ≡ (leader_of (mid_of at (length mst - at) mst)).mfrl
     same_mfrl k h = rw tail_leader h
 
-    -- the control record is in the MST still
-    pub rewrite_long : (tail : List ℕ) → length tail ≡ length (mid_of at (length mst - at) mst) → 64 ≤ length (put_mid at (length mst - at) mst tail)
-    rewrite_long tail h = omega (arith, tail_kept mst at tail (omega arith) h)
-
     pub rewritten : (m : ℕ) (k : Leader) (tail last : List ℕ) → k ≡ version_leader m p l l.mfrl true l.nvf
         → tail ≡ overwrite (mid_of at (length mst - at) mst) 0 (record_bytes k (fields_of (mid_of at (length mst - at) mst)))
         → last ≡ counted_less (put_mid at (length mst - at) mst tail) → last ≡ counted_less (version_in_place mst m p l true (current_fields mst p))
@@ -167,8 +131,6 @@ module _ (mst : List ℕ) (end : ℕ) (p : Place) (l : Leader) (r : RecordRead m
         → put_mid at (length mst - at) mst tail ≡ settled_mst mst p
     unfolding settled_mst
     back_cleared tail t = returned_tail mst at 6 (replicate 6 0) t ∙ rw e
-
-pub ruleset CopyWrites = (end_small, own_lent_readable, copy_before, copy_room, copy_need, copy_kept, copy_appended)
 
 -- ---- a new version
 
@@ -190,10 +152,6 @@ module _ (mst : List ℕ) (m : ℕ) (p : Place) (l : Leader) (deleted : Bool) (k
 
 -- over the old one
 module _ (mst : List ℕ) (p : Place) (l k : Leader) (tags lens bytes : List ℕ) (at : ℕ) (d : DraftFits tags lens bytes) (e : at ≡ place_address p) where
-  pub in_place_asked : need_of (length tags) (length bytes) ≤ l.mfrl → k.mfrl ≡ l.mfrl → place_address p + l.mfrl ≤ length mst
-      → (draft_right tags lens bytes ≡ true) × ((need_of (length tags) (length bytes) ≤ k.mfrl) × (k.mfrl ≤ length (mid_of at (length mst - at) mst)))
-  in_place_asked h f i = (d.right, (omega arith, omega (arith, tail_length mst at)))
-
   pub draft_in_place : (m : ℕ) (deleted : Bool) (tail : List ℕ) → k ≡ version_leader m p l l.mfrl deleted (length tags)
       → tail ≡ overwrite (mid_of at (length mst - at) mst) 0 (record_bytes k (draft_fields tags lens bytes))
       → put_mid at (length mst - at) mst tail ≡ version_in_place mst m p l deleted (draft_fields tags lens bytes)
@@ -201,42 +159,7 @@ module _ (mst : List ℕ) (p : Place) (l k : Leader) (tags lens bytes : List ℕ
   draft_in_place m deleted tail v t =
       returned_front mst at (record_bytes k (draft_fields tags lens bytes)) t ∙ rw (v, e, ← draft_count tags lens bytes d.right)
 
--- the leader of a new version, by the mark of the old one
-module _ (m mfrl n : ℕ) (p : Place) (l : Leader) (deleted : Bool) (r : Leader) where
-  pub leader_settled : p.mark ≡ Settled → r ≡ leader_for m mfrl p.block.0 p.offset deleted n
-      → (r ≡ version_leader m p l mfrl deleted n) × (r.mfrl ≡ mfrl)
-  unfolding version_leader
-  leader_settled e w = (rw (w, e), rw w)
-
-  pub leader_pending : is_settled p.mark ≡ false → r ≡ leader_for m mfrl l.mfbwb.0 l.mfbwp deleted n
-      → (r ≡ version_leader m p l mfrl deleted n) × (r.mfrl ≡ mfrl)
-  unfolding version_leader
-  leader_pending e w = (rw (w, e), rw w)
-
--- ---- the entry
-
--- at the end
-pub end_placed : (b : Block) (offset end : ℕ) (deleted : Bool) (k : Mark) → b.0 ≡ block_at end → offset ≡ offset_at end
-    → (◌≡◌ {A = Place} (record { block = b; offset = offset; deleted = deleted; mark = k }) (placed (block_at end) (offset_at end) deleted k))
-    × ((b.0 ≡ end / 512 + 1) × (offset ≡ end % 512))
-end_placed b offset end deleted k e f = (rw (← e, f), (e, f))
-
-pub end_asked : (mst : List ℕ) (end size : ℕ) → AtEnd mst end size → end ≤ mst_most
-end_asked mst end size a = omega arith
-
-module _ (mst xrf : List ℕ) (m end : ℕ) (q : Place) where
-  pub entry_asked : (size : ℕ) → HasSlot xrf m → AtEnd mst end size → q.block.0 ≡ end / 512 + 1 → q.offset ≡ end % 512
-      → ((1 ≤ m) × (m ≤ capacity_of (length xrf))) × ((1 ≤ q.block.0) × (q.block.0 ≤ mst_blocks) × (q.offset ≤ 498))
-  entry_asked size s a b o = ((s.low, s.high), (omega arith, omega arith, omega arith))
-
-  pub entered : (last : List ℕ) (deleted : Bool) (k k' : Mark) (size : ℕ) → AtEnd mst end size → k ≡ k' → q ≡ placed (block_at end) (offset_at end) deleted k → last ≡ with_entry xrf m q
-      → last ≡ with_entry xrf m (place_at_end mst deleted k')
-  entered last deleted k k' size a e v w = w ∙ rw (v, e, a.end_is)
-
 -- ---- create
-
-pub created_long : (mst middle last : List ℕ) (end size : ℕ) → AtEnd mst end size → length middle ≡ length mst → length last ≡ length middle → 64 ≤ length last
-created_long mst middle last end size a h k = omega arith
 
 pub record_created : (mst tags lens bytes middle counted last : List ℕ) (next need : ℕ) (l : Leader) → DraftFits tags lens bytes → next ≡ next_of mst
     → need ≡ need_of (length tags) (length bytes) → l ≡ leader_for next need 0 0 false (length tags) → middle ≡ appended mst l (draft_fields tags lens bytes)

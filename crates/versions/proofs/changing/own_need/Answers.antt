@@ -5,13 +5,7 @@ pub data_length-requires : goal.data_length-requires
 data_length-requires c = search own_lent_readable
 
 pub need-requires : goal.need-requires
-need-requires c =
-    let pre = c.requires in
-    let place-address = c.place_address-at in
-    own_counted _ _ _ _ (pre) _ place-address.ensures _ c.data_length.ensures
+need-requires c = own_counted _ _ _ _ c.requires _ c.place_address-at.ensures _ c.data_length.ensures
 
 pub returns : goal.returns
-returns c =
-    let pre = c.requires in
-    let place-address = c.place_address-at in
-    own_need _ _ _ _ (pre) _ place-address.ensures _ c.data_length.ensures _ c.need.ensures
+returns c = own_need _ _ _ _ c.requires _ c.place_address-at.ensures _ c.data_length.ensures _ c.need.ensures
