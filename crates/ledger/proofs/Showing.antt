@@ -1,4 +1,5 @@
 -- What a search in a right record shows is what its list of fields names.
+use Rattle.std.specs.Prelude.{Result, Ok, Err}
 use Prim.Native.Nat.{ℕ, ◌+◌}
 use mathlib.Core.Path.{◌≡◌, refl}
 use mathlib.Core.Bool.{Bool}
@@ -6,8 +7,8 @@ use mathlib.Core.List.{List}
 use Rattle.word.specs.Overwrite.{part}
 use Rattle.layout.specs.declared.leader.Leader.{Leader}
 use Rattle.record.specs.Fields.{Field, field_named, find_of}
-use Rattle.record.specs.declared.fields.Found.{Found}
-use Rattle.record.specs.declared.fields.Found.TheVariants.{Span, Fewer, Missing}
+use Rattle.record.specs.declared.fields.Span.{Span}
+use Rattle.record.specs.declared.fields.NotFound.{NotFound}
 use Rattle.record.proofs.Local.{ReadsAs}
 use Rattle.record.proofs.Find.{reads_found, reads_none}
 use Rattle.views.specs.Views.{found_start, found_length}
@@ -18,7 +19,6 @@ pub shown_done : (d : List ℕ) (at n : ℕ) {m : ℕ} {deleted : Bool} {l : Lea
     → part d (at + found_start (find_of (part d at n) tag occ)) (found_length (find_of (part d at n) tag occ)) ≡ bytes_of (field_named fs tag occ)
 shown_done d at n {fs = fs} r tag occ = go (find_of (part d at n) tag occ) refl
   where
-    go : (f : Found) → find_of (part d at n) tag occ ≡ f → part d (at + found_start f) (found_length f) ≡ bytes_of (field_named fs tag occ)
-    go (Span start len) e = rw (reads_found d at n r tag occ start len e)
-    go (Fewer k) e = rw (reads_none r tag occ (rw e))
-    go Missing e = rw (reads_none r tag occ (rw e))
+    go : (f : Result Span NotFound) → find_of (part d at n) tag occ ≡ f → part d (at + found_start f) (found_length f) ≡ bytes_of (field_named fs tag occ)
+    go (Ok s) e = rw (reads_found d at n r tag occ s e)
+    go (Err x) e = rw (reads_none r tag occ (rw e))

@@ -1,5 +1,5 @@
 -- What the two views answer, show and count on a sound store is what the ledger answers, shows and counts.
-use Rattle.std.specs.Prelude.{Err}
+use Rattle.std.specs.Prelude.{Ok, Err}
 use Prim.Native.Nat.{ℕ, ◌+◌, ◌-◌, ◌<◌}
 use mathlib.Core.Path.{◌≡◌, refl, sym, ap, ◌∙◌}
 use mathlib.Core.Bool.{Bool, true, false, cond}
@@ -15,7 +15,6 @@ use Rattle.layout.specs.declared.entry.Place.{Place}
 use Rattle.layout.specs.declared.entry.Entry.TheVariants.{Gone}
 use Rattle.word.proofs.Tests.{cond_holds}
 use Rattle.record.specs.Fields.{fields_of, field_named, occurrences_of, find_of}
-use Rattle.record.specs.declared.fields.Found.{Found}
 use Rattle.store.specs.Answer.{after, number_of, Answer}
 use Rattle.store.specs.Reading.{mfn_in_range, entry_for, place_for, is_changed, record_at, leader_at, back_address, record_fine, settled_record, settled_fine, version_fine, shown_settled}
 use Rattle.views.specs.Views.{view_answer, settled_view_answer, found_start, found_length, occurrences_with, shown_at, view_of, settled_address, settled_view_of, shown_bytes}
@@ -36,14 +35,8 @@ use Rattle.ledger.proofs.Answering.{item_at, view_answer_lem, settled_view_answe
 shown_after : (d : List ℕ) (a : Answer) (at : ℕ) (rec : List ℕ) (tag occ : ℕ)
     → shown_bytes d (shown_at a at rec tag occ) ≡ after a (part d (at + found_start (find_of rec tag occ)) (found_length (find_of rec tag occ))) []
 unfolding shown_at after
-shown_after d a at rec tag occ = go (eqb (number_of a) 0)
-  where
-    f : Found
-    f = find_of rec tag occ
-
-    go : (b : Bool) → part d (cond b (at + found_start f) 0) (cond b (found_length f) 0) ≡ cond b (part d (at + found_start f) (found_length f)) []
-    go true = refl
-    go false = refl
+shown_after d (Ok u) at rec tag occ = refl
+shown_after d (Err r) at rec tag occ = refl
 
 -- a refused view shows nothing, whatever the ledger's field
 shown_none : (d : List ℕ) (a : Answer) (at : ℕ) (rec : List ℕ) (tag occ : ℕ) (b : List ℕ) → Refusing a → shown_bytes d (shown_at a at rec tag occ) ≡ after a b []

@@ -2,10 +2,8 @@
 -- the calls cite.
 use Rattle.std.specs.Prelude.{ℕ, List, [], ◌∷◌, length}
 use Rattle.writing.specs.Refusals.{format_answer, update_answer, delete_answer, settle_answer, revert_answer}
-use Rattle.writing.specs.Calls.{format_leaves, create_of, create_leaves, update_leaves, delete_leaves, settle_leaves, revert_leaves}
-use Rattle.views.specs.Views.{view_of, settled_view_of, shown_bytes}
-use Rattle.writing.specs.declared.create.Created.{Created}
-use Rattle.views.specs.declared.views.Shown.{Shown}
+use Rattle.writing.specs.Calls.{Created, format_leaves, create_of, create_leaves, update_leaves, delete_leaves, settle_leaves, revert_leaves}
+use Rattle.views.specs.Views.{Shown, view_of, settled_view_of, shown_bytes}
 use Rattle.soundness.specs.Sound.{check_answer}
 use Rattle.soundness.specs.Recount.{recount_answer, recount_leaves}
 use Rattle.migrating.specs.Migrate.{migrate_answer, migrate_leaves}
