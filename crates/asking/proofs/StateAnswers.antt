@@ -1,59 +1,32 @@
--- What the calls show that ask for the next MFN and for the state of a record, by what the gate and the record's test found.
-use Rattle.std.specs.Prelude.{Ok}
+-- What the calls tell that ask for the next MFN and for the state of a record, by what the gate and the record's test found.
+use Rattle.std.specs.Prelude.{Result, Ok, Err}
 use Prim.Native.Nat.{ℕ}
-use mathlib.Core.Path.{◌≡◌, sym, ap, ◌∙◌}
-use mathlib.Core.Bool.{Bool, false}
+use mathlib.Core.Path.{◌≡◌, refl, sym, ◌∙◌}
 use mathlib.Core.List.{List, []}
-use Rattle.files.specs.Control.{next_of, end_of}
-use Rattle.layout.specs.declared.sizes.Mfn.{Mfn}
-use Rattle.layout.specs.declared.entry.Mark.{Mark}
-use Rattle.layout.specs.declared.entry.Mark.TheVariants.{Settled}
-use Rattle.layout.specs.declared.entry.Place.{Place}
-use Rattle.layout.specs.declared.leader.Leader.{Leader}
-use Rattle.store.specs.Answer.{number_of, after, Answer}
-use Rattle.store.specs.Gate.{gate_of, gate_answer, reached_of, reached_answer}
-use Rattle.store.specs.Reading.{place_for}
+use Rattle.files.specs.declared.control.Control.{Control}
+use Rattle.store.specs.Answer.{after}
+use Rattle.store.specs.Gate.{gate_of, reached_of}
 use Rattle.store.specs.Store.{store}
-use Rattle.store.specs.declared.gate.Gate.{Gate}
-use Rattle.store.specs.declared.gate.Gate.TheVariants.{Open, Shut}
+use Rattle.store.specs.declared.answer.Refusal.{Refusal}
 use Rattle.store.specs.declared.gate.Reached.{Reached}
-use Rattle.store.specs.declared.gate.Reached.TheVariants.{There, Refused as Unreached}
-use Rattle.store.proofs.Gates.{after_refused, gate_shut, gate_open}
+use Rattle.store.proofs.Gates.{gate_shut, gate_open}
 use Rattle.store.proofs.Reaching.{reach_refused, reached_facts}
-use Rattle.asking.specs.State.{next_free_of, next_free_answer, state_of, state_answer}
+use Rattle.asking.specs.State.{next_told, next_free_of, next_free_answer, state_told, state_of, state_answer}
 
-module _ (mst xrf : List ℕ) (g : Gate) (p : g ≡ gate_of (store mst xrf)) where
-  pub next_refused : (a b : Answer) → g ≡ Shut b → a ≡ gate_answer g → record { answer = a; next = record { 0 = 0 }; end = 0 } ≡ next_free_of (store mst xrf)
-  unfolding next_free_of next_free_answer
-  next_refused a b q s =
-      let f = gate_shut mst xrf b (sym p ∙ q) in
-      let t : a ≡ b = s ∙ ap gate_answer q in
-      rw (t, f.answers [], after_refused {A = ℕ} b (next_of mst) 0 f.refusing, after_refused {A = ℕ} b (end_of mst) 0 f.refusing)
+pub next_is : (mst xrf : List ℕ) (r : Result Control Refusal) → r ≡ gate_of (store mst xrf) → next_told r ≡ next_free_of (store mst xrf)
+unfolding next_free_of next_free_answer after
+next_is mst xrf (Err e) p = rw ((gate_shut mst xrf e (sym p)).answers []) refl
+next_is mst xrf (Ok k) p = let o = gate_open mst xrf k (sym p) in rw (o.lengths, o.control, ← o.next_is, ← o.end_is)
 
-  pub next_found : (next : Mfn) (end : ℕ) → g ≡ Open next end → record { answer = Ok tt; next = next; end = end } ≡ next_free_of (store mst xrf)
-  unfolding next_free_of next_free_answer after number_of
-  next_found next end q =
-      let o = gate_open mst xrf next end (sym p ∙ q) in
-      rw (o.lengths, o.control, ← o.next_is, ← o.end_is)
+module _ (mst xrf : List ℕ) (m : ℕ) (r : Result Reached Refusal) (p : r ≡ reached_of (store mst xrf) m) where
+  pub state_refused : (e : Refusal) → r ≡ Err e → state_told (Err e) ≡ state_of (store mst xrf) m
+  unfolding state_of state_answer after
+  state_refused e q = rw ((reach_refused mst xrf m e (sym p ∙ q)).answers []) refl
 
-module _ (mst xrf : List ℕ) (m : ℕ) (r : Reached) (p : r ≡ reached_of (store mst xrf) m) where
-  pub state_refused : (a b : Answer) → r ≡ Unreached b → a ≡ reached_answer r → record { answer = a; mark = Settled; deleted = false } ≡ state_of (store mst xrf) m
-  unfolding state_of state_answer
-  state_refused a b q s =
-      let f = reach_refused mst xrf m b (sym p ∙ q) in
-      let t : a ≡ b = s ∙ ap reached_answer q in
-      rw (
-        t,
-        f.answers [],
-        after_refused {A = Mark} b (place_for (store mst xrf) m).mark Settled f.refusing,
-        after_refused {A = Bool} b (place_for (store mst xrf) m).deleted false f.refusing,
-      )
-
-  pub state_found : (end : ℕ) (pl : Place) (l : Leader) → r ≡ There end pl l
-      → record { answer = Ok tt; mark = pl.mark; deleted = pl.deleted } ≡ state_of (store mst xrf) m
-  unfolding state_of state_answer after number_of
-  state_found end pl l q =
-      let f = (reached_facts mst xrf m end pl l (sym p ∙ q)).1 in
+  pub state_found : (t : Reached) → r ≡ Ok t → state_told (Ok (record { mark = t.place.mark; deleted = t.place.deleted })) ≡ state_of (store mst xrf) m
+  unfolding state_of state_answer after
+  state_found t q =
+      let f = (reached_facts mst xrf m t (sym p ∙ q)).1 in
       rw (f.gate.lengths, f.gate.control, f.found.known, f.found.entry, f.found.record_fine_lem)
 
-pub ruleset state_answers = (next_refused, next_found, state_refused, state_found)
+pub ruleset state_answers = (next_is, state_refused, state_found)

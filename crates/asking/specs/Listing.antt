@@ -1,7 +1,7 @@
 -- All fields of a record in one call: the refusals in the order of their numbers, how many fields there are, and what the three lent lists have
 -- afterwards: in front the tags, the starts in the MST and the lengths of all fields, in directory order, behind them what was there. A
 -- refused call counts 0 and leaves the lists as they are.
-use Rattle.std.specs.Prelude.{ℕ, Bool, not, ◌&&◌, List, [], ◌∷◌, leb, ◌≡◌, length, take, drop}
+use Rattle.std.specs.Prelude.{ℕ, Bool, not, ◌&&◌, List, [], ◌∷◌, leb, ◌≡◌, length, take, drop, Result, Ok, Err}
 use Rattle.word.specs.Overwrite.{overwrite, part}
 use Rattle.layout.specs.Entry.{place_address}
 use Rattle.layout.specs.Leader.{leader_of}
@@ -10,9 +10,9 @@ use Rattle.walking.specs.Walker.{tags_of, starts_of, lengths_of}
 use Rattle.store.specs.Store.{Store}
 use Rattle.store.specs.Answer.{Row, refuse, lowest, after, Answer}
 use Rattle.store.specs.Reading.{place_for, record_at, shown_settled}
+use Rattle.store.specs.declared.answer.Refusal.{Refusal}
 use Rattle.store.specs.declared.answer.Refusal.TheVariants.{NoRoomInList}
 use Rattle.views.specs.Views.{on_current, on_settled, settled_address}
-use Rattle.asking.specs.declared.listing.Listed.{Listed}
 
 -- the three lists that are lent
 pub record Lists : Type 0 where
@@ -22,6 +22,16 @@ pub record Lists : Type 0 where
 
 abbrev pub lists : List ℕ → List ℕ → List ℕ → Lists
 lists tags starts lens = record { tags = tags; starts = starts; lens = lens }
+
+-- the answer, and how many fields the lists have in front
+pub record Listed : Type 0 where
+  pub answer : Answer
+  pub count : ℕ
+
+-- what a call that came out so lists: nothing, where it is refused
+abbrev pub listed : Result ℕ Refusal → Listed
+listed (Ok n) = record { answer = Ok tt; count = n }
+listed (Err r) = record { answer = Err r; count = 0 }
 
 -- three numbers are at least n
 unfoldable pub all_at_least : ℕ → ℕ → ℕ → ℕ → Bool

@@ -1,5 +1,6 @@
 pub mod Shapes
-pub mod Records
+pub mod Nodes
 pub mod Finding
+pub mod Trees
 pub mod Looking
 pub mod Reading

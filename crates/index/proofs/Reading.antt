@@ -5,27 +5,25 @@ use native.Mathlib.Nat.{add-zero, add_assoc}
 use native.Mathlib.Omega.{arith}
 use mathlib.Core.Path.{◌≡◌, refl, sym, ap, ◌∙◌}
 use mathlib.Core.Logic.{◌↔◌}
-use mathlib.Core.Bool.{Bool, true, false, not, ◌&&◌, cond, and-true, and-false, and_assoc}
+use mathlib.Core.Bool.{Bool, true, false, ◌&&◌, cond, and-true, and-false, and_assoc}
 use mathlib.Core.List.{List, [], ◌∷◌}
-use lib.Dec.{eqb}
 use lib.ListN.{length}
-use borrow.Author.Tests.{eq-eqb, not-true}
+use Rattle.std.proofs.Common.{Option, Some, None}
 use Rattle.word.specs.Integer.{u16_at, u32_at}
 use Rattle.word.proofs.Integers.{u32_part}
 use Rattle.word.proofs.Window.{window_u16, window_part}
 use Rattle.word.proofs.Tests.{and_iff, false_true}
 use Rattle.terms.specs.Key.{below}
-use Rattle.terms.proofs.Order.{by_cases, never}
-use Rattle.index.specs.Inner.{ShapeFits, TreeFits}
+use Rattle.terms.specs.declared.term.Kind.{Kind}
+use Rattle.terms.proofs.Order.{by_cases}
+use Rattle.index.specs.Shape.{Shape, ShapeFits}
 use Rattle.index.specs.Layout.{size_of, place_of, key_place, ock_at, key_at, punt_at, word_at, keys_from}
-use Rattle.index.specs.Rules.{record_right, punts_right, node_right}
+use Rattle.index.specs.Rules.{record_right, rest_right, punts_right, node_right}
 use Rattle.index.specs.Lookup.{entry_at, entries_from, leaf_answer, last_punt, punt_for, is_node, leaf_number, onward, descend, search_tree}
-use Rattle.index.specs.Reading.{Met, Node, Leaf, nodes_among, leaves_among, way_of, SameRecord, SameAlong, ReadsFew, below_all, NoneMeansBelow}
-use Rattle.index.specs.declared.layout.Shape.{Shape}
+use Rattle.index.specs.Reading.{Met, Node, Leaf, nodes_among, leaves_among, met_by, way_of, SameRecord, SameAlong, ReadsFew, below_all, NoneMeansBelow}
 use Rattle.index.specs.declared.layout.Tree.{Tree}
-use Rattle.index.specs.declared.layout.Part.TheVariants.{Right}
-use Rattle.index.proofs.Shapes.{size_facts, entry_in, right_facts}
-use Rattle.index.proofs.Records.{part_fits}
+use Rattle.index.proofs.Shapes.{size_low, entry_in, right_facts, node_record}
+use Rattle.index.proofs.Trees.{TreeFits, part_fits}
 
 -- ---- no PUNT, and the term below every key
 
@@ -38,27 +36,21 @@ module _ (f : List ℕ) (s : Shape) (key : List ℕ) (n : ℕ) where
       ap (λ (b : Bool). below key (key_at f s n i) && b) (below_last k (i + 1) ∙ ap (λ (j : ℕ). below_all key (keys_from f s n k (i + 1)) && below key (key_at f s n j)) e)
       ∙ sym (and_assoc (below key (key_at f s n i)) _ _)
 
-  none_step : (k : ℕ) → punts_right f s n (suc k) ≡ true → ((punts_right f s n k ≡ true) → (last_punt f s key n k ≡ 0) ↔ (below_all key (keys_from f s n k 0) ≡ true))
-      → (b : Bool) → below key (key_at f s n k) ≡ b → (◌≡◌ {A = ℕ} (cond b (last_punt f s key n k) (punt_at f s n k)) 0) ↔ ((below_all key (keys_from f s n k 0) && b) ≡ true)
-  unfolding punts_right
-  none_step k h known true e =
-      let q = (and_iff (punts_right f s n k) (not (eqb (punt_at f s n k) 0))).0 h in
-      let i = known q.0 in
-      ((λ z. (and_iff _ _).1 (i.0 z, refl)), (λ z. i.1 ((and_iff (below_all key (keys_from f s n k 0)) true).0 z).0))
-  none_step k h known false e =
-      let q = (and_iff (punts_right f s n k) (not (eqb (punt_at f s n k) 0))).0 h in
-      let z = not-true (eqb (punt_at f s n k) 0) q.1 in
-      ((λ w. never (eq-eqb (punt_at f s n k) 0 w) z), (λ w. absurd (false_true (sym (and-false (below_all key (keys_from f s n k 0))) ∙ w))))
+  none_step : (k : ℕ) → (last_punt f s key n k ≡ None) ↔ (below_all key (keys_from f s n k 0) ≡ true)
+      → (b : Bool) → (cond b (last_punt f s key n k) (Some (punt_at f s n k)) ≡ None) ↔ ((below_all key (keys_from f s n k 0) && b) ≡ true)
+  none_step k known true = ((λ z. (and_iff _ _).1 (known.0 z, refl)), (λ z. known.1 ((and_iff (below_all key (keys_from f s n k 0)) true).0 z).0))
+  none_step k known false =
+      ((λ w. let z : ◌≡◌ {A = ℕ} 0 1 = cc in absurd (omega arith)), (λ w. absurd (false_true (sym (and-false (below_all key (keys_from f s n k 0))) ∙ w))))
 
   none_keys : below_all key (keys_from f s n 0 0) ≡ true
   unfolding below_all keys_from
   none_keys = refl
 
-  none_below : (k : ℕ) → punts_right f s n k ≡ true → (last_punt f s key n k ≡ 0) ↔ (below_all key (keys_from f s n k 0) ≡ true)
+  none_below : (k : ℕ) → (last_punt f s key n k ≡ None) ↔ (below_all key (keys_from f s n k 0) ≡ true)
   unfolding last_punt
-  none_below zero h = ((λ z. none_keys), (λ z. refl))
-  none_below (suc k) h =
-      let i = none_step k h (none_below k) (below key (key_at f s n k)) refl in
+  none_below zero = ((λ z. none_keys), (λ z. refl))
+  none_below (suc k) =
+      let i = none_step k (none_below k) (below key (key_at f s n k)) in
       let e = below_last k 0 in
       let z : 0 + k ≡ k = omega arith in
       let d : below_all key (keys_from f s n (suc k) 0) ≡ (below_all key (keys_from f s n k 0) && below key (key_at f s n k)) =
@@ -66,8 +58,8 @@ module _ (f : List ℕ) (s : Shape) (key : List ℕ) (n : ℕ) where
       ((λ w. d ∙ i.0 w), (λ w. i.1 (sym d ∙ w)))
 
 pub none_means_below : NoneMeansBelow
-unfolding NoneMeansBelow node_right
-none_means_below nodes key s n h = none_below nodes s key n (ock_at nodes s n) ((and_iff (record_right nodes s n) (punts_right nodes s n (ock_at nodes s n))).0 h).1
+unfolding NoneMeansBelow
+none_means_below nodes key s n h = none_below nodes s key n (ock_at nodes s n)
 
 -- ---- a record's reading depends on its own bytes alone
 
@@ -79,12 +71,12 @@ module _ (f g : List ℕ) (s : Shape) (n : ℕ) (fits : ShapeFits s) (same : Sam
   u32_own i h = sym (u32_part f (place_of s n) (size_of s) i h) ∙ ap (λ (r : List ℕ). u32_at r i) same.bytes ∙ u32_part g (place_of s n) (size_of s) i h
 
   count_own : ock_at f s n ≡ ock_at g s n
-  count_own = u16_own 4 (omega (arith, (size_facts s fits).size_low))
+  count_own = u16_own 4 (omega (arith, size_low s fits))
 
   pub right_own : record_right f s n ≡ record_right g s n
-  unfolding record_right
+  unfolding record_right rest_right
   right_own =
-      let l = (size_facts s fits).size_low in
+      let l = size_low s fits in
       let p : u32_at f (place_of s n) ≡ u32_at g (place_of s n) = simp add-zero at (u32_own 0 (omega (arith, l))) in
       let t = u16_own 6 (omega (arith, l)) in
       rw (same.there, p, count_own, t)
@@ -151,55 +143,43 @@ module _ (f g : List ℕ) (s : Shape) (n : ℕ) (fits : ShapeFits s) (same : Sam
 
 -- ---- the way down
 
-module _ (nodes leaves nodes' leaves' : List ℕ) (t : Tree) (fits : TreeFits t) (key : List ℕ) where
+module _ (nodes leaves nodes' leaves' : List ℕ) (kind : Kind) (t : Tree) (fits : TreeFits kind t) (key : List ℕ) where
   abbrev Along : List Met → Type 0
   Along ms = SameAlong nodes leaves nodes' leaves' t ms
 
-  abbrev punt : ℕ → ℕ
+  abbrev punt : ℕ → Option ℕ
   punt n = punt_for nodes t.nodes key n
 
   module _ (left n : ℕ)
-      (known : Along (way_of nodes t.nodes key left (punt n)) → descend nodes leaves t key left (punt n) ≡ descend nodes' leaves' t key left (punt n))
+      (known : (m : ℕ) → Along (way_of nodes t.nodes key left m) → descend nodes leaves t key left m ≡ descend nodes' leaves' t key left m)
       (same : SameRecord nodes nodes' t.nodes n) where
     way_broken : node_right nodes t.nodes n ≡ false → descend nodes leaves t key (suc left) n ≡ descend nodes' leaves' t key (suc left) n
     unfolding descend
     way_broken e = rw (← node_own nodes nodes' t.nodes n fits.nodes_fit same, e)
 
-    module _ (e : node_right nodes t.nodes n ≡ true) where
-      right : record_right nodes t.nodes n ≡ true
-      unfolding node_right
-      right = ((and_iff (record_right nodes t.nodes n) (punts_right nodes t.nodes n (ock_at nodes t.nodes n))).0 e).0
-
-      opened : onward (λ m. descend nodes leaves t key left m) (leaf_answer leaves t.leaves key) (punt n)
-          ≡ onward (λ m. descend nodes' leaves' t key left m) (leaf_answer leaves' t.leaves key) (punt n)
-          → descend nodes leaves t key (suc left) n ≡ descend nodes' leaves' t key (suc left) n
-      unfolding descend
-      opened d =
-          rw (← node_own nodes nodes' t.nodes n fits.nodes_fit same, e, ← punt_for_own nodes nodes' t.nodes n fits.nodes_fit same key right) d
-
-      way_ends : eqb (punt n) 0 ≡ true → descend nodes leaves t key (suc left) n ≡ descend nodes' leaves' t key (suc left) n
-      unfolding onward
-      way_ends z = opened (rw z)
-
-      module _ (z : eqb (punt n) 0 ≡ false) where
-        way_node : is_node (punt n) ≡ true → Along (way_of nodes t.nodes key left (punt n)) → descend nodes leaves t key (suc left) n ≡ descend nodes' leaves' t key (suc left) n
-        unfolding onward
-        way_node y a = opened (rw (z, y) (known a))
-
-        way_leaf : is_node (punt n) ≡ false → SameRecord leaves leaves' t.leaves (leaf_number (punt n)) → descend nodes leaves t key (suc left) n ≡ descend nodes' leaves' t key (suc left) n
-        unfolding onward
-        way_leaf y a =
-            opened (rw (z, y) (leaf_own leaves leaves' t.leaves (leaf_number (punt n)) fits.leaves_fit.shape a fits.leaves_fit.step_leaf key))
-
-    -- the rest of the way, by what the node says
-    rest_of : (a b c : Bool) → node_right nodes t.nodes n ≡ a → eqb (punt n) 0 ≡ b → is_node (punt n) ≡ c
-        → Along (cond a (cond b [] (cond c (way_of nodes t.nodes key left (punt n)) (Leaf (leaf_number (punt n)) ∷ []))) [])
+    opened : node_right nodes t.nodes n ≡ true → onward (λ m. descend nodes leaves t key left m) (leaf_answer leaves t.leaves key) (punt n)
+        ≡ onward (λ m. descend nodes' leaves' t key left m) (leaf_answer leaves' t.leaves key) (punt n)
         → descend nodes leaves t key (suc left) n ≡ descend nodes' leaves' t key (suc left) n
-    unfolding SameAlong
-    rest_of false b c e z y h = way_broken e
-    rest_of true true c e z y h = way_ends e z
-    rest_of true false true e z y h = way_node e z y h
-    rest_of true false false e z y h = way_leaf e z y h.0
+    unfolding descend
+    opened e d =
+        rw (← node_own nodes nodes' t.nodes n fits.nodes_fit same, e, ← punt_for_own nodes nodes' t.nodes n fits.nodes_fit same key (node_record nodes t.nodes n e)) d
+
+    -- the rest of the way, by the PUNT that the node gives
+    on : (p : Option ℕ) → Along (met_by (λ m. way_of nodes t.nodes key left m) p)
+        → onward (λ m. descend nodes leaves t key left m) (leaf_answer leaves t.leaves key) p
+        ≡ onward (λ m. descend nodes' leaves' t key left m) (leaf_answer leaves' t.leaves key) p
+    unfolding met_by onward SameAlong
+    on None h = refl
+    on (Some p) h =
+        by_cases (is_node p) (λ y. rw y (known p (rw y at h)))
+        (λ y. rw y (leaf_own leaves leaves' t.leaves (leaf_number p) fits.leaves_fit (rw y at h).0 fits.step_leaf key))
+
+  rest_of : (left n : ℕ) (a : Bool) → node_right nodes t.nodes n ≡ a
+      → ((m : ℕ) → Along (way_of nodes t.nodes key left m) → descend nodes leaves t key left m ≡ descend nodes' leaves' t key left m)
+      → SameRecord nodes nodes' t.nodes n → Along (cond a (met_by (λ m. way_of nodes t.nodes key left m) (punt n)) [])
+      → descend nodes leaves t key (suc left) n ≡ descend nodes' leaves' t key (suc left) n
+  rest_of left n false e known same h = way_broken left n known same e
+  rest_of left n true e known same h = opened left n known same e (on left n known same (punt n) h)
 
   no_node : (n : ℕ) → descend nodes leaves t key 0 n ≡ descend nodes' leaves' t key 0 n
   unfolding descend
@@ -208,8 +188,7 @@ module _ (nodes leaves nodes' leaves' : List ℕ) (t : Tree) (fits : TreeFits t)
   same_answer : (left n : ℕ) → Along (way_of nodes t.nodes key left n) → descend nodes leaves t key left n ≡ descend nodes' leaves' t key left n
   unfolding way_of SameAlong
   same_answer zero n h = no_node n
-  same_answer (suc left) n h =
-      rest_of left n (same_answer left (punt n)) h.0 (node_right nodes t.nodes n) (eqb (punt n) 0) (is_node (punt n)) refl refl refl h.1
+  same_answer (suc left) n h = rest_of left n (node_right nodes t.nodes n) refl (same_answer left) h.0 h.1
 
 -- ---- how much is on a way
 
@@ -233,18 +212,22 @@ few_either : (left : ℕ) (b : Bool) (xs ys : List Met) → Few left xs → Few 
 few_either left true xs ys f g = f
 few_either left false xs ys f g = g
 
+few_by : (left : ℕ) (node : ℕ → List Met) (p : Option ℕ) → ((m : ℕ) → Few left (node m)) → Few left (met_by node p)
+unfolding met_by
+few_by left node None known = few_none left
+few_by left node (Some p) known = few_either left (is_node p) _ _ (known p) (few_leaf left (leaf_number p))
+
 way_few : (nodes : List ℕ) (s : Shape) (key : List ℕ) (left n : ℕ) → Few left (way_of nodes s key left n)
 unfolding way_of
 way_few nodes s key zero n = few_none 0
 way_few nodes s key (suc left) n =
-    let p : ℕ = punt_for nodes s key n in
     few_node left n _
     (few_either left (node_right nodes s n) _ []
-    (few_either left (eqb p 0) [] _ (few_none left) (few_either left (is_node p) _ _ (way_few nodes s key left p) (few_leaf left (leaf_number p))))
+    (few_by left (λ m. way_of nodes s key left m) (punt_for nodes s key n) (way_few nodes s key left))
     (few_none left))
 
 pub reads_few : ReadsFew
 unfolding ReadsFew search_tree
 reads_few cnt nodes leaves key kind t e =
     let f = way_few nodes t.nodes key 16 t.root in
-    (f.nodes_few, f.leaves_few, (λ nodes' leaves' same. same_answer nodes leaves nodes' leaves' t (part_fits cnt kind (Right t) t (sym e) refl) key 16 t.root same))
+    (f.nodes_few, f.leaves_few, (λ nodes' leaves' same. same_answer nodes leaves nodes' leaves' kind t (part_fits cnt kind t e) key 16 t.root same))

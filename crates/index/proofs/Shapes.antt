@@ -6,24 +6,20 @@ use mathlib.Core.Path.{◌≡◌}
 use mathlib.Core.Bool.{true}
 use mathlib.Core.List.{List}
 use lib.ListN.{length}
-use Rattle.index.specs.Inner.{ShapeFits, LeafFits}
 use Rattle.index.specs.Layout.{size_of, place_of, key_place, ock_at}
-use Rattle.index.specs.Rules.{record_there, record_right}
-use Rattle.index.specs.declared.layout.Shape.{Shape}
-use Rattle.word.proofs.Tests.{tests}
+use Rattle.index.specs.Rules.{record_there, rest_right, record_right, node_right}
+use Rattle.index.specs.Shape.{Shape, ShapeFits}
+use Rattle.word.proofs.Tests.{tests, and_left}
 
 -- ---- sizes
 
-pub record SizeFacts (s : Shape) : Type 0 where
-  pub entries : s.most * s.step ≤ 1216
-  pub size_low : 8 ≤ size_of s
-  pub size_high : size_of s ≤ 1228
+-- the bytes of all entries
+pub size_high : (most step : ℕ) → most ≤ 32 → step ≤ 38 → most * step ≤ 1216
+size_high most step h k = mul-le-mul h k
 
-pub size_facts : (s : Shape) → ShapeFits s → SizeFacts s
+pub size_low : (s : Shape) → ShapeFits s → 8 ≤ size_of s
 unfolding size_of
-size_facts s f =
-    let m : s.most * s.step ≤ 32 * 38 = mul-le-mul f.most_high f.step_high in
-    record { entries = omega arith; size_low = omega (arith, f.head_low); size_high = omega (arith, f.head_high) }
+size_low s f = omega (arith, f.head_low)
 
 -- a number of 32 bits times a size
 pub times_size : (n size : ℕ) → n < 4294967296 → size ≤ 1228 → n * size ≤ 5274219839488
@@ -57,15 +53,6 @@ entry_in s n i h =
     let m : suc i * s.step ≤ s.most * s.step = mul-le-mul_right s.step h in
     omega (arith, suc-mul i s.step)
 
--- and the first one in the file
-pub first_in : (f : List ℕ) (s : Shape) (n : ℕ) → ShapeFits s → record_there f s n ≡ true → key_place s n 0 + s.step ≤ length f
-first_in f s n fits e = let t = there_facts f s n e in omega (arith, entry_in s n 0 fits.most_low)
-
--- a leaf's PS lies in the record
-pub leaf_size : (s : Shape) → LeafFits s → 12 ≤ size_of s
-unfolding size_of
-leaf_size s f = omega (arith, f.head_leaf)
-
 -- ---- a record that keeps its rules
 
 pub record RightFacts (f : List ℕ) (s : Shape) (n : ℕ) : Type 0 where
@@ -76,11 +63,19 @@ pub record RightFacts (f : List ℕ) (s : Shape) (n : ℕ) : Type 0 where
   pub count_high : ock_at f s n ≤ s.most
 
 pub right_facts : (f : List ℕ) (s : Shape) (n : ℕ) → record_right f s n ≡ true → RightFacts f s n
-unfolding record_right
+unfolding record_right rest_right
 right_facts f s n e =
     let q = simp tests at e in
-    let t = there_facts f s n q.0.0.0 in
-    record { there = q.0.0.0; place_low = t.number_low; whole = t.inside; count_low = q.0.1.0; count_high = q.0.1.1 }
+    let t = there_facts f s n q.0 in
+    record { there = q.0; place_low = t.number_low; whole = t.inside; count_low = q.1.0.1.0; count_high = q.1.0.1.1 }
+
+pub right_there : (f : List ℕ) (s : Shape) (n : ℕ) → record_right f s n ≡ true → record_there f s n ≡ true
+right_there f s n e = (right_facts f s n e).there
+
+-- a right node is a right record
+pub node_record : (f : List ℕ) (s : Shape) (n : ℕ) → node_right f s n ≡ true → record_right f s n ≡ true
+unfolding node_right
+node_record f s n e = and_left _ _ e
 
 -- every active entry lies in the file
 pub active_in : (f : List ℕ) (s : Shape) (n i : ℕ) → record_right f s n ≡ true → i < ock_at f s n → key_place s n i + s.step ≤ length f

@@ -9,8 +9,9 @@
 use Rattle.std.specs.Prelude.{ℕ, zero, suc, ◌+◌, ◌*◌, ◌-◌, List, [], ◌∷◌}
 use Rattle.word.specs.Integer.{u16_at, u32_at}
 use Rattle.word.specs.Overwrite.{part}
-use Rattle.terms.specs.Term.{width_of}
-use Rattle.index.specs.declared.layout.Shape.{Shape}
+use Rattle.terms.specs.Term.{number_of}
+use Rattle.terms.specs.declared.term.Kind.{Kind}
+use Rattle.index.specs.Shape.{Shape, shape}
 use Rattle.index.specs.declared.layout.Tree.{Tree}
 
 -- ---- limits
@@ -30,37 +31,36 @@ order_most = 16
 abbrev pub nodes_most : ℕ
 nodes_most = 16
 
--- ---- CNT's part for the tree of type 1 or 2
+-- ---- CNT's part for a tree
 
-abbrev pub part_place : ℕ → ℕ
-part_place kind = part_bytes * (kind - 1)
+abbrev pub part_place : Kind → ℕ
+part_place kind = part_bytes * (number_of kind - 1)
 
-abbrev pub idtype_at : List ℕ → ℕ → ℕ
+abbrev pub idtype_at : List ℕ → Kind → ℕ
 idtype_at cnt kind = u16_at cnt (part_place kind)
 
-abbrev pub ordn_at : List ℕ → ℕ → ℕ
+abbrev pub ordn_at : List ℕ → Kind → ℕ
 ordn_at cnt kind = u16_at cnt (part_place kind + 2)
 
-abbrev pub ordf_at : List ℕ → ℕ → ℕ
+abbrev pub ordf_at : List ℕ → Kind → ℕ
 ordf_at cnt kind = u16_at cnt (part_place kind + 4)
 
-abbrev pub posrx_at : List ℕ → ℕ → ℕ
+abbrev pub posrx_at : List ℕ → Kind → ℕ
 posrx_at cnt kind = u32_at cnt (part_place kind + 12)
 
--- the records of a node file and of a leaf file: the tree's type, the bytes before the entries, the key's width, the bytes of an entry, and
--- how many entries there are
-abbrev pub node_shape : ℕ → ℕ → ℕ → Shape
-node_shape kind width most = record { kind = kind; head = 8; width = width; step = width + 4; most = most }
+-- the records of a node file and of a leaf file with so many entries
+abbrev pub node_shape : Kind → ℕ → Shape
+node_shape kind most = shape kind 8 4 most
 
-abbrev pub leaf_shape : ℕ → ℕ → ℕ → Shape
-leaf_shape kind width most = record { kind = kind; head = 12; width = width; step = width + 8; most = most }
+abbrev pub leaf_shape : Kind → ℕ → Shape
+leaf_shape kind most = shape kind 12 8 most
 
 -- the tree that CNT's part describes
-unfoldable pub tree_of : List ℕ → ℕ → Tree
+unfoldable pub tree_of : List ℕ → Kind → Tree
 tree_of cnt kind =
     record {
-      nodes = node_shape kind (width_of kind) (2 * ordn_at cnt kind);
-      leaves = leaf_shape kind (width_of kind) (2 * ordf_at cnt kind);
+      nodes = node_shape kind (2 * ordn_at cnt kind);
+      leaves = leaf_shape kind (2 * ordf_at cnt kind);
       root = posrx_at cnt kind;
     }
 

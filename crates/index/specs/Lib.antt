@@ -1,4 +1,6 @@
 pub mod Files
+pub mod Lent
+pub mod Shape
 pub mod Layout
 pub mod Rules
 pub mod Lookup

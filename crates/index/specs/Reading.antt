@@ -1,13 +1,13 @@
 -- What a lookup reads: the records on its way down, and nothing else of the two files. Document 02, C-11: descent over at most 16 nodes to one leaf.
-use Rattle.std.specs.Prelude.{ℕ, zero, suc, ◌≤◌, ◌≡◌, ◌↔◌, Bool, true, ◌&&◌, cond, List, [], ◌∷◌, eqb, length}
+use Rattle.std.specs.Prelude.{ℕ, zero, suc, ◌≤◌, ◌≡◌, ◌↔◌, Bool, true, ◌&&◌, cond, List, [], ◌∷◌, length, Option, Some, None}
 use Rattle.word.specs.Overwrite.{part}
 use Rattle.terms.specs.Key.{below}
+use Rattle.terms.specs.declared.term.Kind.{Kind}
 use Rattle.index.specs.Layout.{nodes_most, size_of, place_of, keys_of}
 use Rattle.index.specs.Rules.{record_there, node_right, part_of}
 use Rattle.index.specs.Lookup.{punt_for, is_node, leaf_number, search_tree}
-use Rattle.index.specs.declared.layout.Shape.{Shape}
+use Rattle.index.specs.Shape.{Shape}
 use Rattle.index.specs.declared.layout.Tree.{Tree}
-use Rattle.index.specs.declared.layout.Part.TheVariants.{Right}
 
 -- ---- what is met
 
@@ -31,14 +31,17 @@ leaves_among (TooDeep ∷ ms) = leaves_among ms
 
 -- ---- the way down
 
+-- by a PUNT, where there is one: what is met from that node on, or that leaf
+unfoldable pub met_by : (ℕ → List Met) → Option ℕ → List Met
+met_by node None = []
+met_by node (Some punt) = cond (is_node punt) (node punt) (Leaf (leaf_number punt) ∷ [])
+
 -- the records on the way from node n, with so many nodes left
 unfoldable pub way_of : List ℕ → Shape → List ℕ → ℕ → ℕ → List Met
 way_of f s key zero n = []
 way_of f s key (suc left) n =
     Node n ∷ cond (node_right f s n)
-    (cond (eqb (punt_for f s key n) 0) []
-    (cond (is_node (punt_for f s key n)) (way_of f s key left (punt_for f s key n))
-    (Leaf (leaf_number (punt_for f s key n)) ∷ [])))
+    (met_by (λ m. way_of f s key left m) (punt_for f s key n))
     []
 
 -- two files have the same record n: it is there in both or in neither, with the same bytes
@@ -58,11 +61,11 @@ SameAlong nodes leaves nodes' leaves' t (TooDeep ∷ ms) = SameAlong nodes leave
 -- a lookup reads at most 16 nodes and one leaf: what it answers depends on no other byte of the two files
 unfoldable pub ReadsFew : Type 0
 ReadsFew =
-    (cnt nodes leaves key : List ℕ) (kind : ℕ) (t : Tree) → part_of cnt kind ≡ Right t
+    (cnt nodes leaves key : List ℕ) (kind : Kind) (t : Tree) → part_of cnt kind ≡ Some t
     → (nodes_among (way_of nodes t.nodes key nodes_most t.root) ≤ nodes_most)
     × (length (leaves_among (way_of nodes t.nodes key nodes_most t.root)) ≤ 1)
     × ((nodes' leaves' : List ℕ) → SameAlong nodes leaves nodes' leaves' t (way_of nodes t.nodes key nodes_most t.root)
-    → search_tree nodes leaves key (Right t) ≡ search_tree nodes' leaves' key (Right t))
+    → search_tree nodes leaves key (Some t) ≡ search_tree nodes' leaves' key (Some t))
 
 -- a term is below every key of these
 unfoldable pub below_all : List ℕ → List (List ℕ) → Bool
@@ -73,4 +76,4 @@ below_all key (k ∷ ks) = below key k && below_all key ks
 unfoldable pub NoneMeansBelow : Type 0
 NoneMeansBelow =
     (nodes key : List ℕ) (s : Shape) (n : ℕ) → node_right nodes s n ≡ true
-    → (◌≡◌ {A = ℕ} (punt_for nodes s key n) 0) ↔ (below_all key (keys_of nodes s n) ≡ true)
+    → (punt_for nodes s key n ≡ None) ↔ (below_all key (keys_of nodes s n) ≡ true)

@@ -1,9 +1,10 @@
 -- The rules of answer 21, each under its own name. Document 02, C-11.
-use Rattle.std.specs.Prelude.{ℕ, zero, suc, ◌*◌, Bool, true, not, ◌&&◌, cond, List, eqb, leb, ltb, length}
+use Rattle.std.specs.Prelude.{ℕ, zero, suc, ◌*◌, Bool, true, not, ◌&&◌, cond, List, eqb, leb, ltb, length, Option, Some, None}
+use Rattle.terms.specs.Term.{number_of}
+use Rattle.terms.specs.declared.term.Kind.{Kind}
 use Rattle.index.specs.Layout.{cnt_bytes, order_most, size_of, pos_at, ock_at, it_at, punt_at, idtype_at, ordn_at, ordf_at, tree_of}
-use Rattle.index.specs.declared.layout.Shape.{Shape}
-use Rattle.index.specs.declared.layout.Part.{Part}
-use Rattle.index.specs.declared.layout.Part.TheVariants.{Right, Wrong}
+use Rattle.index.specs.Shape.{Shape}
+use Rattle.index.specs.declared.layout.Tree.{Tree}
 
 -- ---- CNT
 
@@ -16,11 +17,12 @@ abbrev pub order_right : ℕ → Bool
 order_right order = leb 1 order && leb order order_most
 
 -- CNT's part for a tree: its own type, both orders in range
-unfoldable pub part_right : List ℕ → ℕ → Bool
-part_right cnt kind = cnt_length cnt && eqb (idtype_at cnt kind) kind && order_right (ordn_at cnt kind) && order_right (ordf_at cnt kind)
+unfoldable pub part_right : List ℕ → Kind → Bool
+part_right cnt kind = cnt_length cnt && eqb (idtype_at cnt kind) (number_of kind) && order_right (ordn_at cnt kind) && order_right (ordf_at cnt kind)
 
-unfoldable pub part_of : List ℕ → ℕ → Part
-part_of cnt kind = cond (part_right cnt kind) (Right (tree_of cnt kind)) Wrong
+-- the tree that it describes; none where it breaks a rule
+unfoldable pub part_of : List ℕ → Kind → Option Tree
+part_of cnt kind = cond (part_right cnt kind) (Some (tree_of cnt kind)) None
 
 -- ---- a record met, of a node or a leaf file
 
@@ -38,10 +40,13 @@ count_right f s n = leb 1 (ock_at f s n) && leb (ock_at f s n) s.most
 
 -- its tree type is its own
 abbrev pub type_right : List ℕ → Shape → ℕ → Bool
-type_right f s n = eqb (it_at f s n) s.kind
+type_right f s n = eqb (it_at f s n) (number_of s.kind)
+
+unfoldable pub rest_right : List ℕ → Shape → ℕ → Bool
+rest_right f s n = number_right f s n && count_right f s n && type_right f s n
 
 unfoldable pub record_right : List ℕ → Shape → ℕ → Bool
-record_right f s n = record_there f s n && number_right f s n && count_right f s n && type_right f s n
+record_right f s n = record_there f s n && rest_right f s n
 
 -- no PUNT 0 among the first k entries
 unfoldable pub punts_right : List ℕ → Shape → ℕ → ℕ → Bool

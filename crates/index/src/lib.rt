@@ -2,6 +2,7 @@
 
 #![tactic(auto)]
 
+pub mod files;
 pub mod layout;
 pub mod lookup;
 pub mod rules;

@@ -1,224 +1,144 @@
-// The lookup of a term: the way down through the nodes by recursion, and the search in the leaf.
-ghost use Rattle.std.specs.Prelude.{◌≡◌, true, cond, ◌+◌, ◌≤◌, eqb, length};
-ghost use Rattle.word.specs.Overwrite.{part};
+// The lookup of a term: the way down through the nodes, and the search in the leaf.
+ghost use Rattle.std.specs.Prelude.{◌≡◌, true, ◌≤◌, length};
 ghost use Rattle.terms.specs.Term.{width_of};
-ghost use Rattle.index.specs.Files.{index};
-ghost use Rattle.index.specs.Inner.{ShapeFits, LeafFits, way_end};
-ghost use Rattle.index.specs.Layout.{nodes_most, node_shape};
+ghost use Rattle.index.specs.Inner.{way_end};
+ghost use Rattle.index.specs.Layout.{nodes_most};
+ghost use Rattle.index.specs.Lent.{bytes_of};
+ghost use Rattle.index.specs.Lookup.{refusal_of, entries_of, first_equal, leaf_answer, punt_for, lookup_in, lookup_of};
 ghost use Rattle.index.specs.Rules.{record_right};
-ghost use Rattle.index.specs.Lookup.{answer_of, block_of, word_of, entries_of, first_equal, leaf_answer, punt_for, lookup_in, lookup_of};
 
-use crate::layout::{Part, Shape, key_place, node_shape, read_part};
-use crate::rules::{count_at, is_node, leaf_number, node_right, punt_at, record_right};
+use crate::files::Index;
+use crate::layout::read_part;
+use crate::rules::{Child, Leaves, Nodes, child_of};
 use terms::key::{below_key, same_key};
-use terms::term::{SPACE, kind_for, term_right, width_of};
-use word::bytes::copy_to;
+use terms::term::{Kind, SPACE, TERM_MOST, kind_for, term_right};
+use word::bytes::{copy_to, part};
 use word::integer::u32_at;
-use word::signed::to_signed;
 
 // The most nodes on one way down.
 pub const NODES_MOST: u32 = 16;
 
-// How a way down ends, as a number: the PUNT of a leaf, or one of these two, which no leaf has. No key of a node is at or below the term; or a rule is broken.
-const NO_TERM: u32 = 0;
+// Where the postings of a key begin in the IFP: block and word, as their 32 bits.
+#[derive(Clone, Copy, Debug, PartialEq, Eq)]
+pub struct Place {
+    pub block: u32,
+    pub word: u32,
+}
 
-const BROKEN: u32 = 1;
-
-// What a lookup finds: block and word of the first equal key, as their 32 bits; or the refusal.
-#[derive(Clone, Copy)]
-pub enum Found {
-    At { block: u32, word: u32 },
+// Why a lookup finds nothing: the term may not be looked up, a rule is broken on its way, or no key is equal.
+#[derive(Clone, Copy, Debug, PartialEq, Eq)]
+pub enum Refusal {
     BadTerm,
     BadIndex,
     NoTerm,
 }
 
-// The number of an answer.
-pub fn answer(f: Found) -> u32
-    ensures { result ≡ answer_of f }
-{
-    match f {
-        Found::At { block: _, word: _ } => 0,
-        Found::BadTerm => 20,
-        Found::BadIndex => 21,
-        Found::NoTerm => 22,
-    }
-}
+// Its number.
+impl From<Refusal> for u32 {
+    ghost from_gives = { λ refusal n. n ≡ refusal_of refusal };
 
-// The block that was found, 0 where refused.
-pub fn block(f: Found) -> i32
-    ensures { result ≡ block_of f }
-{
-    match f {
-        Found::At { block, word: _ } => to_signed(block),
-        Found::BadTerm => 0,
-        Found::BadIndex => 0,
-        Found::NoTerm => 0,
-    }
-}
-
-// The word that was found, 0 where refused.
-pub fn word(f: Found) -> i32
-    ensures { result ≡ word_of f }
-{
-    match f {
-        Found::At { block: _, word } => to_signed(word),
-        Found::BadTerm => 0,
-        Found::BadIndex => 0,
-        Found::NoTerm => 0,
+    fn from(refusal: Refusal) -> u32 {
+        match refusal {
+            Refusal::BadTerm => 20,
+            Refusal::BadIndex => 21,
+            Refusal::NoTerm => 22,
+        }
     }
 }
 
 // The first equal key of leaf `n`, which keeps its rules.
-fn first_equal(file: &[u8], s: Shape, key: &[u8], n: u32) -> Found
-    requires { (LeafFits s) × (record_right file.now s n ≡ true) × (s.width ≤ length key.now) }
-    ensures { result ≡ first_equal (part key.now 0 s.width) (entries_of file.now s n) }
+#[tactic(auto, using(crate::proofs::Shapes::right_there, crate::proofs::Finding::equal_done, crate::proofs::Finding::equal_here, crate::proofs::Finding::equal_more))]
+fn first_equal(leaves: &Leaves, key: &[u8], n: u32) -> Result<Place, Refusal>
+    requires { (record_right leaves.now.file.now leaves.now.shape n ≡ true) × (length key.now ≡ leaves.now.shape.width) }
+    ensures { result ≡ first_equal key.now (entries_of leaves.now.file.now leaves.now.shape n) }
 {
-    let count = count_at(file, s, n);
-    let mut i: usize = 0;
-    while i < count {
-        let at = key_place(s, n, i);
-        if same_key(key, 0, file, at, s.width) {
-            return Found::At {
-                block: u32_at(file, at + s.width),
-                word: u32_at(file, at + s.width + 4),
-            };
+    for i in 0..leaves.count(n) {
+        if same_key(key, leaves.key(n, i)) {
+            let at = leaves.behind_key(n, i);
+            return Ok(Place {
+                block: u32_at(leaves.file, at),
+                word: u32_at(leaves.file, at + 4),
+            });
         }
-        i += 1;
     }
-    Found::NoTerm
+    Err(Refusal::NoTerm)
 }
 
 // What leaf `n` answers.
-fn leaf_answer(file: &[u8], s: Shape, key: &[u8], n: u32) -> Found
-    requires { (LeafFits s) × (s.width ≤ length key.now) }
-    ensures { result ≡ leaf_answer file.now s (part key.now 0 s.width) n }
+#[tactic(auto, unfolding(crate::specs::Lookup::leaf_answer))]
+fn leaf_answer(leaves: &Leaves, key: &[u8], n: u32) -> Result<Place, Refusal>
+    requires { length key.now ≡ leaves.now.shape.width }
+    ensures { result ≡ leaf_answer leaves.now.file.now leaves.now.shape key.now n }
 {
-    if !record_right(file, s, n) {
-        return Found::BadIndex;
+    if !leaves.keeps_rules(n) {
+        return Err(Refusal::BadIndex);
     }
-    first_equal(file, s, key, n)
+    first_equal(leaves, key, n)
 }
 
-// PUNT of the last active key of node `n` that is not above the term, 0 where every key is.
-fn last_punt(file: &[u8], s: Shape, key: &[u8], n: u32) -> u32
-    requires { (ShapeFits s) × (record_right file.now s n ≡ true) × (s.width ≤ length key.now) }
-    ensures { result ≡ punt_for file.now s (part key.now 0 s.width) n }
+// PUNT of the last active key of node `n` that is not above the term; none where every key is.
+#[tactic(auto, using(crate::proofs::Shapes::right_there, crate::proofs::Finding::last_none, crate::proofs::Finding::last_here, crate::proofs::Finding::last_more))]
+fn last_punt(nodes: &Nodes, key: &[u8], n: u32) -> Option<u32>
+    requires { (record_right nodes.now.file.now nodes.now.shape n ≡ true) × (length key.now ≡ nodes.now.shape.width) }
+    ensures { result ≡ punt_for nodes.now.file.now nodes.now.shape key.now n }
 {
-    let mut i = count_at(file, s, n);
-    while 0 < i {
-        let j = i - 1;
-        let at = key_place(s, n, j);
-        if !below_key(key, 0, file, at, s.width) {
-            return punt_at(file, s, n, j);
+    for i in (0..nodes.count(n)).rev() {
+        if !below_key(key, nodes.key(n, i)) {
+            return Some(nodes.punt(n, i));
         }
-        i = j;
     }
-    0
+    None
 }
 
-// The PUNT of the leaf that the way from node `n` leads to, over at most `left` nodes. The answer is a number and the tree comes as its numbers, since these
-// stay in registers; the type, which is asked last, comes last.
-fn leaf_for(
-    nodes: &[u8],
-    key: &[u8; 30],
-    width: usize,
-    entries: usize,
-    left: u32,
-    n: u32,
-    kind: u16,
-) -> u32
-    requires { ShapeFits (node_shape kind width entries) }
-    ensures { result ≡ way_end nodes.now (node_shape kind width entries) (part key.now 0 width) left n }
+// The leaf that the way from a root leads to.
+#[tactic(auto, using(crate::proofs::Shapes::node_record, crate::proofs::Finding::way_none, crate::proofs::Finding::way_broken, crate::proofs::Finding::way_absent, crate::proofs::Finding::way_leaf, crate::proofs::Finding::way_node))]
+fn leaf_for(nodes: &Nodes, key: &[u8], root: u32) -> Result<u32, Refusal>
+    requires { length key.now ≡ nodes.now.shape.width }
+    ensures { result ≡ way_end nodes.now.file.now nodes.now.shape key.now nodes_most root }
 {
-    if left == 0 {
-        return BROKEN;
+    let mut n = root;
+    for _i in 0..NODES_MOST {
+        if !nodes.keeps_node_rules(n) {
+            return Err(Refusal::BadIndex);
+        }
+        let punt = last_punt(nodes, key, n).ok_or(Refusal::NoTerm)?;
+        match child_of(punt) {
+            Child::Node(next) => n = next,
+            Child::Leaf(leaf) => return Ok(leaf),
+        }
     }
-    let s = node_shape(kind, width, entries);
-    if !node_right(nodes, s, n) {
-        return BROKEN;
-    }
-    let punt = last_punt(nodes, s, key, n);
-    if punt == 0 {
-        return NO_TERM;
-    }
-    if is_node(punt) {
-        // Handed on as a part, since a slice that is handed on as it came is copied at every level, and the next one waits for the copy.
-        let all = nodes.len();
-        return leaf_for(&nodes[..all], key, width, entries, left - 1, punt, kind);
-    }
-    punt
-}
-
-// The end of the way through the nodes of the tree of type `kind`, from its root. Each file is handed on by a call of its own, here and below: a slice that may
-// be one of two is not covered by the borrow checker.
-fn end_in(
-    n01: &[u8],
-    n02: &[u8],
-    key: &[u8; 30],
-    width: usize,
-    entries: usize,
-    root: u32,
-    kind: u16,
-) -> u32
-    requires { ShapeFits (node_shape kind width entries) }
-    ensures { result ≡ way_end (cond (eqb kind 1) n01.now n02.now) (node_shape kind width entries) (part key.now 0 width) nodes_most root }
-{
-    if kind == 1 {
-        return leaf_for(n01, key, width, entries, NODES_MOST, root, kind);
-    }
-    leaf_for(n02, key, width, entries, NODES_MOST, root, kind)
-}
-
-// What leaf `n` of the tree of type `kind` answers.
-fn answer_in(l01: &[u8], l02: &[u8], s: Shape, key: &[u8; 30], n: u32, kind: u16) -> Found
-    requires { LeafFits s }
-    ensures { result ≡ leaf_answer (cond (eqb kind 1) l01.now l02.now) s (part key.now 0 s.width) n }
-{
-    if kind == 1 {
-        return leaf_answer(l01, s, key, n);
-    }
-    leaf_answer(l02, s, key, n)
+    Err(Refusal::BadIndex)
 }
 
 // A term that is no longer than the keys of the tree of type `kind`, in that tree.
-fn lookup_in(
-    cnt: &[u8],
-    n01: &[u8],
-    l01: &[u8],
-    n02: &[u8],
-    l02: &[u8],
-    kind: u16,
-    term: &[u8],
-) -> Found
-    requires { (1 ≤ kind) × (kind ≤ 2) × (length term.now ≤ width_of kind) }
-    ensures { result ≡ lookup_in (index cnt.now n01.now l01.now n02.now l02.now) kind term.now }
+#[tactic(auto, unfolding(crate::specs::Lookup::lookup_in))]
+fn lookup_in(index: &Index, kind: Kind, term: &[u8]) -> Result<Place, Refusal>
+    requires { length term.now ≤ width_of kind }
+    ensures { result ≡ lookup_in (bytes_of index.now) kind term.now }
 {
-    let p = read_part(cnt, kind);
-    let Part::Right(t) = p else {
-        return Found::BadIndex;
+    let tree = read_part(index.cnt, kind).ok_or(Refusal::BadIndex)?;
+    let nodes = Nodes {
+        file: index.nodes(kind),
+        shape: tree.nodes,
     };
-    let mut key = [SPACE; 30];
-    copy_to(&mut key, 0, term);
-    // The width is asked of the type again, which is 1 or 2 here: so the compiler knows that it is 10 or 30.
-    let width = width_of(kind);
-    let s = t.nodes;
-    let punt = end_in(n01, n02, &key, width, s.most, t.root, kind);
-    if punt == NO_TERM {
-        return Found::NoTerm;
-    }
-    if punt == BROKEN {
-        return Found::BadIndex;
-    }
-    answer_in(l01, l02, t.leaves, &key, leaf_number(punt), kind)
+    let leaves = Leaves {
+        file: index.leaves(kind),
+        shape: tree.leaves,
+    };
+    let mut padded = [SPACE; TERM_MOST];
+    copy_to(&mut padded, 0, term);
+    let key = part(&padded, 0, kind.width());
+    let leaf = leaf_for(&nodes, key, tree.root)?;
+    leaf_answer(&leaves, key, leaf)
 }
 
 // Looks a term up: block and word of the first equal key, or 20, 21 or 22.
-pub fn lookup(cnt: &[u8], n01: &[u8], l01: &[u8], n02: &[u8], l02: &[u8], term: &[u8]) -> Found
-    ensures { result ≡ lookup_of (index cnt.now n01.now l01.now n02.now l02.now) term.now }
+#[tactic(auto, using(terms::proofs::Padding::kind_fits), unfolding(crate::specs::Lookup::lookup_of))]
+pub fn lookup(index: &Index, term: &[u8]) -> Result<Place, Refusal>
+    ensures { result ≡ lookup_of (bytes_of index.now) term.now }
 {
     if !term_right(term) {
-        return Found::BadTerm;
+        return Err(Refusal::BadTerm);
     }
-    lookup_in(cnt, n01, l01, n02, l02, kind_for(term), term)
+    lookup_in(index, kind_for(term), term)
 }

@@ -1,143 +1,72 @@
 // Decimal numbers read from a text. What stands between them does not count; a number that is too high is the highest.
-ghost use Rattle.std.specs.Prelude.{◌≤◌, length};
+ghost use Rattle.std.specs.Prelude.{◌<◌, ◌≤◌, length, IfSome, IfNone};
 
-// A number of the text, and where the text goes on.
-#[derive(Clone, Copy)]
-struct Number {
-    value: u32,
-    rest: usize,
+use crate::parts::front;
+
+// The numbers of what is left of a text.
+#[derive(Drop)]
+pub struct Numbers<'a> {
+    pub text: &'a [u8],
 }
 
-// What a digit stands for; 10 for a byte that is no digit.
-fn digit(b: u8) -> u32 {
-    if b < 48 {
-        return 10;
+impl<'a> Numbers<'a> {
+    // The next number; none at the end of the text.
+    pub fn next_number(&mut self) -> Option<u32>
+        ensures some { IfSome result (λ _. length self.new.text.now < length self.old.text.now) }
+        ensures none { IfNone result (length self.new.text.now ≤ length self.old.text.now) }
+    {
+        let start = self.text.iter().position(|b| b.is_ascii_digit())?;
+        let behind = &self.text[start + 1..];
+        let end = behind.iter().position(|b| !b.is_ascii_digit());
+        let more = end.unwrap_or(behind.len());
+        let digits = &self.text[start..=start + more];
+        self.text = &behind[more..];
+        let values = digits.iter().filter_map(|&b| char::from(b).to_digit(10));
+        Some(values.fold(0, |n: u32, d| n.saturating_mul(10).saturating_add(d)))
     }
-    if 57 < b {
-        return 10;
+
+    // The next number; 0 at the end of the text.
+    pub(crate) fn next_or_zero(&mut self) -> u32
+        ensures { length self.new.text.now ≤ length self.old.text.now }
+    {
+        self.next_number().unwrap_or(0)
     }
-    (b - 48) as u32
 }
 
-// Where the next digit stands, or the text ends.
-pub fn digit_from(text: &[u8], from: usize) -> usize
-    requires { from ≤ length text.now }
-    ensures { (from ≤ result) × (result ≤ length text.now) }
+// A number of a list: one that is too high is the highest.
+pub trait FromNumber {
+    fn from_number(n: u32) -> Self;
+}
+
+impl FromNumber for u32 {
+    fn from_number(n: u32) -> u32 {
+        n
+    }
+}
+
+impl FromNumber for u16 {
+    fn from_number(n: u32) -> u16 {
+        u16::try_from(n).unwrap_or(u16::MAX)
+    }
+}
+
+impl FromNumber for u8 {
+    fn from_number(n: u32) -> u8 {
+        u8::try_from(n).unwrap_or(u8::MAX)
+    }
+}
+
+// Reads so many numbers, or as many as `out` holds, and gives them.
+pub fn read<'a, T: FromNumber + Drop>(
+    numbers: &mut Numbers,
+    count: u32,
+    out: &'a mut [T],
+) -> &'a [T]
+    ensures { length numbers.new.text.now ≤ length numbers.old.text.now }
 {
-    let mut i = from;
-    while i < text.len() {
-        if digit(text[i]) < 10 {
-            return i;
-        }
-        i += 1;
+    let out = front(out, count);
+    for x in out.iter_mut() {
+        *x = T::from_number(numbers.next_or_zero());
     }
-    i
-}
-
-// A number with one more digit; one that is too high for 32 bits stays.
-fn with_digit(value: u64, d: u32) -> u64 {
-    if 4294967295 < value {
-        return value;
-    }
-    10 * value + d as u64
-}
-
-// A number of 32 bits: the highest where it is higher.
-fn low_u32(value: u64) -> u32 {
-    if value < 4294967295 {
-        value as u32
-    } else {
-        4294967295
-    }
-}
-
-// The next number; 0 at the end of the text.
-fn number_from(text: &[u8], from: usize) -> Number
-    requires { from ≤ length text.now }
-    ensures { result.rest ≤ length text.now }
-{
-    let mut i = digit_from(text, from);
-    let mut value = 0u64;
-    while i < text.len() {
-        let d = digit(text[i]);
-        if 9 < d {
-            return Number {
-                value: low_u32(value),
-                rest: i,
-            };
-        }
-        value = with_digit(value, d);
-        i += 1;
-    }
-    Number {
-        value: low_u32(value),
-        rest: i,
-    }
-}
-
-// A number, or the most that there is room for.
-pub fn at_most(value: u32, most: usize) -> usize
-    ensures { result ≤ most }
-{
-    let n = value as usize;
-    if n < most { n } else { most }
-}
-
-// The next `count` numbers of the text, or as many as `out` holds; gives where the text goes on.
-pub(crate) fn read_u32s(text: &[u8], from: usize, count: u32, out: &mut [u32]) -> usize
-    requires { from ≤ length text.now }
-    ensures { result ≤ length text.now }
-{
-    let end = at_most(count, out.len());
-    let mut at = from;
-    let mut i = 0;
-    while i < end {
-        let n = number_from(text, at);
-        out[i] = n.value;
-        at = n.rest;
-        i += 1;
-    }
-    at
-}
-
-// A number of 16 bits: the highest where it is higher.
-fn low_u16(value: u32) -> u16 {
-    if value < 65535 { value as u16 } else { 65535 }
-}
-
-pub(crate) fn read_u16s(text: &[u8], from: usize, count: u32, out: &mut [u16]) -> usize
-    requires { from ≤ length text.now }
-    ensures { result ≤ length text.now }
-{
-    let end = at_most(count, out.len());
-    let mut at = from;
-    let mut i = 0;
-    while i < end {
-        let n = number_from(text, at);
-        out[i] = low_u16(n.value);
-        at = n.rest;
-        i += 1;
-    }
-    at
-}
-
-// A byte: the highest where the number is higher.
-fn low_u8(value: u32) -> u8 {
-    if value < 255 { value as u8 } else { 255 }
-}
-
-pub(crate) fn read_u8s(text: &[u8], from: usize, count: u32, out: &mut [u8]) -> usize
-    requires { from ≤ length text.now }
-    ensures { result ≤ length text.now }
-{
-    let end = at_most(count, out.len());
-    let mut at = from;
-    let mut i = 0;
-    while i < end {
-        let n = number_from(text, at);
-        out[i] = low_u8(n.value);
-        at = n.rest;
-        i += 1;
-    }
-    at
+    out
 }

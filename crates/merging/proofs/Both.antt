@@ -1,7 +1,7 @@
 -- The ways through `merge` and `mfns`: how many MFNs two lists have at most, and what is answered.
 use Prim.Native.Nat.{ℕ, suc, ◌+◌, ◌≤◌, ◌<◌}
 use native.Mathlib.Omega.{arith}
-use mathlib.Core.Path.{◌≡◌, refl, sym, ◌∙◌}
+use mathlib.Core.Path.{◌≡◌, refl}
 use mathlib.Core.Bool.{Bool, true, false, cond, and-false}
 use mathlib.Core.List.{List, [], ◌∷◌}
 use lib.Dec.{ltb, eqb}
@@ -9,18 +9,18 @@ use lib.ListN.{length}
 use Rattle.word.specs.Overwrite.{overwrite}
 use Rattle.word.proofs.Tests.{and_iff}
 use Rattle.posting.specs.Posting.{mfn_of}
-use Rattle.postings.specs.Segment.{Place}
-use Rattle.postings.specs.Rules.{above, list_right}
-use Rattle.postings.specs.Cursor.{rest_of, keeps_rules}
+use Rattle.postings.specs.declared.segment.Place.{Place}
+use Rattle.postings.specs.Rules.{above, list_of, list_right}
+use Rattle.postings.specs.Cursor.{rest_of}
 use Rattle.merging.specs.Merge.{mfns_after, mfns_of, meets, common, joins, joined, merged}
 use Rattle.merging.specs.Heads.{Reads, most_of}
 use Rattle.merging.specs.Calls.{both_right, merged_of}
-use Rattle.posting.specs.declared.answer.Answer.TheVariants.{Done, NoRoom, Broken}
-use Rattle.postings.specs.declared.list.Given.{Given}
+use Rattle.std.proofs.Common.{Result, Ok, Err}
+use Rattle.posting.specs.declared.answer.Refusal.{Refusal}
+use Rattle.posting.specs.declared.answer.Refusal.TheVariants.{NoRoom, Broken}
 use Rattle.postings.specs.declared.list.Opened.{Opened}
 use Rattle.postings.proofs.Answers.{Answered, answered_broken, answered_full, answered}
-use Rattle.postings.proofs.Opening.{OpenedAt}
-use Rattle.postings.proofs.Giving.{keeps_reads}
+use Rattle.postings.proofs.Opening.{SoundList}
 
 -- ---- how many there are at most
 
@@ -95,53 +95,34 @@ merged_most false ps qs =
 -- ---- the ways through `merge`
 
 module _ (xs out : List ℕ) where
-  pub merge_full : (k : ℕ) (last : List ℕ) → k ≡ length xs → length out < k → last ≡ out
-      → Answered true xs out (record { answer = NoRoom; count = 0 }) last
+  pub merge_full : (k : ℕ) (last : List ℕ) → k ≡ length xs → length out < k → last ≡ out → Answered true xs out (Err NoRoom) last
   merge_full k last e h l = rw l (answered_full true xs out refl (omega arith))
 
-  pub merge_given : length xs ≤ length out → (k : ℕ) (last : List ℕ) → k ≡ length xs → last ≡ overwrite out 0 xs
-      → Answered true xs out (record { answer = Done; count = k }) last
+  pub merge_given : length xs ≤ length out → (k : ℕ) (last : List ℕ) → k ≡ length xs → last ≡ overwrite out 0 xs → Answered true xs out (Ok k) last
   merge_given h k last c l = answered true xs out refl k last h c l
 
 -- ---- the ways through `mfns`
 
-keeps_ascends : (f : List ℕ) (o : Opened) → keeps_rules f o.cursor o.total 0 ≡ true → above 0 (rest_of f o.cursor) ≡ true
-unfolding keeps_rules
-keeps_ascends f o e = let q = simp and_iff at e in q.0.1
+list_ascends : (f : List ℕ) (p : Place) → list_right f p ≡ true → above 0 (list_of f p) ≡ true
+unfolding list_right
+list_ascends f p e = let q = simp and_iff at e in q.0.1
 
-module _ (f : List ℕ) (p q : Place) (both : Bool) (a b : Opened) (s : OpenedAt f p a) (t : OpenedAt f q b) (out : List ℕ) where
-  pub mfns_first : (r : Bool) → r ≡ keeps_rules f a.cursor a.total 0 → r ≡ false
-      → Answered (both_right f p q) (merged_of both f p q) out (record { answer = Broken; count = 0 }) out
-  mfns_first r g n = answered_broken _ _ out (rw (← s.0, ← g, n))
+pub sound_reads : (f : List ℕ) (p : Place) (o : Opened) → SoundList f p o → Reads f o.cursor
+sound_reads f p o s = record { in_block = s.in_block; stands = s.stands; ascends = rw s.rest (list_ascends f p s.right) }
 
-  pub mfns_second : (r : Bool) → r ≡ keeps_rules f b.cursor b.total 0 → r ≡ false
-      → Answered (both_right f p q) (merged_of both f p q) out (record { answer = Broken; count = 0 }) out
-  mfns_second r g n = answered_broken _ _ out (rw (← t.0, ← g, n, and-false))
+module _ (f : List ℕ) (p q : Place) (both : Bool) (out : List ℕ) where
+  pub mfns_first : list_right f p ≡ false → Answered (both_right f p q) (merged_of both f p q) out (Err Broken) out
+  mfns_first n = answered_broken _ _ out (rw n)
 
-  module _ (r u : Bool) (g : r ≡ keeps_rules f a.cursor a.total 0) (h : u ≡ keeps_rules f b.cursor b.total 0) (n : r ≡ true) (m : u ≡ true) where
-    right_a : keeps_rules f a.cursor a.total 0 ≡ true
-    right_a = sym g ∙ n
+  pub mfns_second : list_right f q ≡ false → Answered (both_right f p q) (merged_of both f p q) out (Err Broken) out
+  mfns_second n = answered_broken _ _ out (rw (n, and-false))
 
-    right_b : keeps_rules f b.cursor b.total 0 ≡ true
-    right_b = sym h ∙ m
+  module _ (a b : Opened) (s : SoundList f p a) (t : SoundList f q b) where
+    pub mfns_most : (most : ℕ) → most ≡ most_of both a.total b.total
+        → length (merged both (mfns_of (rest_of f a.cursor)) (mfns_of (rest_of f b.cursor))) ≤ most
+    mfns_most most e = rw (e, s.total, t.total, ← s.rest, ← t.rest) (merged_most both (rest_of f a.cursor) (rest_of f b.cursor))
 
-    pub mfns_asked : (most : ℕ) → most ≡ most_of both a.total b.total → most ≤ 8589934592
-        → Reads f a.cursor × Reads f b.cursor
-        × (length (merged both (mfns_of (rest_of f a.cursor)) (mfns_of (rest_of f b.cursor))) ≤ most)
-        × (most ≤ 8589934592)
-    mfns_asked most e i =
-        let x = keeps_reads f a right_a in
-        let y = keeps_reads f b right_b in (
-          record { in_block = s.1.1; stands = x.0; ascends = keeps_ascends f a right_a },
-          record { in_block = t.1.1; stands = y.0; ascends = keeps_ascends f b right_b },
-          rw (e, x.1, y.1) (merged_most both (rest_of f a.cursor) (rest_of f b.cursor)),
-          i,
-        )
-
-    pub mfns_given : (v : Given) (last : List ℕ)
+    pub mfns_given : (v : Result ℕ Refusal) (last : List ℕ)
         → Answered true (merged both (mfns_of (rest_of f a.cursor)) (mfns_of (rest_of f b.cursor))) out v last
         → Answered (both_right f p q) (merged_of both f p q) out v last
-    mfns_given v last w =
-        let lp : list_right f p ≡ true = sym s.0 ∙ right_a in
-        let lq : list_right f q ≡ true = sym t.0 ∙ right_b in
-        rw (lp, lq, ← s.1.0 lp, ← t.1.0 lq) w
+    mfns_given v last w = rw (s.right, t.right, ← s.rest, ← t.rest) w

@@ -10,13 +10,13 @@ use borrow.Author.Tests.{lt-ltb, le-ltb, leb-true, eq-eqb}
 use Rattle.word.proofs.Overwrite.{lt_or_ge}
 use Rattle.posting.specs.Posting.{posting_at, mfn_of}
 use Rattle.postings.specs.Rules.{above}
-use Rattle.postings.specs.Cursor.{InBlock, rest_of, stands_right, SettledFrom, row, run_size, past_of}
+use Rattle.postings.specs.Cursor.{InBlock, rest_of, stands_right, Reached, row, run_size, past_of}
 use Rattle.merging.specs.Merge.{mfns_after}
 use Rattle.merging.specs.Heads.{row_to, rest_head, front, head_after, head_size, unread_of, HeadRight, Rising, lowest, Rises, Headed, Reads, behind_of}
 use Rattle.postings.specs.declared.cursor.Cursor.{Cursor}
-use Rattle.postings.specs.declared.cursor.Settled.{Settled}
 use Rattle.merging.specs.declared.merge.Head.{Head}
-use Rattle.postings.proofs.Cursors.{past_in_block, read_over, read_inside, read_past, read_rest}
+use Rattle.postings.proofs.Cursors.{past_in_block, read_inside, read_past, read_rest}
+use Rattle.postings.proofs.Runs.{size_some}
 use Rattle.merging.proofs.Merged.{above_first, above_rest}
 use Rattle.merging.proofs.Turns.{face}
 
@@ -127,8 +127,8 @@ module _ (f : List ℕ) (c : Cursor) (g : Reads f c) where
 
 -- ---- the next run of a list
 
-module _ (f : List ℕ) (start : Cursor) (b : InBlock f start) (right : stands_right f start ≡ true) (s : Settled) (t : SettledFrom f start s) where
-  pub refill_over : s.cursor.left ≡ 0 → Headed f (rest_of f start) (record { mfn = 16777216; at = 0; end = 0; cursor = start })
+module _ (f : List ℕ) (start : Cursor) (b : InBlock f start) (right : stands_right f start ≡ true) where
+  pub refill_over : rest_of f start ≡ [] → Headed f (rest_of f start) (record { mfn = 16777216; at = 0; end = 0; cursor = start })
   unfolding head_after head_size row
   refill_over z =
       record {
@@ -139,7 +139,7 @@ module _ (f : List ℕ) (start : Cursor) (b : InBlock f start) (right : stands_r
             record {
               low = λ s. absurd (omega arith);
               none = λ _. omega arith;
-              over = λ _ _. read_over f start s t right z;
+              over = λ _ _. z;
               whole = refl;
               inside = omega arith;
               in_block = b;
@@ -150,18 +150,21 @@ module _ (f : List ℕ) (start : Cursor) (b : InBlock f start) (right : stands_r
             record { floor = λ s. absurd (omega arith); rest = λ s. absurd (omega arith); later = λ _. g };
       }
 
-  module _ (some : s.cursor.left ≡ 0 → ⊥) (n : ℕ) (is : n ≡ run_size s.cursor.at s.cursor.left) (one : 1 ≤ n) where
-    pub refill_inside : s.cursor.at + 8 * n ≤ length f
-    refill_inside = leb-true (s.cursor.at + 8 * n) (length f) (read_inside f start s t right some n is)
+  module _ (s : Cursor) (t : Reached f start s) (n : ℕ) (is : n ≡ run_size s.at s.left) where
+    one : 1 ≤ n
+    one = size_some f s.at s.left n t.in_block.0 t.some is
 
-    module _ (d : Cursor) (p : d ≡ past_of s.cursor n) (x : ℕ) (q : x ≡ mfn_of (posting_at f s.cursor.at)) (small : x < 16777216) where
+    pub refill_inside : s.at + 8 * n ≤ length f
+    refill_inside = leb-true (s.at + 8 * n) (length f) (read_inside f start s t right n is)
+
+    module _ (d : Cursor) (p : d ≡ past_of s n) (x : ℕ) (q : x ≡ mfn_of (posting_at f s.at)) (small : x < 16777216) where
       abbrev found : Head
-      found = record { mfn = x; at = s.cursor.at + 8; end = s.cursor.at + 8 * n; cursor = d }
+      found = record { mfn = x; at = s.at + 8; end = s.at + 8 * n; cursor = d }
 
-      found_rest : rest_of f start ≡ posting_at f s.cursor.at ∷ rest_head f found
+      found_rest : rest_of f start ≡ posting_at f s.at ∷ rest_head f found
       found_rest =
-          read_rest f start s t right some n is
-          ∙ ap (λ (xs : List ℕ). xs ++ rest_of f (past_of s.cursor n)) (sym (row_to_whole f s.cursor.at n) ∙ row_to_more f s.cursor.at (s.cursor.at + 8 * n) (omega arith) (omega arith))
+          read_rest f start s t right n is
+          ∙ ap (λ (xs : List ℕ). xs ++ rest_of f (past_of s n)) (sym (row_to_whole f s.at n) ∙ row_to_more f s.at (s.at + 8 * n) (omega arith) (omega arith))
           ∙ rw p
 
       found_after : (l : ℕ) → head_after f l found ≡ mfns_after l (rest_of f start)
@@ -170,8 +173,8 @@ module _ (f : List ℕ) (start : Cursor) (b : InBlock f start) (right : stands_r
 
       found_rises : (l : ℕ) → Rising (lowest l) (rest_of f start) → Rises f l found
       found_rises l g =
-          let h : Rising (lowest l) (posting_at f s.cursor.at ∷ rest_head f found) = rw (← found_rest) g in
-          let k = rising_first (lowest l) (posting_at f s.cursor.at) (rest_head f found) h in
+          let h : Rising (lowest l) (posting_at f s.at ∷ rest_head f found) = rw (← found_rest) g in
+          let k = rising_first (lowest l) (posting_at f s.at) (rest_head f found) h in
           record { floor = λ _. rw q k.0; rest = λ _. rw q k.1; later = λ s. absurd (omega arith) }
 
       pub refill_found : Headed f (rest_of f start) found
@@ -187,8 +190,8 @@ module _ (f : List ℕ) (start : Cursor) (b : InBlock f start) (right : stands_r
                   over = λ s. absurd (omega arith);
                   whole = omega arith;
                   inside = refill_inside;
-                  in_block = rw p (past_in_block f s.cursor n refill_inside);
-                  stands = rw p (read_past f start s t right some n is);
+                  in_block = rw p (past_in_block f s n refill_inside);
+                  stands = rw p (read_past f start s t right n is);
                 };
             rises = found_rises;
           }

@@ -1,7 +1,7 @@
 -- The turns of the loop over two heads: what was taken and what the heads still stand for are the merged MFNs.
 use Prim.Native.Nat.{ℕ, ◌+◌, ◌-◌, min, ◌≤◌, ◌<◌}
 use native.Mathlib.Omega.{arith}
-use mathlib.Core.Path.{◌≡◌, refl, sym}
+use mathlib.Core.Path.{◌≡◌, refl, sym, ap, ◌∙◌}
 use mathlib.Core.Logic.{⊎_elim}
 use mathlib.Core.Bool.{Bool, true, false, true≢false}
 use mathlib.Core.List.{List, []}
@@ -9,10 +9,11 @@ use lib.Dec.{eqb}
 use lib.ListN.{length, set}
 use borrow.Author.Tests.{eqb-true}
 use Rattle.word.proofs.Overwrite.{lt_or_ge}
+use Rattle.std.specs.Int.{from_bool}
 use Rattle.postings.specs.Cursor.{rest_of}
 use Rattle.postings.specs.declared.cursor.Cursor.{Cursor}
 use Rattle.merging.specs.Merge.{mfns_of, common, joined, merged}
-use Rattle.merging.specs.Heads.{rest_head, head_after, head_size, unread_of, HeadRight, lowest, Rises, Reads, bit, leading_of, gives_of, writes_from}
+use Rattle.merging.specs.Heads.{rest_head, head_after, head_size, unread_of, HeadRight, lowest, Rises, Reads, bit, leading_of, gives_of, writes_of}
 use Rattle.merging.specs.declared.merge.Head.{Head}
 use Rattle.merging.proofs.Taking.{Took, took_none, took_same}
 use Rattle.merging.proofs.Writing.{Held, before, Giving, bit_small, write_first, write_index, took_written, held_written, took_unwritten, held_unwritten}
@@ -112,6 +113,10 @@ module _ (f : List ℕ) (both put : Bool) (w d out : List ℕ) (x y : Head) (l i
 
 -- ---- a turn
 
+from_bit : (b : Bool) → from_bool b ≡ bit b
+from_bit true = refl
+from_bit false = refl
+
 -- what stands in the lent list behind a turn
 pub record Wrote (f : List ℕ) (both put : Bool) (x₀ y₀ : Head) (l₀ : ℕ) (out₀ : List ℕ) (i₀ : ℕ) (out : List ℕ) (x y : Head) (m i : ℕ) : Type 0 where
   pub took : (w d : List ℕ) → Took put w (items both f l₀ x₀ y₀) d out₀ i₀ → Took put w (items both f m x y) d out i
@@ -151,7 +156,10 @@ module _ (f : List ℕ) (both put : Bool) (x₀ y₀ : Head) (l₀ : ℕ) (out�
       )
       (turn_gives both l x.mfn y.mfn m (rest_head f x) (rest_head f y) e turn_small turn_low)
 
-  module _ (n : ℕ) (q : n ≡ bit (gives_of both x.mfn y.mfn l m)) (fl : ℕ) (z : fl ≡ writes_from put both) where
+  module _ (gv : Bool) (given : gv ≡ gives_of both x.mfn y.mfn l m) (n : ℕ) (counted : n ≡ from_bool gv) where
+    q : n ≡ bit (gives_of both x.mfn y.mfn l m)
+    q = counted ∙ from_bit gv ∙ ap bit given
+
     giving : (w d : List ℕ) → Took put w (items both f l₀ x₀ y₀) d out₀ i₀
         → Giving put both (gives_of both x.mfn y.mfn l m) w (items both f m x y) d out i l m
     giving w d k =
@@ -162,87 +170,85 @@ module _ (f : List ℕ) (both put : Bool) (x₀ y₀ : Head) (l₀ : ℕ) (out�
           same = given_not both x.mfn y.mfn l m;
         }
 
-    floor_le : fl ≤ n → writes_from put both ≤ bit (gives_of both x.mfn y.mfn l m)
-    floor_le h = rw (← z, ← q) h
+    pub turn_count : (w d : List ℕ) → Took put w (items both f l₀ x₀ y₀) d out₀ i₀ → i + n ≤ length w + 1
+    turn_count w d k = rw q (omega (arith, (t.took w d k).count, bit_small (gives_of both x.mfn y.mfn l m)))
 
-    floor_lt : n < fl → bit (gives_of both x.mfn y.mfn l m) < writes_from put both
-    floor_lt h = rw (← z, ← q) h
+    module _ (wr : Bool) (z : wr ≡ writes_of put both gv) where
+      asked : (a : Bool) → wr ≡ a → writes_of put both (gives_of both x.mfn y.mfn l m) ≡ a
+      asked a h = ap (writes_of put both) (sym given) ∙ sym z ∙ h
 
-    module _ (w d : List ℕ) (k : Took put w (items both f l₀ x₀ y₀) d out₀ i₀) where
-      pub turn_first : fl ≤ n → 1 ≤ i + n
-      turn_first h = rw q (write_first w (items both f m x y) d out i l m put both _ (giving w d k) (floor_le h))
+      module _ (w d : List ℕ) (k : Took put w (items both f l₀ x₀ y₀) d out₀ i₀) where
+        pub turn_first : wr ≡ true → 1 ≤ i + n
+        turn_first h = rw q (write_first w (items both f m x y) d out i l m put both _ (giving w d k) (asked _ h))
 
-      pub turn_index : fl ≤ n → i + n - 1 < length out
-      turn_index h = rw q (write_index w (items both f m x y) d out i l m put both _ (giving w d k) (floor_le h))
+        pub turn_index : wr ≡ true → i + n - 1 < length out
+        turn_index h = rw q (write_index w (items both f m x y) d out i l m put both _ (giving w d k) (asked _ h))
 
-      pub turn_count : i + n ≤ length w + 1
-      turn_count = rw q (omega (arith, (t.took w d k).count, bit_small (gives_of both x.mfn y.mfn l m)))
+      module _ (x' y' : Head) (p : Passed f m x x') (r : Passed f m y y') where
+        items_passed : items both f m x' y' ≡ items both f m x y
+        items_passed = rw (p.after, r.after)
 
-    module _ (x' y' : Head) (p : Passed f m x x') (r : Passed f m y y') where
-      items_passed : items both f m x' y' ≡ items both f m x y
-      items_passed = rw (p.after, r.after)
+        took_next : wr ≡ true → (w d : List ℕ) → Took put w (items both f l₀ x₀ y₀) d out₀ i₀
+            → Took put w (items both f m x' y') d (set out (i + n - 1) m) (i + n)
+        took_next h w d k =
+            rw (items_passed, q) (took_written w (items both f m x y) d out i l m put both _ (giving w d k) (asked _ h))
 
-      took_next : fl ≤ n → (w d : List ℕ) → Took put w (items both f l₀ x₀ y₀) d out₀ i₀
-          → Took put w (items both f m x' y') d (set out (i + n - 1) m) (i + n)
-      took_next h w d k =
-          rw (items_passed, q) (took_written w (items both f m x y) d out i l m put both _ (giving w d k) (floor_le h))
+        took_over : wr ≡ false → (w d : List ℕ) → Took put w (items both f l₀ x₀ y₀) d out₀ i₀ → Took put w (items both f m x' y') d out (i + n)
+        took_over h w d k =
+            rw (items_passed, q) (took_unwritten w (items both f m x y) d out i l m put both _ (giving w d k) (asked _ h))
 
-      took_over : n < fl → (w d : List ℕ) → Took put w (items both f l₀ x₀ y₀) d out₀ i₀ → Took put w (items both f m x' y') d out (i + n)
-      took_over h w d k =
-          rw (items_passed, q) (took_unwritten w (items both f m x y) d out i l m put both _ (giving w d k) (floor_lt h))
+        pub turn_less : head_size f x' + head_size f y' < head_size f x + head_size f y
+        turn_less =
+            ⊎_elim
+            (λ h. omega (arith, p.less (omega arith), r.size))
+            (λ h. omega (arith, r.less (omega arith), p.size))
+            (lt_or_ge x.mfn y.mfn)
 
-      pub turn_less : head_size f x' + head_size f y' < head_size f x + head_size f y
-      turn_less =
-          ⊎_elim
-          (λ h. omega (arith, p.less (omega arith), r.size))
-          (λ h. omega (arith, r.less (omega arith), p.size))
-          (lt_or_ge x.mfn y.mfn)
+        turn_some : x'.at ≤ x'.end → y'.at ≤ y'.end → min x'.mfn y'.mfn < 16777216
+        turn_some v u =
+            ⊎_elim
+            (λ h. omega (arith, p.read (omega arith) v))
+            (λ h. omega (arith, r.read (omega arith) u))
+            (lt_or_ge x.mfn y.mfn)
 
-      turn_some : x'.at ≤ x'.end → y'.at ≤ y'.end → min x'.mfn y'.mfn < 16777216
-      turn_some v u =
-          ⊎_elim
-          (λ h. omega (arith, p.read (omega arith) v))
-          (λ h. omega (arith, r.read (omega arith) u))
-          (lt_or_ge x.mfn y.mfn)
-
-      pub wrote : (w d : List ℕ) → Took put w (items both f l₀ x₀ y₀) d out₀ i₀ → fl ≤ n
-          → Wrote f both put x₀ y₀ l₀ out₀ i₀ (set out (i + n - 1) m) x' y' m (i + n)
-      wrote w d k h =
-          record {
-            took = took_next h;
-            held = rw q (held_written w (items both f m x y) d out i l m put both _ (giving w d k) (floor_le h));
-          }
-
-      pub wrote_none : n < fl → Wrote f both put x₀ y₀ l₀ out₀ i₀ out x' y' m (i + n)
-      wrote_none h =
-          record { took = took_over h; held = rw q (held_unwritten [] [] [] out i l m put both (gives_of both x.mfn y.mfn l m) (floor_lt h)) }
-
-      pub turn_less_all : head_size f x' + head_size f y' < head_size f x₀ + head_size f y₀
-      turn_less_all = omega (arith, turn_less, t.size)
-
-      module _ (out' : List ℕ) (o : Wrote f both put x₀ y₀ l₀ out₀ i₀ out' x' y' m (i + n)) where
-        pub turn_again : x'.at ≤ x'.end → y'.at ≤ y'.end → Turning f both put x₀ y₀ l₀ out₀ i₀ out' x' y' m (i + n)
-        turn_again v u =
+        pub wrote : (w d : List ℕ) → Took put w (items both f l₀ x₀ y₀) d out₀ i₀ → wr ≡ true
+            → Wrote f both put x₀ y₀ l₀ out₀ i₀ (set out (i + n - 1) m) x' y' m (i + n)
+        wrote w d k h =
             record {
-              x_right = p.right;
-              y_right = r.right;
-              x_rises = p.rises;
-              y_rises = r.rises;
-              x_in = v;
-              y_in = u;
-              some = turn_some v u;
-              size = omega (arith, turn_less, t.size);
-              took = o.took;
-              held = o.held;
+              took = took_next h;
+              held = rw q (held_written w (items both f m x y) d out i l m put both _ (giving w d k) (asked _ h));
             }
 
-        pub turn_stands : (w d : List ℕ) → Took put w (items both f l₀ x₀ y₀) d out₀ i₀ → Standing f both put w d out' x' y' m (i + n)
-        turn_stands w d k =
-            record {
-              x_right = p.right;
-              y_right = r.right;
-              x_rises = p.rises;
-              y_rises = r.rises;
-              took = o.took w d k;
-              held = o.held;
-            }
+        pub wrote_none : wr ≡ false → Wrote f both put x₀ y₀ l₀ out₀ i₀ out x' y' m (i + n)
+        wrote_none h =
+            record { took = took_over h; held = rw q (held_unwritten [] [] [] out i l m put both (gives_of both x.mfn y.mfn l m) (asked _ h)) }
+
+        pub turn_less_all : head_size f x' + head_size f y' < head_size f x₀ + head_size f y₀
+        turn_less_all = omega (arith, turn_less, t.size)
+
+        module _ (out' : List ℕ) (o : Wrote f both put x₀ y₀ l₀ out₀ i₀ out' x' y' m (i + n)) where
+          pub turn_again : x'.at ≤ x'.end → y'.at ≤ y'.end → Turning f both put x₀ y₀ l₀ out₀ i₀ out' x' y' m (i + n)
+          turn_again v u =
+              record {
+                x_right = p.right;
+                y_right = r.right;
+                x_rises = p.rises;
+                y_rises = r.rises;
+                x_in = v;
+                y_in = u;
+                some = turn_some v u;
+                size = omega (arith, turn_less, t.size);
+                took = o.took;
+                held = o.held;
+              }
+
+          pub turn_stands : (w d : List ℕ) → Took put w (items both f l₀ x₀ y₀) d out₀ i₀ → Standing f both put w d out' x' y' m (i + n)
+          turn_stands w d k =
+              record {
+                x_right = p.right;
+                y_right = r.right;
+                x_rises = p.rises;
+                y_rises = r.rises;
+                took = o.took w d k;
+                held = o.held;
+              }

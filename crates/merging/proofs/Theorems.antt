@@ -7,7 +7,8 @@ use mathlib.Core.List.{List, [], ◌∷◌, ◌++◌}
 use Rattle.word.proofs.Integers.{Bytes}
 use Rattle.word.proofs.Tests.{and_iff}
 use Rattle.posting.proofs.RoundTrip.{posting_small}
-use Rattle.postings.specs.Segment.{Place, count_of, first_of, follow, run}
+use Rattle.postings.specs.declared.segment.Place.{Place}
+use Rattle.postings.specs.Segment.{count_of, first_of, follow, run}
 use Rattle.postings.specs.Rules.{segments_of, postings_of, ascends, list_of, list_right}
 use Rattle.merging.specs.Merge.{mfns_of, among, has_mfn}
 use Rattle.merging.specs.Theorems.{MergedAscends, CommonExactly, JoinedExactly}

@@ -1,7 +1,7 @@
 -- What is proved of the MFNs of two lists beside the calls' own promises. Document 02, C-14.
 use Rattle.std.specs.Prelude.{ℕ, ◌≡◌, Bool, true, false, ◌&&◌, ◌||◌, List}
 use Rattle.posting.specs.Theorems.{OfBytes}
-use Rattle.postings.specs.Segment.{Place}
+use Rattle.postings.specs.declared.segment.Place.{Place}
 use Rattle.postings.specs.Rules.{ascends, list_of, list_right}
 use Rattle.merging.specs.Merge.{among, has_mfn}
 use Rattle.merging.specs.Calls.{merged_of}

@@ -13,11 +13,9 @@ use lib.Seq.{drop-cons}
 use borrow.Author.Tests.{ltb-true, ltb-false, lt-ltb, le-ltb, eqb-true, eqb-false, eq-eqb, ne_eqb}
 use Rattle.word.specs.Overwrite.{overwrite, part}
 use Rattle.word.proofs.Overwrite.{overwrite_runs, overwrite_length}
-use Rattle.word.specs.Integer.{u32_at, u64_at, le}
-use Rattle.word.proofs.Integers.{Bytes, u32_is, u64_is, number_back}
-use Rattle.posting.specs.Answer.{leaves}
+use Rattle.word.proofs.Integers.{Bytes}
+use Rattle.posting.specs.Answer.{done}
 use Rattle.posting.specs.Bytes.{high_first}
-use Rattle.posting.specs.declared.answer.Answer.TheVariants.{Done}
 use Rattle.posting.specs.Posting.{quad_at, posting_at, quad_bytes, posting_bytes, posting_of, mfn_of, tag_of, occurrence_of, sequence_of, narrow, read_of, write_answer, write_out, compare_of, compare_bytes}
 use Rattle.posting.proofs.Writing.{narrow_facts}
 
@@ -103,27 +101,11 @@ module _ (s : List ℕ) (b : Bytes s) where
   unfolding posting_at
   posting_small at = omega (arith, quad_small at, quad_small (at + 4))
 
-  -- the integers that the code reads, with their bytes in the other order
-  pub read_posting : (at x r : ℕ) → at + 8 ≤ length s → x ≡ u64_at s at → r ≡ high_first 0 (le 8 x) → r ≡ posting_at s at
-  read_posting at x r h e g =
-      g
-      ∙ ap (λ (n : ℕ). high_first 0 (le 8 n)) (e ∙ u64_is s at)
-      ∙ ap (high_first 0) (number_back s b 8 at h ∙ part_items s at 8 h)
-      ∙ sym (posting_high s at)
-
-  read_quad : (at x r : ℕ) → at + 4 ≤ length s → x ≡ u32_at s at → r ≡ high_first 0 (le 4 x) → r ≡ quad_at s at
-  read_quad at x r h e g =
-      g
-      ∙ ap (λ (n : ℕ). high_first 0 (le 4 n)) (e ∙ u32_is s at)
-      ∙ ap (high_first 0) (number_back s b 4 at h ∙ part_items s at 4 h)
-      ∙ sym (quad_high s at)
-
-  pub read_mfn : (at x r : ℕ) → at + 8 ≤ length s → x ≡ u32_at s at → r ≡ high_first 0 (le 4 x)
-      → (r / 256 ≡ mfn_of (posting_at s at)) × (r / 256 < 16777216)
-  unfolding posting_at
-  read_mfn at x r h e g =
-      let q : r ≡ quad_at s at = read_quad at x r (omega arith) e g in
-      (omega (arith, quad_small (at + 4)), omega (arith, quad_small at))
+  -- its first three bytes are PMFN
+  pub read_mfn : (at r : ℕ) → r ≡ 0 + get_or s at 0 * 65536 + get_or s (at + 1) 0 * 256 + get_or s (at + 2) 0
+      → (r ≡ mfn_of (posting_at s at)) × (r < 16777216)
+  unfolding posting_at quad_at
+  read_mfn at r e = (omega (arith, quad_small (at + 4), b (at + 3)), omega (arith, b at, b (at + 1), b (at + 2)))
 
   quad_items : (at : ℕ) → quad_bytes (quad_at s at) ≡ get_or s at 0 ∷ get_or s (at + 1) 0 ∷ get_or s (at + 2) 0 ∷ get_or s (at + 3) 0 ∷ []
   unfolding quad_at
@@ -161,12 +143,12 @@ narrow_posting : (m t o s : ℕ) → narrow m t o s ≡ true → posting_of m t 
 narrow_posting m t o s n = let q = narrow_facts m t o s n in omega (arith, q.0, q.1, q.2, q.3)
 
 write_out_lem : (m t o s : ℕ) (out : List ℕ) → narrow m t o s ≡ true → 8 ≤ length out → write_out m t o s out ≡ overwrite out 0 (posting_bytes (posting_of m t o s))
-unfolding write_out write_answer leaves
+unfolding write_out write_answer
 write_out_lem m t o s out n h = rw (n, le-ltb (length out) 8 h)
 
 -- reading what was written gives the four numbers back
 pub read_written : (m t o s : ℕ) (out : List ℕ) → narrow m t o s ≡ true → 8 ≤ length out
-    → read_of (write_out m t o s out) ≡ record { answer = Done; mfn = m; tag = t; occurrence = o; sequence = s }
+    → read_of (write_out m t o s out) ≡ record { answer = done; mfn = m; tag = t; occurrence = o; sequence = s }
 unfolding read_of
 read_written m t o s out n h =
     let q = narrow_facts m t o s n in

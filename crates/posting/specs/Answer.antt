@@ -1,16 +1,30 @@
 -- The answers of the calls on postings. Document 02, C-14: 23, then 17; both leave the output unchanged.
-use Rattle.std.specs.Prelude.{ℕ, List}
-use Rattle.posting.specs.declared.answer.Answer.{Answer}
-use Rattle.posting.specs.declared.answer.Answer.TheVariants.{Done, NoRoom, Broken}
+use Rattle.std.specs.Prelude.{ℕ, List, Result, Ok, Err}
+use Rattle.posting.specs.declared.answer.Refusal.{Refusal}
+use Rattle.posting.specs.declared.answer.Refusal.TheVariants.{NoRoom, Broken}
+
+-- done, or why not
+abbrev pub Answer : Type 0
+Answer = Result Unit Refusal
+
+abbrev pub done : Answer
+done = Ok tt
 
 -- the number of each answer
-unfoldable pub number_of : Answer → ℕ
-number_of Done = 0
-number_of NoRoom = 17
-number_of Broken = 23
+abbrev pub refusal_number : Refusal → ℕ
+refusal_number NoRoom = 17
+refusal_number Broken = 23
+
+abbrev pub number_of : Answer → ℕ
+number_of (Ok _) = 0
+number_of (Err r) = refusal_number r
+
+-- the answer of what is given or refused
+abbrev pub answer_of : {A : Type 0} → Result A Refusal → Answer
+answer_of (Ok _) = done
+answer_of (Err r) = Err r
 
 -- a lent list afterwards: the new one where the call is done, the old one where it is refused
-unfoldable pub leaves : Answer → List ℕ → List ℕ → List ℕ
-leaves Done new old = new
-leaves NoRoom new old = old
-leaves Broken new old = old
+abbrev pub leaves : Answer → List ℕ → List ℕ → List ℕ
+leaves (Ok _) new old = new
+leaves (Err _) new old = old

@@ -1,10 +1,10 @@
 -- A posting: 64 bits, most significant first, PMFN 24, PTAG 16, POCC 8, PCNT 16. Document 02, C-14; source document 004, "Format of IFP file".
-use Rattle.std.specs.Prelude.{ℕ, ◌+◌, ◌*◌, ◌/◌, ◌%◌, Bool, ◌&&◌, cond, List, [], ◌∷◌, ◌++◌, eqb, ltb, length, get_or}
+use Rattle.std.specs.Prelude.{ℕ, ◌+◌, ◌*◌, ◌/◌, ◌%◌, Bool, ◌&&◌, cond, List, [], ◌∷◌, ◌++◌, eqb, ltb, length, get_or, Result, Ok, Err}
 use Rattle.word.specs.Overwrite.{overwrite}
-use Rattle.posting.specs.Answer.{leaves}
-use Rattle.posting.specs.declared.answer.Answer.{Answer}
-use Rattle.posting.specs.declared.answer.Answer.TheVariants.{Done, NoRoom, Broken}
-use Rattle.posting.specs.declared.codec.Posting.{Posting}
+use Rattle.posting.specs.Answer.{Answer, done, leaves}
+use Rattle.posting.specs.declared.answer.Refusal.{Refusal}
+use Rattle.posting.specs.declared.answer.Refusal.TheVariants.{NoRoom, Broken}
+use Rattle.posting.specs.declared.codec.Posting as numbers
 
 -- the number of four bytes at an offset, the highest byte first
 unfoldable pub quad_at : List ℕ → ℕ → ℕ
@@ -42,13 +42,26 @@ sequence_of p = p % 65536
 unfoldable pub narrow : ℕ → ℕ → ℕ → ℕ → Bool
 narrow mfn tag occurrence sequence = ltb mfn 16777216 && ltb tag 65536 && ltb occurrence 256 && ltb sequence 65536
 
+-- a posting that was read; four zeros where it was refused
+pub record Posting : Type 0 where
+  pub answer : Answer
+  pub mfn : ℕ
+  pub tag : ℕ
+  pub occurrence : ℕ
+  pub sequence : ℕ
+
+-- what a reading gives, as such
+abbrev pub posting_read : Result numbers.Posting Refusal → Posting
+posting_read (Ok p) = record { answer = done; mfn = p.mfn; tag = p.tag; occurrence = p.occurrence; sequence = p.sequence }
+posting_read (Err r) = record { answer = Err r; mfn = 0; tag = 0; occurrence = 0; sequence = 0 }
+
 -- reading: the first eight bytes; 23 where there are fewer
 unfoldable pub read_of : List ℕ → Posting
 read_of s =
     cond (ltb (length s) 8)
-    (record { answer = Broken; mfn = 0; tag = 0; occurrence = 0; sequence = 0 })
+    (record { answer = Err Broken; mfn = 0; tag = 0; occurrence = 0; sequence = 0 })
     (record {
-      answer = Done;
+      answer = done;
       mfn = mfn_of (posting_at s 0);
       tag = tag_of (posting_at s 0);
       occurrence = occurrence_of (posting_at s 0);
@@ -57,7 +70,7 @@ read_of s =
 
 -- writing: 23 where a number is too wide, then 17 where there are fewer than eight bytes
 unfoldable pub write_answer : ℕ → ℕ → ℕ → ℕ → List ℕ → Answer
-write_answer mfn tag occurrence sequence out = cond (narrow mfn tag occurrence sequence) (cond (ltb (length out) 8) NoRoom Done) Broken
+write_answer mfn tag occurrence sequence out = cond (narrow mfn tag occurrence sequence) (cond (ltb (length out) 8) (Err NoRoom) done) (Err Broken)
 
 unfoldable pub write_out : ℕ → ℕ → ℕ → ℕ → List ℕ → List ℕ
 write_out mfn tag occurrence sequence out =

@@ -1,8 +1,8 @@
 -- What is proved of a posting beside the calls' own promises. Document 02, C-14.
 use Rattle.std.specs.Prelude.{ℕ, ◌≤◌, ◌<◌, ◌≡◌, true, List, length, get_or}
 use Rattle.word.specs.Overwrite.{overwrite, part}
+use Rattle.posting.specs.Answer.{done}
 use Rattle.posting.specs.Posting.{posting_at, narrow, read_of, write_out, compare_of, compare_bytes}
-use Rattle.posting.specs.declared.answer.Answer.TheVariants.{Done}
 
 -- every element is a byte; past the end 0 is read
 abbrev pub OfBytes : List ℕ → Type 0
@@ -12,7 +12,7 @@ OfBytes s = (i : ℕ) → get_or s i 0 < 256
 unfoldable pub ReadWritten : Type 0
 ReadWritten =
     (m t o s : ℕ) (out : List ℕ) → narrow m t o s ≡ true → 8 ≤ length out
-    → read_of (write_out m t o s out) ≡ record { answer = Done; mfn = m; tag = t; occurrence = o; sequence = s }
+    → read_of (write_out m t o s out) ≡ record { answer = done; mfn = m; tag = t; occurrence = o; sequence = s }
 
 -- writing what was read gives the eight bytes back
 unfoldable pub WrittenRead : Type 0

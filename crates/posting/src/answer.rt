@@ -1,24 +1,32 @@
-// The answers of the calls on postings, and the number of each.
+// Why a call on postings is refused, and the number of each answer.
 ghost use Rattle.std.specs.Prelude.{◌≡◌};
-ghost use Rattle.posting.specs.Answer.{number_of};
+ghost use Rattle.posting.specs.Answer.{number_of, refusal_number};
 
-#[derive(Clone, Copy)]
-pub enum Answer {
-    Done,
+#[derive(Clone, Copy, Debug, PartialEq, Eq)]
+pub enum Refusal {
     // What is to be written has more items, or bytes, than there is room for.
     NoRoom,
     // A rule of posting lists is broken, or a number is too wide.
     Broken,
 }
 
+impl From<Refusal> for u32 {
+    ghost from_gives = { λ r n. n ≡ refusal_number r };
+
+    fn from(r: Refusal) -> u32 {
+        match r {
+            Refusal::NoRoom => 17,
+            Refusal::Broken => 23,
+        }
+    }
+}
+
 // The number of an answer.
-#[tactic(auto, unfolding(crate::specs::Answer::number_of))]
-pub fn number(a: Answer) -> u32
+pub fn number(a: Result<(), Refusal>) -> u32
     ensures { result ≡ number_of a }
 {
     match a {
-        Answer::Done => 0,
-        Answer::NoRoom => 17,
-        Answer::Broken => 23,
+        Ok(()) => 0,
+        Err(r) => r.into(),
     }
 }

@@ -6,26 +6,27 @@ use mathlib.Core.List.{List}
 use lib.ListN.{length}
 use borrow.Author.Tests.{lt-ltb, le-ltb}
 use Rattle.word.specs.Overwrite.{overwrite}
-use Rattle.posting.specs.Answer.{leaves}
-use Rattle.postings.specs.Calls.{given_of, given_out}
-use Rattle.posting.specs.declared.answer.Answer.TheVariants.{Done, NoRoom, Broken}
-use Rattle.postings.specs.declared.list.Given.{Given}
+use Rattle.std.proofs.Common.{Result, Ok, Err}
+use Rattle.posting.specs.declared.answer.Refusal.{Refusal}
+use Rattle.posting.specs.declared.answer.Refusal.TheVariants.{NoRoom, Broken}
+use Rattle.postings.specs.Calls.{given, given_of, given_out}
 
--- an answer with its count, and the lent list afterwards
-abbrev pub Answered : Bool → List ℕ → List ℕ → Given → List ℕ → Type 0
-Answered right items out g last = (g ≡ given_of right items out) × (last ≡ given_out right items out)
+-- what is given or refused, and the lent list afterwards
+pub record Answered (right : Bool) (items out : List ℕ) (r : Result ℕ Refusal) (last : List ℕ) : Type 0 where
+  pub answers : given r ≡ given_of right items out
+  pub writes : last ≡ given_out right items out
 
 module _ (right : Bool) (items out : List ℕ) where
-  pub answered_broken : right ≡ false → Answered right items out (record { answer = Broken; count = 0 }) out
-  unfolding given_of given_out leaves
-  answered_broken e = (rw e, rw e)
+  pub answered_broken : right ≡ false → Answered right items out (Err Broken) out
+  unfolding given_of given_out
+  answered_broken e = record { answers = rw e; writes = rw e }
 
   module _ (e : right ≡ true) where
-    pub answered_full : length out < length items → Answered right items out (record { answer = NoRoom; count = 0 }) out
-    unfolding given_of given_out leaves
-    answered_full h = (rw (e, lt-ltb _ _ h), rw (e, lt-ltb _ _ h))
+    pub answered_full : length out < length items → Answered right items out (Err NoRoom) out
+    unfolding given_of given_out
+    answered_full h = record { answers = rw (e, lt-ltb _ _ h); writes = rw (e, lt-ltb _ _ h) }
 
     pub answered : (n : ℕ) (last : List ℕ) → length items ≤ length out → n ≡ length items → last ≡ overwrite out 0 items
-        → Answered right items out (record { answer = Done; count = n }) last
-    unfolding given_of given_out leaves
-    answered n last h c p = (rw (e, le-ltb _ _ h, c), rw (e, le-ltb _ _ h, p))
+        → Answered right items out (Ok n) last
+    unfolding given_of given_out
+    answered n last h c p = record { answers = rw (e, le-ltb _ _ h, c); writes = rw (e, le-ltb _ _ h, p) }

@@ -1,8 +1,8 @@
 -- Whether postings ascend, asked by runs: the turns of the loop over a run, and what a run makes of the rules for what is still to come.
-use Prim.Native.Nat.{ℕ, suc, ◌+◌, ◌*◌, ◌-◌, ◌≤◌, ◌<◌}
+use Prim.Native.Nat.{ℕ, suc, ◌+◌, ◌*◌, ◌-◌, ◌/◌, ◌≤◌, ◌<◌}
 use native.Mathlib.Omega.{arith}
 use mathlib.Core.Path.{◌≡◌, refl, sym, ap, ◌∙◌}
-use mathlib.Core.Bool.{Bool, true, false, ◌&&◌, and-true, and-false}
+use mathlib.Core.Bool.{Bool, true, false, ◌&&◌, and-false}
 use mathlib.Core.List.{List, []}
 use lib.Dec.{leb, eqb}
 use lib.ListN.{length}
@@ -10,28 +10,10 @@ use borrow.Author.Tests.{leb-true, lt-leb, le-leb, eq-eqb, ne_eqb, eqb-true, eqb
 use Rattle.word.proofs.Tests.{false_true, and_iff}
 use Rattle.posting.specs.Posting.{posting_at}
 use Rattle.postings.specs.Rules.{above}
-use Rattle.postings.specs.Cursor.{rest_of, stands_right, keeps_rules, InBlock, SettledFrom, row, run_size, past_of}
+use Rattle.postings.specs.Cursor.{rest_of, stands_right, keeps_rules, InBlock, Reached, row, run_size, past_of}
 use Rattle.postings.specs.declared.cursor.Cursor.{Cursor}
-use Rattle.postings.specs.declared.cursor.Settled.{Settled}
 use Rattle.postings.proofs.Runs.{row_append, row_above, size_some}
 use Rattle.postings.proofs.Cursors.{rest_taken, stands_taken, length_taken, less_taken}
-
--- ---- four postings
-
-module _ (f : List ℕ) (k at last p : ℕ) (is : p ≡ posting_at f at) where
-  first_of : above (suc last) (row f (suc k) at) ≡ (leb (suc last) p && above (suc p) (row f k (at + 8)))
-  unfolding row above
-  first_of = rw (← is)
-
-  pub first_falls : p ≤ last → false ≡ above (suc last) (row f (suc k) at)
-  first_falls g = sym (first_of ∙ rw (lt-leb (suc last) p (omega arith)))
-
-  pub first_climbs : last < p → above (suc last) (row f (suc k) at) ≡ above (suc p) (row f k (at + 8))
-  first_climbs g = first_of ∙ rw (le-leb (suc last) p (omega arith))
-
-pub only_climbs : (f : List ℕ) (at last p : ℕ) → p ≡ posting_at f at → leb (suc last) p ≡ above (suc last) (row f 1 at)
-unfolding row above
-only_climbs f at last p is = sym (rw (← is, and-true))
 
 -- ---- the loop over a run
 
@@ -57,21 +39,24 @@ module _ (f : List ℕ) (start n first : ℕ) where
     pub climb_more : last < p → above (suc first) (row f n start) ≡ above (suc p) (row f (n - (i + 1)) (start + 8 * (i + 1)))
     climb_more g = turn ∙ rw (le-leb (suc last) p (omega arith))
 
-  module _ (last i : ℕ) (h : i + 3 < n) (e : above (suc first) (row f n start) ≡ above (suc last) (row f (n - i) (start + 8 * i)))
-      (t : Bool) (is : t ≡ above (suc last) (row f 4 (start + 8 * i))) where
-    fours : above (suc first) (row f n start) ≡ (t && above (suc (posting_at f (start + 8 * i + 24))) (row f (n - (i + 4)) (start + 8 * (i + 4))))
+  -- four at once, behind 4 * k
+  module _ (last k : ℕ) (h : k < n / 4) (e : above (suc first) (row f n start) ≡ above (suc last) (row f (n - 4 * k) (start + 8 * (4 * k))))
+      (t : Bool) (is : t ≡ above (suc last) (row f 4 (start + 32 * k))) where
+    fours : above (suc first) (row f n start)
+        ≡ (t && above (suc (posting_at f (start + 32 * k + 24))) (row f (n - 4 * (k + 1)) (start + 8 * (4 * (k + 1)))))
     fours =
-        let k : n - i ≡ 4 + (n - (i + 4)) = omega arith in
-        let a : start + 8 * (i + 4) ≡ start + 8 * i + 8 * 4 = omega arith in
-        let b : start + 8 * i + 24 ≡ start + 8 * i + 8 * 3 = omega arith in
+        let m : n - 4 * k ≡ 4 + (n - 4 * (k + 1)) = omega arith in
+        let z : start + 8 * (4 * k) ≡ start + 32 * k = omega arith in
+        let a : start + 8 * (4 * (k + 1)) ≡ start + 32 * k + 8 * 4 = omega arith in
+        let b : start + 32 * k + 24 ≡ start + 32 * k + 8 * 3 = omega arith in
         e
-        ∙ rw (k, row_append f 4 (n - (i + 4)) (start + 8 * i), row_above f 4 (start + 8 * i) 3 (suc last) (row f (n - (i + 4)) (start + 8 * i + 8 * 4)) refl, is, a, b)
+        ∙ rw (m, z, row_append f 4 (n - 4 * (k + 1)) (start + 32 * k), row_above f 4 (start + 32 * k) 3 (suc last) (row f (n - 4 * (k + 1)) (start + 32 * k + 8 * 4)) refl, is, a, b)
 
     pub climb_four_falls : t ≡ false → false ≡ above (suc first) (row f n start)
     climb_four_falls g = sym (fours ∙ rw (g))
 
-    pub climb_four : t ≡ true → (p : ℕ) → p ≡ posting_at f (start + 8 * i + 24)
-        → above (suc first) (row f n start) ≡ above (suc p) (row f (n - (i + 4)) (start + 8 * (i + 4)))
+    pub climb_four : t ≡ true → (p : ℕ) → p ≡ posting_at f (start + 32 * k + 24)
+        → above (suc first) (row f n start) ≡ above (suc p) (row f (n - 4 * (k + 1)) (start + 8 * (4 * (k + 1))))
     climb_four g p q = fours ∙ rw (g, q)
 
   pub climb_done : (last i : ℕ) → n ≤ i → above (suc first) (row f n start) ≡ above (suc last) (row f (n - i) (start + 8 * i))
@@ -90,9 +75,6 @@ module _ (f : List ℕ) (at n floor : ℕ) (some : 1 ≤ n) where
       let k : n ≡ suc (n - 1) = omega arith in
       ap (λ (m : ℕ). above floor (row f m at)) k
 
-  pub ask_outside : length f < at + 8 * n → false ≡ (leb (at + 8 * n) (length f) && above floor (row f n at))
-  ask_outside h = rw (lt-leb (at + 8 * n) (length f) h)
-
   module _ (p : ℕ) (is : p ≡ posting_at f at) (r : Bool) (e : r ≡ leb floor p) where
     pub ask_falls : r ≡ false → false ≡ (leb (at + 8 * n) (length f) && above floor (row f n at))
     ask_falls t = rw (run_first, ← is, ← e, t, and-false)
@@ -103,11 +85,15 @@ module _ (f : List ℕ) (at n floor : ℕ) (some : 1 ≤ n) where
 
 -- ---- what is still to come
 
-pub keeps_over : (f : List ℕ) (c : Cursor) (due floor : ℕ) (w : Bool) → stands_right f c ≡ w → (w ≡ true → rest_of f c ≡ [])
-    → keeps_rules f c due floor ≡ (w && eqb due 0)
+-- b is what the whole list comes to, where nothing is left of it or what is left cannot be read
+pub right_over : (f : List ℕ) (c : Cursor) (due floor : ℕ) (b : Bool) → keeps_rules f c due floor ≡ b
+    → (stands_right f c ≡ true) × (rest_of f c ≡ []) → eqb due 0 ≡ b
 unfolding keeps_rules above
-keeps_over f c due floor true e n = rw (e, n refl)
-keeps_over f c due floor false e n = rw e
+right_over f c due floor b i e = sym (rw (e.0, e.1)) ∙ i
+
+pub right_unread : (f : List ℕ) (c : Cursor) (due floor : ℕ) (b : Bool) → keeps_rules f c due floor ≡ b → stands_right f c ≡ false → false ≡ b
+unfolding keeps_rules
+right_unread f c due floor b i e = sym (rw e) ∙ i
 
 chain_false : (l s a b e : Bool) → l && a ≡ false → (((l && s) && (a && b)) && e) ≡ false
 chain_false true s true b e h = absurd (false_true (sym h))
@@ -159,34 +145,27 @@ module _ (f : List ℕ) (d : Cursor) (n : ℕ) (stands : InBlock f d) (some : 0 
 
 -- ---- the turns of `right`: b is what the whole list comes to
 
-module _ (f : List ℕ) (c : Cursor) (s : Settled) (t : SettledFrom f c s) (due floor : ℕ) (b : Bool) (i : keeps_rules f c due floor ≡ b) where
-  pub right_over : s.cursor.left ≡ 0 → (r : Bool) → r ≡ (s.whole && eqb due 0) → r ≡ b
-  right_over z r e = e ∙ sym (keeps_over f c due floor s.whole (t.over z) (t.none z)) ∙ i
+module _ (f : List ℕ) (c d : Cursor) (t : Reached f c d) (due floor : ℕ) (b : Bool) (i : keeps_rules f c due floor ≡ b) (n : ℕ) (is : n ≡ run_size d.at d.left) where
+  same_keeps : keeps_rules f d due floor ≡ b
+  unfolding keeps_rules
+  same_keeps = rw (t.rest, t.right) i
 
-  module _ (some : s.cursor.left ≡ 0 → ⊥) (n : ℕ) (is : n ≡ run_size s.cursor.at s.cursor.left) where
-    left_some : 0 < s.cursor.left
-    left_some = omega (arith, some)
+  pub right_short : due < n → false ≡ b
+  right_short h = sym (keeps_short f d n t.in_block t.some is due floor h) ∙ same_keeps
 
-    same_keeps : keeps_rules f s.cursor due floor ≡ b
-    unfolding keeps_rules
-    same_keeps = rw (t.rest left_some, t.right left_some) i
+  module _ (r : Bool) (e : r ≡ (leb (d.at + 8 * n) (length f) && above floor (row f n d.at))) where
+    pub right_wrong : r ≡ false → false ≡ b
+    right_wrong z = sym (keeps_wrong f d n t.in_block t.some is due floor (sym e ∙ z)) ∙ same_keeps
 
-    pub right_short : due < n → false ≡ b
-    right_short h = sym (keeps_short f s.cursor n t.in_block left_some is due floor h) ∙ same_keeps
+    pub right_inside : r ≡ true → d.at + 8 * n ≤ length f
+    right_inside z = leb-true _ _ ((and_iff _ _).0 (sym e ∙ z)).0
 
-    module _ (r : Bool) (e : r ≡ (leb (s.cursor.at + 8 * n) (length f) && above floor (row f n s.cursor.at))) where
-      pub right_wrong : r ≡ false → false ≡ b
-      right_wrong z = sym (keeps_wrong f s.cursor n t.in_block left_some is due floor (sym e ∙ z)) ∙ same_keeps
+    pub right_again : r ≡ true → n ≤ due → (last : ℕ) → last ≡ posting_at f (d.at + 8 * (n - 1))
+        → keeps_rules f (past_of d n) (due - n) (suc last) ≡ b
+    right_again z l last q =
+        ap (λ (k : ℕ). keeps_rules f (past_of d n) (due - n) (suc k)) q
+        ∙ sym (keeps_taken f d n t.in_block t.some is due floor (sym e ∙ z) l)
+        ∙ same_keeps
 
-      pub right_inside : r ≡ true → s.cursor.at + 8 * n ≤ length f
-      right_inside z = leb-true _ _ ((and_iff _ _).0 (sym e ∙ z)).0
-
-      pub right_again : r ≡ true → n ≤ due → (last : ℕ) → last ≡ posting_at f (s.cursor.at + 8 * (n - 1))
-          → keeps_rules f (past_of s.cursor n) (due - n) (suc last) ≡ b
-      right_again z l last q =
-          ap (λ (k : ℕ). keeps_rules f (past_of s.cursor n) (due - n) (suc k)) q
-          ∙ sym (keeps_taken f s.cursor n t.in_block left_some is due floor (sym e ∙ z) l)
-          ∙ same_keeps
-
-    pub right_less : length (rest_of f (past_of s.cursor n)) < length (rest_of f c)
-    right_less = omega (arith, less_taken f s.cursor n t.in_block left_some is, ap length (t.rest left_some))
+  pub right_less : length (rest_of f (past_of d n)) < length (rest_of f c)
+  right_less = omega (arith, less_taken f d n t.in_block t.some is, ap length t.rest)

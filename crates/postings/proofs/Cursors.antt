@@ -6,16 +6,15 @@ use mathlib.Core.Bool.{Bool, true, false, ◌&&◌, cond, and-false, and_assoc}
 use mathlib.Core.List.{List, [], ◌∷◌, ◌++◌, append_assoc}
 use lib.Dec.{leb}
 use lib.ListN.{length, length-append}
-use Rattle.word.proofs.Tests.{false_true, and_iff}
-use Rattle.postings.specs.Segment.{Place, is_end, next_of, count_of, first_of, header_inside, count_right, header_of, run, run_inside}
+use Rattle.word.proofs.Tests.{and_iff}
+use Rattle.std.proofs.Common.{Option, Some, None}
+use Rattle.postings.specs.declared.segment.Place.{Place}
+use Rattle.postings.specs.Segment.{is_end, next_of, count_of, first_of, header_inside, count_right, header_of, run, run_inside}
 use Rattle.postings.specs.Rules.{segments_from, ends_within, postings_of, headers_inside, counts_right, postings_inside}
-use Rattle.postings.specs.Cursor.{segments_after, segments_right, next_place, rest_of, stands_right, InBlock, SettledFrom, row, run_size, past_of}
+use Rattle.postings.specs.Cursor.{segments_after, segments_right, rest_of, stands_right, InBlock, Reached, row, run_size, past_of}
 use Rattle.postings.specs.declared.segment.Segment.{Segment}
-use Rattle.postings.specs.declared.segment.Header.{Header}
-use Rattle.postings.specs.declared.segment.Header.TheVariants.{At, Bad}
 use Rattle.postings.specs.declared.cursor.Cursor.{Cursor}
-use Rattle.postings.specs.declared.cursor.Settled.{Settled}
-use Rattle.postings.proofs.Headers.{header_told, header_bad, header_facts, segment_of}
+use Rattle.postings.proofs.Headers.{header_told, header_none, header_facts, segment_of}
 use Rattle.postings.proofs.Runs.{row_length, run_taken, inside_taken, size_some}
 
 -- ---- segments
@@ -53,18 +52,18 @@ first_in_block len p e = (omega (arith, (header_facts len p e).word_in), omega (
 
 -- the cursor c in the segment s
 abbrev pub entered : Cursor → Segment → Cursor
-entered c s = record { at = s.first; left = s.count; nxtb = s.nxtb; nxtp = s.nxtp; fuel = c.fuel - 1 }
+entered c s = record { at = s.first; left = s.count; next = s.next; fuel = c.fuel - 1 }
 
 module _ (f : List ℕ) (c : Cursor) (empty : c.left ≡ 0) where
-  empty_rest : rest_of f c ≡ postings_of f (segments_after f c.fuel (next_place c))
+  empty_rest : rest_of f c ≡ postings_of f (segments_after f c.fuel c.next)
   unfolding rest_of run
   empty_rest = rw empty
 
-  empty_right : stands_right f c ≡ segments_right f c.fuel (next_place c)
+  empty_right : stands_right f c ≡ segments_right f c.fuel c.next
   unfolding stands_right run_inside
   empty_right = rw empty
 
-  module _ (over : is_end (next_place c) ≡ true) where
+  module _ (over : is_end c.next ≡ true) where
     pub over_rest : rest_of f c ≡ []
     unfolding segments_after postings_of
     over_rest = empty_rest ∙ rw over
@@ -73,7 +72,7 @@ module _ (f : List ℕ) (c : Cursor) (empty : c.left ≡ 0) where
     unfolding segments_right segments_after headers_inside counts_right postings_inside
     over_right = empty_right ∙ rw over
 
-  module _ (more : is_end (next_place c) ≡ false) where
+  module _ (more : is_end c.next ≡ false) where
     none_left : c.fuel ≡ 0 → stands_right f c ≡ false
     unfolding segments_right ends_within
     none_left e = empty_right ∙ rw (e, more)
@@ -83,24 +82,24 @@ module _ (f : List ℕ) (c : Cursor) (empty : c.left ≡ 0) where
       fuel_more = omega arith
 
       more_right : stands_right f c
-          ≡ (((header_inside (length f) (next_place c) && count_right f (next_place c))
-          && run_inside (length f) (count_of f (next_place c)) (first_of (next_place c)))
-          && segments_right f (c.fuel - 1) (next_of f (next_place c)))
+          ≡ (((header_inside (length f) c.next && count_right f c.next)
+          && run_inside (length f) (count_of f c.next) (first_of c.next))
+          && segments_right f (c.fuel - 1) (next_of f c.next))
       more_right =
-          empty_right ∙ ap (λ (k : ℕ). segments_right f k (next_place c)) fuel_more ∙ segments_right_more f (c.fuel - 1) (next_place c) more
+          empty_right ∙ ap (λ (k : ℕ). segments_right f k c.next) fuel_more ∙ segments_right_more f (c.fuel - 1) c.next more
 
-      wrong_header : header_inside (length f) (next_place c) && count_right f (next_place c) ≡ false → stands_right f c ≡ false
+      wrong_header : header_inside (length f) c.next && count_right f c.next ≡ false → stands_right f c ≡ false
       wrong_header e = more_right ∙ rw e
 
-      enter_rest : rest_of f c ≡ rest_of f (entered c (segment_of f (next_place c)))
+      enter_rest : rest_of f c ≡ rest_of f (entered c (segment_of f c.next))
       unfolding rest_of postings_of
       enter_rest =
           empty_rest
-          ∙ ap (λ (k : ℕ). postings_of f (segments_after f k (next_place c))) fuel_more
-          ∙ ap (postings_of f) (segments_more f (c.fuel - 1) (next_place c) more)
+          ∙ ap (λ (k : ℕ). postings_of f (segments_after f k c.next)) fuel_more
+          ∙ ap (postings_of f) (segments_more f (c.fuel - 1) c.next more)
 
-      enter_right : header_inside (length f) (next_place c) && count_right f (next_place c) ≡ true
-          → stands_right f c ≡ stands_right f (entered c (segment_of f (next_place c)))
+      enter_right : header_inside (length f) c.next && count_right f c.next ≡ true
+          → stands_right f c ≡ stands_right f (entered c (segment_of f c.next))
       unfolding stands_right
       enter_right e = more_right ∙ rw e
 
@@ -115,56 +114,31 @@ pub moved_none : (f : List ℕ) (start : Cursor) → InBlock f start → Moved f
 moved_none f start b = record { in_block = b; rest = refl; right = refl }
 
 module _ (f : List ℕ) (start c : Cursor) (m : Moved f start c) where
-  pub settle_on : (c.left ≡ 0 → ⊥) → SettledFrom f start (record { whole = true; cursor = c })
-  settle_on n =
-      record {
-        in_block = m.in_block;
-        rest = λ _. m.rest;
-        right = λ _. m.right;
-        over = λ z. absurd (n z);
-        none = λ z _. absurd (n z);
-      }
+  pub settle_on : (c.left ≡ 0 → ⊥) → Reached f start c
+  settle_on n = record { some = omega (arith, n); in_block = m.in_block; rest = m.rest; right = m.right }
 
-  module _ (empty : c.left ≡ 0) where
-    stopped : stands_right f c ≡ false → SettledFrom f start (record { whole = false; cursor = c })
-    stopped w =
-        record {
-          in_block = m.in_block;
-          rest = λ h. absurd (omega arith);
-          right = λ h. absurd (omega arith);
-          over = λ _. sym m.right ∙ w;
-          none = λ _ t. absurd (false_true t);
-        }
+  module _ (empty : c.left ≡ 0) (e : Bool) (q : e ≡ is_end c.next) where
+    pub settle_over : e ≡ true → (stands_right f start ≡ true) × (rest_of f start ≡ [])
+    settle_over t = (sym m.right ∙ over_right f c empty (sym q ∙ t), sym m.rest ∙ over_rest f c empty (sym q ∙ t))
 
-    module _ (e : Bool) (q : e ≡ is_end (next_place c)) where
-      pub settle_over : e ≡ true → SettledFrom f start (record { whole = true; cursor = c })
-      settle_over t =
-          record {
-            in_block = m.in_block;
-            rest = λ h. absurd (omega arith);
-            right = λ h. absurd (omega arith);
-            over = λ _. sym m.right ∙ over_right f c empty (sym q ∙ t);
-            none = λ _ _. sym m.rest ∙ over_rest f c empty (sym q ∙ t);
-          }
+    module _ (more : e ≡ false) where
+      pub settle_none : c.fuel ≡ 0 → stands_right f start ≡ false
+      settle_none z = sym m.right ∙ none_left f c empty (sym q ∙ more) z
 
-      module _ (more : e ≡ false) where
-        pub settle_none : c.fuel ≡ 0 → SettledFrom f start (record { whole = false; cursor = c })
-        settle_none z = stopped (none_left f c empty (sym q ∙ more) z)
+      module _ (some : c.fuel ≡ 0 → ⊥) (h : Option Segment) (r : h ≡ header_of f c.next) where
+        pub settle_bad : h ≡ None → stands_right f start ≡ false
+        settle_bad b = sym m.right ∙ wrong_header f c empty (sym q ∙ more) some (header_none f c.next h r b)
 
-        module _ (some : c.fuel ≡ 0 → ⊥) (h : Header) (r : h ≡ header_of f (next_place c)) where
-          pub settle_bad : h ≡ Bad → SettledFrom f start (record { whole = false; cursor = c })
-          settle_bad b = stopped (wrong_header f c empty (sym q ∙ more) some (header_bad f (next_place c) h r b))
-
-          pub settle_enter : (s : Segment) → h ≡ At s → Moved f start (entered c s)
-          settle_enter s a =
-              let t = header_told f (next_place c) h s r a in
-              let i = ((and_iff (header_inside (length f) (next_place c)) (count_right f (next_place c))).0 t.0).0 in
-              let b : InBlock f (entered c (segment_of f (next_place c))) = first_in_block (length f) (next_place c) i in
-              record {
-                in_block = rw (← t.1) b;
-                rest = ap (λ (s : Segment). rest_of f (entered c s)) (sym t.1) ∙ sym (enter_rest f c empty (sym q ∙ more) some) ∙ m.rest;
-                right = ap (λ (s : Segment). stands_right f (entered c s)) (sym t.1) ∙ sym (enter_right f c empty (sym q ∙ more) some t.0) ∙ m.right;
-              }
+        pub settle_enter : (s : Segment) → h ≡ Some s → Moved f start (entered c s)
+        settle_enter s a =
+            let t = header_told f c.next h s r a in
+            let i = ((and_iff (header_inside (length f) c.next) (count_right f c.next)).0 t.0).0 in
+            let b : InBlock f (entered c (segment_of f c.next)) = first_in_block (length f) c.next i in
+            record {
+              in_block = rw (← t.1) b;
+              rest = ap (λ (s : Segment). rest_of f (entered c s)) (sym t.1) ∙ sym (enter_rest f c empty (sym q ∙ more) some) ∙ m.rest;
+              right = ap (λ (s : Segment). stands_right f (entered c s)) (sym t.1) ∙ sym (enter_right f c empty (sym q ∙ more) some t.0) ∙ m.right;
+            }
 
 -- ---- a run is taken
 
@@ -175,14 +149,14 @@ module _ (f : List ℕ) (c : Cursor) (n : ℕ) (stands : InBlock f c) (some : 0 
   pub rest_taken : rest_of f c ≡ row f n c.at ++ rest_of f (past_of c n)
   unfolding rest_of
   rest_taken =
-      ap (λ (xs : List ℕ). xs ++ postings_of f (segments_after f c.fuel (next_place c))) (run_taken f c.at c.left n stands.0 some is)
-      ∙ append_assoc (row f n c.at) (run f (c.left - n) (c.at / 512 * 512 + 516)) (postings_of f (segments_after f c.fuel (next_place c)))
+      ap (λ (xs : List ℕ). xs ++ postings_of f (segments_after f c.fuel c.next)) (run_taken f c.at c.left n stands.0 some is)
+      ∙ append_assoc (row f n c.at) (run f (c.left - n) (c.at / 512 * 512 + 516)) (postings_of f (segments_after f c.fuel c.next))
 
   pub stands_taken : stands_right f c ≡ (leb (c.at + 8 * n) (length f) && stands_right f (past_of c n))
   unfolding stands_right
   stands_taken =
-      ap (λ (b : Bool). b && segments_right f c.fuel (next_place c)) (inside_taken f c.at c.left n stands.0 some is (length f))
-      ∙ and_assoc (leb (c.at + 8 * n) (length f)) (run_inside (length f) (c.left - n) (c.at / 512 * 512 + 516)) (segments_right f c.fuel (next_place c))
+      ap (λ (b : Bool). b && segments_right f c.fuel c.next) (inside_taken f c.at c.left n stands.0 some is (length f))
+      ∙ and_assoc (leb (c.at + 8 * n) (length f)) (run_inside (length f) (c.left - n) (c.at / 512 * 512 + 516)) (segments_right f c.fuel c.next)
 
   pub length_taken : length (rest_of f c) ≡ n + length (rest_of f (past_of c n))
   length_taken = ap length rest_taken ∙ length-append (row f n c.at) (rest_of f (past_of c n)) ∙ rw (row_length f n c.at)
@@ -191,28 +165,20 @@ module _ (f : List ℕ) (c : Cursor) (n : ℕ) (stands : InBlock f c) (some : 0 
   less_taken = omega (arith, length_taken, size_some f c.at c.left n stands.0 some is)
 
 -- a cursor whose list can be read
-module _ (f : List ℕ) (c : Cursor) (s : Settled) (t : SettledFrom f c s) (right : stands_right f c ≡ true) where
-  pub read_over : s.cursor.left ≡ 0 → rest_of f c ≡ []
-  read_over z = t.none z (sym (t.over z) ∙ right)
+module _ (f : List ℕ) (c d : Cursor) (t : Reached f c d) (right : stands_right f c ≡ true) (n : ℕ) (is : n ≡ run_size d.at d.left) where
+  both_right : (leb (d.at + 8 * n) (length f) ≡ true) × (stands_right f (past_of d n) ≡ true)
+  both_right =
+      (and_iff (leb (d.at + 8 * n) (length f)) (stands_right f (past_of d n))).0
+      (sym (stands_taken f d n t.in_block t.some is) ∙ t.right ∙ right)
 
-  module _ (some : s.cursor.left ≡ 0 → ⊥) where
-    left_some : 0 < s.cursor.left
-    left_some = omega (arith, some)
+  pub read_inside : leb (d.at + 8 * n) (length f) ≡ true
+  read_inside = both_right.0
 
-    module _ (n : ℕ) (is : n ≡ run_size s.cursor.at s.cursor.left) where
-      both_right : (leb (s.cursor.at + 8 * n) (length f) ≡ true) × (stands_right f (past_of s.cursor n) ≡ true)
-      both_right =
-          (and_iff (leb (s.cursor.at + 8 * n) (length f)) (stands_right f (past_of s.cursor n))).0
-          (sym (stands_taken f s.cursor n t.in_block left_some is) ∙ t.right left_some ∙ right)
+  pub read_past : stands_right f (past_of d n) ≡ true
+  read_past = both_right.1
 
-      pub read_inside : leb (s.cursor.at + 8 * n) (length f) ≡ true
-      read_inside = both_right.0
+  pub read_rest : rest_of f c ≡ row f n d.at ++ rest_of f (past_of d n)
+  read_rest = sym t.rest ∙ rest_taken f d n t.in_block t.some is
 
-      pub read_past : stands_right f (past_of s.cursor n) ≡ true
-      read_past = both_right.1
-
-      pub read_rest : rest_of f c ≡ row f n s.cursor.at ++ rest_of f (past_of s.cursor n)
-      read_rest = sym (t.rest left_some) ∙ rest_taken f s.cursor n t.in_block left_some is
-
-      pub read_less : length (rest_of f (past_of s.cursor n)) < length (rest_of f c)
-      read_less = omega (arith, less_taken f s.cursor n t.in_block left_some is, ap length (t.rest left_some))
+  pub read_less : length (rest_of f (past_of d n)) < length (rest_of f c)
+  read_less = omega (arith, less_taken f d n t.in_block t.some is, ap length t.rest)

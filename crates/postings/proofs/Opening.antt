@@ -5,35 +5,17 @@ use mathlib.Core.Path.{◌≡◌, refl, sym, ap, ◌∙◌}
 use mathlib.Core.Bool.{Bool, true, false, ◌&&◌, cond, and-false}
 use mathlib.Core.List.{List, ◌∷◌}
 use lib.ListN.{length}
-use borrow.Author.Tests.{lt-ltb, le-ltb}
-use Rattle.word.proofs.Tests.{false_true, and_iff}
-use Rattle.postings.specs.Segment.{Place, is_end, next_of, total_of, count_of, first_of, header_inside, count_right, header_of, run_inside}
+use borrow.Author.Tests.{lt-ltb, le-ltb, eqb-true}
+use Rattle.word.proofs.Tests.{and_iff}
+use Rattle.std.proofs.Common.{Option, Some, None}
+use Rattle.postings.specs.declared.segment.Place.{Place}
+use Rattle.postings.specs.Segment.{is_end, next_of, total_of, count_of, first_of, header_inside, count_right, header_of, run_inside}
 use Rattle.postings.specs.Rules.{words_of, segments_from, ends_within, postings_of, headers_inside, counts_right, postings_inside, ascends, total_right, list_of, list_right}
-use Rattle.postings.specs.Cursor.{segments_after, segments_right, next_place, rest_of, stands_right, keeps_rules, InBlock}
+use Rattle.postings.specs.Cursor.{segments_after, segments_right, rest_of, stands_right, keeps_rules, InBlock, OpensList}
 use Rattle.postings.specs.declared.segment.Segment.{Segment}
-use Rattle.postings.specs.declared.segment.Header.{Header}
-use Rattle.postings.specs.declared.segment.Header.TheVariants.{At, Bad}
 use Rattle.postings.specs.declared.list.Opened.{Opened}
-use Rattle.postings.proofs.Headers.{header_told, header_bad, header_facts, segment_of}
-use Rattle.postings.proofs.Cursors.{shuffle, first_in_block, over_rest}
-
--- the list at p is opened
-abbrev pub OpenedAt : List ℕ → Place → Opened → Type 0
-OpenedAt f p o =
-    (keeps_rules f o.cursor o.total 0 ≡ list_right f p) × ((list_right f p ≡ true → rest_of f o.cursor ≡ list_of f p) × InBlock f o.cursor)
-
--- what keeps no rule
-abbrev Broken : Opened → Type 0
-Broken o = (o.total ≡ 1) × (o.cursor.left ≡ 0) × (o.cursor.nxtb ≡ 0) × (o.cursor.nxtp ≡ 0) × (o.cursor.at ≡ 0)
-
-broken_keeps : (f : List ℕ) (o : Opened) → Broken o → keeps_rules f o.cursor o.total 0 ≡ false
-unfolding keeps_rules
-broken_keeps f o b =
-    let e : is_end (next_place o.cursor) ≡ true = rw (b.2, b.3) in
-    rw (over_rest f o.cursor b.1 e, b.0, and-false)
-
-opened_broken : (f : List ℕ) (p : Place) (o : Opened) → Broken o → list_right f p ≡ false → OpenedAt f p o
-opened_broken f p o b l = (rw l (broken_keeps f o b), ((λ t. absurd (false_true (sym l ∙ t))), (omega (arith, b.4), omega (arith, b.4))))
+use Rattle.postings.proofs.Headers.{header_told, header_none, header_facts, segment_of}
+use Rattle.postings.proofs.Cursors.{shuffle, first_in_block}
 
 -- the segments of a list, of which the first is p
 module _ (f : List ℕ) (p : Place) (k : ℕ) (w : words_of f ≡ suc k) where
@@ -88,24 +70,24 @@ abbrev opened_of : List ℕ → Segment → Opened
 opened_of f s =
     record {
       total = s.total;
-      cursor = record { at = s.first; left = s.count; nxtb = s.nxtb; nxtp = s.nxtp; fuel = length f / 4 - 1 };
+      cursor = record { at = s.first; left = s.count; next = s.next; fuel = length f / 4 - 1 };
     }
 
-module _ (f : List ℕ) (p : Place) (h : Header) (r : h ≡ header_of f p) where
-  pub open_bad : (o : Opened) → h ≡ Bad → Broken o → OpenedAt f p o
-  open_bad o b e = opened_broken f p o e (list_bad f p (header_bad f p h r b))
+module _ (f : List ℕ) (p : Place) (h : Option Segment) (r : h ≡ header_of f p) where
+  pub open_bad : h ≡ None → list_right f p ≡ false
+  open_bad b = list_bad f p (header_none f p h r b)
 
-  module _ (s : Segment) (a : h ≡ At s) where
+  module _ (s : Segment) (a : h ≡ Some s) where
     header_in : header_inside (length f) p ≡ true
     header_in = ((and_iff (header_inside (length f) p) (count_right f p)).0 (header_told f p h s r a).0).0
 
     pub open_words : 1 ≤ length f / 4
     open_words = omega (arith, (header_facts (length f) p header_in).file_in)
 
-    pub open_total : (o : Opened) → 2147483648 ≤ s.total → Broken o → OpenedAt f p o
-    open_total o l e =
+    pub open_total : 2147483648 ≤ s.total → list_right f p ≡ false
+    open_total l =
         let t : total_of f p ≡ s.total = ap (λ (x : Segment). x.total) (header_told f p h s r a).1 in
-        opened_broken f p o e (list_total f p (omega arith))
+        list_total f p (omega arith)
 
     words_are : words_of f ≡ suc (length f / 4 - 1)
     words_are = omega (arith, open_words)
@@ -119,11 +101,39 @@ module _ (f : List ℕ) (p : Place) (h : Header) (r : h ≡ header_of f p) where
     opened_right l =
         rw (list_right_lem f p (length f / 4 - 1) words_are, (header_told f p h s r a).0, opened_rest, lt-ltb _ _ l)
 
-    pub open_at : s.total < 2147483648 → OpenedAt f p (opened_of f s)
+    pub open_at : s.total < 2147483648 → OpensList f p (opened_of f s)
     open_at l =
         let e = (header_told f p h s r a).1 in
         let t : total_of f p ≡ s.total = ap (λ (x : Segment). x.total) e in
-        let b : InBlock f (opened_of f (segment_of f p)).cursor = first_in_block (length f) p header_in in (
-          ap (λ (x : Segment). keeps_rules f (opened_of f x).cursor x.total 0) (sym e) ∙ opened_right (omega arith),
-          ((λ _. ap (λ (x : Segment). rest_of f (opened_of f x).cursor) (sym e) ∙ opened_rest), rw (← e) b),
-        )
+        let b : InBlock f (opened_of f (segment_of f p)).cursor = first_in_block (length f) p header_in in
+        record {
+          in_block = rw (← e) b;
+          right = ap (λ (x : Segment). keeps_rules f (opened_of f x).cursor x.total 0) (sym e) ∙ opened_right (omega arith);
+          rest = λ _. ap (λ (x : Segment). rest_of f (opened_of f x).cursor) (sym e) ∙ opened_rest;
+        }
+
+-- ---- an opened list that is asked the rules
+
+-- the list at p keeps the rules, and is what is still to come
+pub record SoundList (f : List ℕ) (p : Place) (o : Opened) : Type 0 where
+  pub right : list_right f p ≡ true
+  pub in_block : InBlock f o.cursor
+  pub stands : stands_right f o.cursor ≡ true
+  pub rest : rest_of f o.cursor ≡ list_of f p
+  pub total : o.total ≡ length (list_of f p)
+
+-- a list that keeps the rules can be read, and has as many postings as its total says
+keeps_reads : (f : List ℕ) (o : Opened) → keeps_rules f o.cursor o.total 0 ≡ true
+    → (stands_right f o.cursor ≡ true) × (o.total ≡ length (rest_of f o.cursor))
+unfolding keeps_rules
+keeps_reads f o e = let q = simp and_iff at e in (q.0.0, eqb-true o.total (length (rest_of f o.cursor)) q.1)
+
+module _ (f : List ℕ) (p : Place) (o : Opened) (t : OpensList f p o) (r : Bool) (g : r ≡ keeps_rules f o.cursor o.total 0) where
+  pub sound_not : r ≡ false → list_right f p ≡ false
+  sound_not n = sym t.right ∙ sym g ∙ n
+
+  pub sound_yes : r ≡ true → SoundList f p o
+  sound_yes n =
+      let k = keeps_reads f o (sym g ∙ n) in
+      let l : list_right f p ≡ true = sym t.right ∙ sym g ∙ n in
+      record { right = l; in_block = t.in_block; stands = k.0; rest = t.rest l; total = k.1 ∙ ap length (t.rest l) }

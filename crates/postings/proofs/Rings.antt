@@ -10,7 +10,8 @@ use lib.Dec.{ltb, eqb}
 use lib.ListN.{length}
 use borrow.Author.Tests.{ltb-true, lt-ltb, eqb-true, eqb-false, not-true}
 use Rattle.word.specs.Integer.{u32_at}
-use Rattle.postings.specs.Segment.{Place, spot, offset_of, next_of, is_end, header_inside}
+use Rattle.postings.specs.declared.segment.Place.{Place}
+use Rattle.postings.specs.Segment.{spot, offset_of, next_of, is_end, header_inside}
 use Rattle.postings.specs.Rules.{words_of, segments_from, segments_of, ends_within, headers_inside, word_number, among_segments, each_once}
 use Rattle.word.proofs.Tests.{false_true, and_iff, or_false}
 use Rattle.postings.proofs.Headers.{header_facts}

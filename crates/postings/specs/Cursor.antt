@@ -1,11 +1,13 @@
 -- Inner: what a cursor stands for, the postings that are still to come and whether they can be read, and the run at which it stands: those of
 -- them that stand in one block, eight bytes apart.
-use Rattle.std.specs.Prelude.{ℕ, zero, suc, ◌+◌, ◌*◌, ◌-◌, ◌/◌, ◌%◌, min, ◌≤◌, ◌<◌, ◌≡◌, Bool, true, ◌&&◌, cond, List, [], ◌∷◌, ◌++◌, eqb, length}
+use Rattle.std.specs.Prelude.{ℕ, zero, suc, ◌+◌, ◌*◌, ◌-◌, ◌/◌, ◌%◌, min, ◌≤◌, ◌<◌, ◌≡◌, Bool, true, false, ◌&&◌, cond, List, [], ◌∷◌, ◌++◌, eqb, length, Option, Some, None, Result, Ok, Err}
 use Rattle.posting.specs.Posting.{posting_at}
-use Rattle.postings.specs.Segment.{Place, spot, is_end, run, run_inside}
-use Rattle.postings.specs.Rules.{segments_from, ends_within, postings_of, headers_inside, counts_right, postings_inside, above}
+use Rattle.posting.specs.declared.answer.Refusal.{Refusal}
+use Rattle.postings.specs.Segment.{is_end, run, run_inside}
+use Rattle.postings.specs.Rules.{segments_from, ends_within, postings_of, headers_inside, counts_right, postings_inside, above, list_of, list_right}
+use Rattle.postings.specs.declared.segment.Place.{Place}
 use Rattle.postings.specs.declared.cursor.Cursor.{Cursor}
-use Rattle.postings.specs.declared.cursor.Settled.{Settled}
+use Rattle.postings.specs.declared.list.Opened.{Opened}
 
 -- ---- what is still to come
 
@@ -21,36 +23,47 @@ segments_right f k q =
     && counts_right f (segments_after f k q)
     && postings_inside f (segments_after f k q)
 
-abbrev pub next_place : Cursor → Place
-next_place c = spot c.nxtb c.nxtp
-
 -- the postings still to come
 unfoldable pub rest_of : List ℕ → Cursor → List ℕ
-rest_of f c = run f c.left c.at ++ postings_of f (segments_after f c.fuel (next_place c))
+rest_of f c = run f c.left c.at ++ postings_of f (segments_after f c.fuel c.next)
 
 -- they are inside the file, and so are the headers on the way
 unfoldable pub stands_right : List ℕ → Cursor → Bool
-stands_right f c = run_inside (length f) c.left c.at && segments_right f c.fuel (next_place c)
+stands_right f c = run_inside (length f) c.left c.at && segments_right f c.fuel c.next
 
 -- there is room for a posting in the block, from the cursor's place on, which is not far behind the file
 abbrev pub InBlock : List ℕ → Cursor → Type 0
 InBlock f c = (c.at % 512 ≤ 504) × (c.at ≤ length f + 516)
 
--- the least posting that may come next
-abbrev pub floor_of : Bool → ℕ → ℕ
-floor_of any last = cond any (suc last) 0
+-- the least posting that may come next, after the last one, if there is one
+abbrev pub floor_of : Option ℕ → ℕ
+floor_of None = 0
+floor_of (Some last) = suc last
 
 -- what is still to come keeps all rules, with so many postings due, from a floor on
 unfoldable pub keeps_rules : List ℕ → Cursor → ℕ → ℕ → Bool
 keeps_rules f c due floor = stands_right f c && above floor (rest_of f c) && eqb due (length (rest_of f c))
 
--- the cursor c moved on to the next posting, over empty segments: none is left in its segment where the list is over, or cannot be read
-pub record SettledFrom (f : List ℕ) (c : Cursor) (s : Settled) : Type 0 where
-  pub in_block : InBlock f s.cursor
-  pub rest : 0 < s.cursor.left → rest_of f s.cursor ≡ rest_of f c
-  pub right : 0 < s.cursor.left → stands_right f s.cursor ≡ stands_right f c
-  pub over : s.cursor.left ≡ 0 → stands_right f c ≡ s.whole
-  pub none : s.cursor.left ≡ 0 → s.whole ≡ true → rest_of f c ≡ []
+-- d is the cursor c moved on to the next posting, over empty segments
+pub record Reached (f : List ℕ) (c d : Cursor) : Type 0 where
+  pub some : 0 < d.left
+  pub in_block : InBlock f d
+  pub rest : rest_of f d ≡ rest_of f c
+  pub right : stands_right f d ≡ stands_right f c
+
+-- what moving on gives: that cursor, none where the list is over, or a refusal where it cannot be read
+abbrev pub SettledFrom : List ℕ → Cursor → Result (Option Cursor) Refusal → Type 0
+SettledFrom f c (Ok (Some d)) = Reached f c d
+SettledFrom f c (Ok None) = (stands_right f c ≡ true) × (rest_of f c ≡ [])
+SettledFrom f c (Err r) = stands_right f c ≡ false
+
+-- ---- a list that is opened
+
+-- what is still to come keeps the rules exactly if the list at p does, and is it where it does
+pub record OpensList (f : List ℕ) (p : Place) (o : Opened) : Type 0 where
+  pub in_block : InBlock f o.cursor
+  pub right : keeps_rules f o.cursor o.total 0 ≡ list_right f p
+  pub rest : list_right f p ≡ true → rest_of f o.cursor ≡ list_of f p
 
 -- ---- a run
 
@@ -65,4 +78,4 @@ run_size at left = min left ((512 - at % 512) / 8)
 
 -- the cursor c behind its run of n postings: what is left of the segment begins at word 0 of the next block
 abbrev pub past_of : Cursor → ℕ → Cursor
-past_of c n = record { at = c.at / 512 * 512 + 516; left = c.left - n; nxtb = c.nxtb; nxtp = c.nxtp; fuel = c.fuel }
+past_of c n = record { at = c.at / 512 * 512 + 516; left = c.left - n; next = c.next; fuel = c.fuel }

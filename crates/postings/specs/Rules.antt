@@ -1,7 +1,8 @@
 -- The segments of a list, its postings in stored order, and the rules of answer 23, one definition each. Document 02, C-14.
 -- A word outside the file reads as 0 here; a list with such a header is refused by `headers_inside`.
 use Rattle.std.specs.Prelude.{ℕ, zero, suc, ◌+◌, ◌*◌, ◌-◌, ◌/◌, Bool, true, false, not, ◌&&◌, ◌||◌, cond, List, [], ◌∷◌, ◌++◌, leb, eqb, length}
-use Rattle.postings.specs.Segment.{Place, next_of, total_of, count_of, not_negative, is_end, header_inside, count_right, first_of, run, run_inside}
+use Rattle.postings.specs.declared.segment.Place.{Place}
+use Rattle.postings.specs.Segment.{next_of, total_of, count_of, not_negative, is_end, header_inside, count_right, first_of, run, run_inside}
 
 -- the file's number of words: no list has more segments, as Rings.antt proves
 abbrev pub words_of : List ℕ → ℕ

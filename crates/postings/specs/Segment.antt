@@ -1,15 +1,11 @@
 -- A segment of a posting list: a header of five words and the postings behind it. Source document 004, "Format of IFP file".
-use Rattle.std.specs.Prelude.{ℕ, zero, suc, ◌+◌, ◌*◌, ◌-◌, ◌/◌, ◌%◌, Bool, true, ◌&&◌, cond, List, [], ◌∷◌, ltb, leb, eqb, length}
+use Rattle.std.specs.Prelude.{ℕ, zero, suc, ◌+◌, ◌*◌, ◌-◌, ◌/◌, ◌%◌, Bool, true, ◌&&◌, cond, List, [], ◌∷◌, ltb, leb, eqb, length, Option, Some, None}
 use Rattle.word.specs.Integer.{u32_at}
 use Rattle.posting.specs.Posting.{posting_at}
-use Rattle.postings.specs.declared.segment.Header.{Header}
-use Rattle.postings.specs.declared.segment.Header.TheVariants.{At, Bad}
+use Rattle.postings.specs.declared.segment.Place.{Place}
+use Rattle.postings.specs.declared.segment.Segment.{Segment}
 
 -- a place in the file: a block, counted from 1, and a word in it, as their 32 bits stand
-pub record Place : Type 0 where
-  pub block : ℕ
-  pub word : ℕ
-
 abbrev pub spot : ℕ → ℕ → Place
 spot b w = record { block = b; word = w }
 
@@ -73,8 +69,8 @@ run_inside len zero at = true
 run_inside len (suc k) at = leb (at + 8) len && run_inside len k (follow at)
 
 -- what reading a header gives
-unfoldable pub header_of : List ℕ → Place → Header
+unfoldable pub header_of : List ℕ → Place → Option Segment
 header_of f p =
     cond (header_inside (length f) p && count_right f p)
-    (At (record { count = count_of f p; total = total_of f p; nxtb = (next_of f p).block; nxtp = (next_of f p).word; first = first_of p }))
-    Bad
+    (Some (record { count = count_of f p; total = total_of f p; next = next_of f p; first = first_of p }))
+    None

@@ -1,7 +1,8 @@
 -- What is proved of a list's segments and postings beside the calls' own promises. Document 02, C-14.
 use Rattle.std.specs.Prelude.{ℕ, ◌+◌, ◌≤◌, ◌<◌, ◌≡◌, true, List, length, get_or}
 use Rattle.posting.specs.Posting.{posting_at}
-use Rattle.postings.specs.Segment.{Place, word_offset, header_inside, follow, stands_at, run}
+use Rattle.postings.specs.declared.segment.Place.{Place}
+use Rattle.postings.specs.Segment.{word_offset, header_inside, follow, stands_at, run}
 use Rattle.postings.specs.Rules.{words_of, ends_within, segments_of, headers_inside, word_number, each_once, list_right, paper_right}
 
 -- ---- where postings stand

@@ -1,77 +1,46 @@
 // A cursor over the postings of a list, by value: it moves by runs, the postings of a segment that stand in one block. Nothing is remembered
 // but the numbers here.
 ghost use Rattle.std.specs.Prelude.{◌≡◌, ◌≤◌, ◌<◌, ◌%◌};
-ghost use Rattle.postings.specs.Segment.{spot, is_end};
 ghost use Rattle.postings.specs.Cursor.{InBlock, SettledFrom, run_size, past_of};
 
-use crate::segment::{Header, read_header};
+use crate::segment::{Place, read_header};
+use posting::answer::Refusal;
 
-#[derive(Clone, Copy)]
+#[derive(Clone, Copy, Debug, PartialEq, Eq)]
 pub struct Cursor {
     // Where the segment's next posting stands, and how many are left in it.
     pub at: usize,
     pub left: u32,
     // The next segment, and how many more the file has room for.
-    pub nxtb: u32,
-    pub nxtp: u32,
+    pub next: Place,
     pub fuel: usize,
 }
 
-// A cursor at a posting; or, where none is left, whether that is the list's end.
-#[derive(Clone, Copy)]
-pub struct Settled {
-    pub whole: bool,
-    pub cursor: Cursor,
-}
-
-// Whether a next place ends the list.
-fn ends(block: u32, word: u32) -> bool
-    ensures { result ≡ is_end (spot block word) }
-{
-    if block != 0 {
-        return false;
-    }
-    word == 0
-}
-
-// Moves on to a segment with a posting left, if it is in none.
-pub fn settle(ifp: &[u8], start: Cursor) -> Settled
+// The cursor at the next posting, none where the list is over: it moves on over segments with no posting left.
+pub fn settle(ifp: &[u8], start: Cursor) -> Result<Option<Cursor>, Refusal>
     requires { InBlock ifp.now start }
     ensures { SettledFrom ifp.now start result }
 {
     let mut c = start;
     while c.left == 0 {
-        if ends(c.nxtb, c.nxtp) {
-            return Settled {
-                whole: true,
-                cursor: c,
-            };
+        if c.next.is_end() {
+            return Ok(None);
         }
         if c.fuel == 0 {
-            return Settled {
-                whole: false,
-                cursor: c,
-            };
+            return Err(Refusal::Broken);
         }
-        let Header::At(s) = read_header(ifp, c.nxtb, c.nxtp) else {
-            return Settled {
-                whole: false,
-                cursor: c,
-            };
+        let Some(s) = read_header(ifp, c.next) else {
+            return Err(Refusal::Broken);
         };
         let fuel = c.fuel - 1;
         c = Cursor {
             at: s.first,
             left: s.count,
-            nxtb: s.nxtb,
-            nxtp: s.nxtp,
+            next: s.next,
             fuel,
         };
     }
-    Settled {
-        whole: true,
-        cursor: c,
-    }
+    Ok(Some(c))
 }
 
 // How many of `left` postings from `at` on stand in its block.
@@ -80,7 +49,7 @@ pub fn run_size(at: usize, left: u32) -> u32
     ensures { (result ≡ run_size at left) × (result ≤ 64) }
 {
     let n = ((512 - at % 512) / 8) as u32;
-    if left <= n { left } else { n }
+    left.min(n)
 }
 
 // The cursor behind its run of `n` postings.
@@ -91,8 +60,6 @@ pub fn past(c: Cursor, n: u32) -> Cursor
     Cursor {
         at: c.at / 512 * 512 + 516,
         left: c.left - n,
-        nxtb: c.nxtb,
-        nxtp: c.nxtp,
-        fuel: c.fuel,
+        ..c
     }
 }

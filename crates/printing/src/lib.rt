@@ -5,84 +5,43 @@
 
 #![tactic(auto)]
 
-ghost use Rattle.std.specs.Prelude.{◌+◌, ◌≤◌, IfOk, length};
-ghost use Rattle.script.specs.Report.{outcome_size};
-
-use lists::numbers::at_most;
-use script::report::{OUTCOME_SIZE, Replayed, Stop};
+use lists::parts::split_front;
+use script::report::{Outcome, Replayed, Stop};
 use std::io;
 
-fn print_number(rt: &impl Print, n: u32) -> io::Result<()> {
-    print!(rt; "{n}")
-}
-
-fn print_stop(rt: &impl Print, stop: Stop) -> io::Result<()> {
-    match stop {
-        Stop::Ended => print!(rt; "ended "),
-        Stop::BadLength => print!(rt; "bad length "),
-        Stop::Malformed => print!(rt; "malformed "),
-        Stop::NoRoom => print!(rt; "no room "),
+// Prints the field of an outcome, behind its numbers.
+fn print_field(rt: &impl Print, field: &[u8]) -> io::Result<()> {
+    if field.is_empty() {
+        return Ok(());
     }
-}
-
-// Prints the field of so many bytes that stands at `from`, and gives where the next one stands.
-fn print_field(rt: &impl Print, shown: &[u8], from: usize, len: u32) -> io::Result<usize>
-    requires { from ≤ length shown.now }
-    ensures { IfOk result (λ to. to ≤ length shown.now) }
-{
-    let to = from + at_most(len, shown.len() - from);
-    if from < to {
-        print!(rt; " ")?;
-        rt.write_all(&shown[from..to])?;
-    }
-    Ok(to)
-}
-
-// Prints a number behind another.
-fn print_next(rt: &impl Print, n: u32) -> io::Result<()> {
     print!(rt; " ")?;
-    print_number(rt, n)
+    rt.write_all(field)
 }
 
-// Prints the five numbers of the outcome that stands at `i`.
-fn print_numbers(rt: &impl Print, answers: &[u32], i: usize) -> io::Result<()>
-    requires { i + outcome_size ≤ length answers.now }
-{
-    print_number(rt, answers[i])?;
-    print_next(rt, answers[i + 1])?;
-    print_next(rt, answers[i + 2])?;
-    print_next(rt, answers[i + 3])?;
-    print_next(rt, answers[i + 4])
-}
-
-// Prints so many numbers from `from` on, ends the line, and gives where the next outcome stands.
-fn print_listed(rt: &impl Print, answers: &[u32], from: usize, count: u32) -> io::Result<usize>
-    requires { from ≤ length answers.now }
-    ensures { IfOk result (λ to. to ≤ length answers.now) }
-{
-    let to = from + at_most(count, answers.len() - from);
-    let mut i = from;
-    while i < to {
-        print_next(rt, answers[i])?;
-        i += 1;
+// Prints the answers that an outcome lists, and ends the line.
+fn print_listed(rt: &impl Print, answers: &[u32]) -> io::Result<()> {
+    for answer in answers {
+        print!(rt; " {answer}")?;
     }
-    println!(rt)?;
-    Ok(to)
+    println!(rt)
 }
 
 // Prints the outcomes of so many calls, one after the other.
 fn print_outcomes(rt: &impl Print, calls: usize, answers: &[u32], shown: &[u8]) -> io::Result<()> {
-    let mut left = calls;
-    let mut i = 0;
-    let mut from = 0;
-    while 0 < left {
-        if answers.len() - i < OUTCOME_SIZE {
+    let mut answers = answers;
+    let mut shown = shown;
+    for _ in 0..calls {
+        let Some((numbers, behind)) = answers.split_first_chunk() else {
             return Ok(());
-        }
-        print_numbers(rt, answers, i)?;
-        from = print_field(rt, shown, from, answers[i + 2])?;
-        i = print_listed(rt, answers, i + OUTCOME_SIZE, answers[i + 4])?;
-        left -= 1;
+        };
+        let outcome = Outcome::from(*numbers);
+        let (listed, next) = split_front(behind, outcome.listed);
+        let (field, rest) = split_front(shown, outcome.len);
+        print!(rt; "{outcome}")?;
+        print_field(rt, field)?;
+        print_listed(rt, listed)?;
+        answers = next;
+        shown = rest;
     }
     Ok(())
 }
@@ -91,13 +50,10 @@ fn print_control(rt: &impl Print, mst: &[u8]) -> io::Result<()> {
     if mst.len() < 14 {
         return Ok(());
     }
-    print!(rt; "NXTMFN ")?;
-    print_number(rt, word::integer::u32_at(mst, 4))?;
-    print!(rt; " NXTMFB ")?;
-    print_number(rt, word::integer::u32_at(mst, 8))?;
-    print!(rt; " NXTMFP ")?;
-    print_number(rt, word::integer::u16_at(mst, 12) as u32)?;
-    println!(rt)
+    let mfn = word::integer::u32_at(mst, 4);
+    let block = word::integer::u32_at(mst, 8);
+    let position = word::integer::u16_at(mst, 12);
+    println!(rt; "NXTMFN {mfn} NXTMFB {block} NXTMFP {position}")
 }
 
 // Prints what a replay reports. Where a length is not permitted there is no control record.
@@ -108,12 +64,10 @@ pub fn print_replayed(
     shown: &[u8],
     mst: &[u8],
 ) -> io::Result<()> {
-    let stop = r.stop;
-    print_stop(rt, stop)?;
-    println!(rt; "{}", r.calls)?;
+    println!(rt; "{} {}", r.stop, r.calls)?;
     print_outcomes(rt, r.calls, answers, shown)?;
-    let Stop::BadLength = stop else {
-        return print_control(rt, mst);
-    };
-    Ok(())
+    if r.stop == Stop::BadLength {
+        return Ok(());
+    }
+    print_control(rt, mst)
 }

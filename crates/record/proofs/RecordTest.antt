@@ -2,131 +2,89 @@
 -- `search test_answers` finds them there. And what a test that passed tells the caller.
 use Prim.Native.Nat.{ℕ, zero, suc, ◌+◌, ◌*◌, ◌-◌, ◌<◌, ◌≤◌}
 use native.Mathlib.Omega.{arith}
-use mathlib.Core.Path.{◌≡◌, refl, sym, ap, ◌∙◌}
-use mathlib.Core.Bool.{Bool, true, false, not, ◌&&◌, cond, and-false}
+use mathlib.Core.Path.{◌≡◌, refl, sym, ◌∙◌}
+use mathlib.Core.Bool.{Bool, true, false, cond}
 use mathlib.Core.List.{List}
 use lib.Dec.{eqb}
 use lib.ListN.{length}
-use borrow.Author.Tests.{le-leb, lt-leb, eq-eqb, ne_eqb, not-true, not-false}
-use Rattle.layout.specs.Sizes.{record_length}
-use Rattle.layout.specs.Entry.{well_placed}
+use borrow.Author.Tests.{ne_eqb}
 use Rattle.layout.specs.Leader.{leader_of}
-use Rattle.layout.specs.declared.entry.Mark.{Mark}
-use Rattle.layout.specs.declared.entry.Mark.TheVariants.{Settled, Changed, New}
 use Rattle.layout.specs.declared.leader.Leader.{Leader}
 use Rattle.record.specs.Directory.{isis, directory_right}
-use Rattle.record.specs.Record.{leader_right, extent_right, base_right, fields_right, fields_broken, status_for, status_right, record_right, broken_entry, no_back, back_right, Readable}
-use Rattle.record.specs.Inner.{broken_of, test_of}
-use Rattle.std.proofs.Common.{Ok, Err}
+use Rattle.record.specs.Record.{leader_right, fields_broken, record_right, broken_entry, Readable}
+use Rattle.record.specs.Inner.{broken_of, right_leader, told, test_of}
+use Rattle.std.proofs.Common.{Some, None, Ok, Err}
 use Rattle.record.specs.declared.test.Broken.TheVariants.{Leader as BadLeader, Entry as BadEntry}
-use Rattle.record.proofs.Facts.{leader_facts, test_right, right_readable}
+use Rattle.record.proofs.Facts.{LeaderFacts, leader_facts, test_right, right_readable}
 use Rattle.record.proofs.DirectoryTest.{right_none}
 
 -- ---- the leader
 
-module _ (m : ℕ) (deleted : Bool) (left : ℕ) (l : Leader) where
-  pub leader_mfn : (l.mfn.0 ≡ m → ⊥) → false ≡ leader_right m deleted left l
-  unfolding leader_right extent_right
-  leader_mfn h = rw (ne_eqb l.mfn.0 m h)
+told_cases : (b : Bool) (l k : Leader) → Some k ≡ cond b (Some l) None → (b ≡ true) × (k ≡ l)
+told_cases true l k e = (refl, (cc))
+told_cases false l k e = absurd (cc)
 
-  pub leader_past_end : left < l.mfrl → false ≡ leader_right m deleted left l
-  unfolding leader_right extent_right
-  leader_past_end h = rw (lt-leb l.mfrl left h, and-false)
-
-  pub leader_base : (l.base ≡ 18 + 6 * l.nvf → ⊥) → false ≡ leader_right m deleted left l
-  unfolding leader_right base_right
-  leader_base h = rw (ne_eqb l.base (18 + 6 * l.nvf) h, and-false)
-
-  pub leader_no_room : l.mfrl < l.base → false ≡ leader_right m deleted left l
-  unfolding leader_right base_right
-  leader_no_room h = rw (lt-leb l.base l.mfrl h, and-false, and-false)
-
-  module _ (permitted : Bool) (p : permitted ≡ record_length l.mfrl) where
-    pub leader_length : not permitted ≡ true → false ≡ leader_right m deleted left l
-    unfolding leader_right extent_right
-    leader_length h = rw (← p, not-true permitted h, and-false)
-
-    pub leader_status : (status : ℕ) → l.mfn.0 ≡ m → not permitted ≡ false → l.mfrl ≤ left → l.base ≡ 18 + 6 * l.nvf → l.base ≤ l.mfrl
-        → status ≡ status_for deleted → eqb l.status status ≡ leader_right m deleted left l
-    unfolding leader_right extent_right base_right status_right
-    leader_status status a b c d e s =
-        rw (
-          eq-eqb l.mfn.0 m a,
-          ← p,
-          not-false permitted b,
-          le-leb l.mfrl left c,
-          eq-eqb l.base (18 + 6 * l.nvf) d,
-          le-leb l.base l.mfrl e,
-          s,
-        )
-
--- ---- the record
+none_case : (b : Bool) (l : Leader) → None ≡ cond b (Some l) None → b ≡ false
+none_case true l e = absurd (cc)
+none_case false l e = refl
 
 module _ (rec : List ℕ) (m : ℕ) (deleted : Bool) where
-  pub answer_short : length rec < 18 → Err BadLeader ≡ test_of rec m deleted
-  unfolding test_of record_right broken_entry
-  answer_short h = pick (leader_right m deleted (length rec) (leader_of rec)) refl
+  abbrev passes : Bool
+  passes = leader_right m deleted (length rec) (leader_of rec)
+
+  pub leader_short : length rec < 18 → None ≡ right_leader rec m deleted
+  unfolding right_leader
+  leader_short h = by passes refl
     where
-      pick : (b : Bool) → leader_right m deleted (length rec) (leader_of rec) ≡ b
-          → Err BadLeader ≡ cond (b && fields_right rec (leader_of rec)) (Ok (leader_of rec)) (Err (broken_of (cond b (fields_broken rec (leader_of rec)) 0)))
-      pick true e = let f = leader_facts m deleted (length rec) (leader_of rec) e in absurd (omega arith)
-      pick false e = refl
+      by : (b : Bool) → leader_right m deleted (length rec) (leader_of rec) ≡ b → None ≡ cond b (Some (leader_of rec)) None
+      by true e = let f = leader_facts m deleted (length rec) (leader_of rec) e in absurd (omega arith)
+      by false e = refl
 
-  module _ (l : Leader) (b : Bool) (e : l ≡ leader_of rec) (p : b ≡ leader_right m deleted (length rec) l) where
-    pub answer_leader : not b ≡ true → Err BadLeader ≡ test_of rec m deleted
-    unfolding test_of record_right broken_entry
-    answer_leader h = rw (← e, ← p, not-true b h)
+  -- it is not right, so no entry is looked at
+  pub answer_leader : None ≡ right_leader rec m deleted → Err BadLeader ≡ test_of rec m deleted
+  unfolding right_leader test_of record_right broken_entry
+  answer_leader e = rw (none_case passes (leader_of rec) e)
 
-    module _ (h : not b ≡ false) where
-      pub need_room : l.base ≤ l.mfrl
-      need_room = (leader_facts m deleted (length rec) l (sym p ∙ not-false b h)).base_in
+  module _ (l : Leader) (e : Some l ≡ right_leader rec m deleted) where
+    leader_told : (passes ≡ true) × (l ≡ leader_of rec)
+    unfolding right_leader
+    leader_told = told_cases passes (leader_of rec) l e
 
-      pub need_directory : (18 + 6 * l.nvf ≤ length rec) × (l.nvf ≤ 65535) × (l.mfrl - l.base ≤ 65535)
-      need_directory = let f = leader_facts m deleted (length rec) l (sym p ∙ not-false b h) in omega arith
+    facts : LeaderFacts m deleted (length rec) l
+    facts = let q = leader_told in rw q.1 (leader_facts m deleted (length rec) (leader_of rec) q.0)
 
-      module _ (n : ℕ) (q : n ≡ fields_broken rec l) where
-        fields_none : fields_right rec l ≡ eqb n 0
-        unfolding directory_right
-        fields_none = right_none isis rec (l.mfrl - l.base) l.nvf 0 0 ∙ ap (λ (x : ℕ). eqb x 0) (sym q)
+    pub need_room : l.base ≤ l.mfrl
+    need_room = facts.base_in
 
-        pub answer_right : n ≡ 0 → Ok l ≡ test_of rec m deleted
-        unfolding test_of record_right
-        answer_right k = rw (← e, ← p, fields_none, not-false b h, k)
+    pub need_directory : (18 + 6 * l.nvf ≤ length rec) × (l.nvf ≤ 65535) × (l.mfrl - l.base ≤ 65535)
+    need_directory = let f = facts in omega arith
 
-        pub answer_wrong : (n ≡ 0 → ⊥) → Err (BadEntry n) ≡ test_of rec m deleted
-        unfolding test_of record_right broken_entry
-        answer_wrong k = rw (← e, ← p, fields_none, not-false b h, ne_eqb n 0 k, ← q, told n k)
-          where
-            told : (n : ℕ) → (n ≡ 0 → ⊥) → broken_of n ≡ BadEntry n
-            told zero k = absurd (k refl)
-            told (suc n) k = refl
+    -- its entries are asked
+    broken_is : broken_entry rec m deleted ≡ fields_broken rec l
+    unfolding broken_entry
+    broken_is = let q = leader_told in rw (q.0, ← q.1)
 
--- ---- the back pointer
+    right_is : record_right rec m deleted ≡ eqb (fields_broken rec l) 0
+    unfolding record_right directory_right
+    right_is = let q = leader_told in rw (q.0, ← q.1) (right_none isis rec (l.mfrl - l.base) l.nvf 0 0)
 
-module _ (l : Leader) where
-  pub back_block : (l.mfbwb.0 ≡ 0 → ⊥) → false ≡ no_back l
-  unfolding no_back
-  back_block h = rw (ne_eqb l.mfbwb.0 0 h)
+    answered : (n : ℕ) → fields_broken rec l ≡ n → test_of rec m deleted ≡ cond (eqb n 0) (Ok l) (Err (broken_of n))
+    unfolding test_of
+    answered n k = rw (right_is, broken_is, ← leader_told.1, k)
 
-  pub back_offset : l.mfbwb.0 ≡ 0 → eqb l.mfbwp 0 ≡ no_back l
-  unfolding no_back
-  back_offset h = rw (eq-eqb l.mfbwb.0 0 h)
+    by_none : (n : ℕ) → Ok tt ≡ told n → Ok l ≡ cond (eqb n 0) (Ok l) (Err (broken_of n))
+    by_none zero k = refl
+    by_none (suc n) k = absurd (cc)
 
-  module _ (end : ℕ) (mark : Mark) (r : Bool) where
-    pub back_settled : mark ≡ Settled → r ≡ no_back l → r ≡ back_right end mark l
-    unfolding back_right
-    back_settled e s = rw (e, s)
+    by_first : (n k : ℕ) → Err k ≡ told n → Err (BadEntry k) ≡ cond (eqb n 0) (Ok l) (Err (broken_of n))
+    by_first zero k h = absurd (cc)
+    by_first (suc n) k h = rw (ne_eqb (suc n) 0 (λ z. omega arith)) (cc)
 
-    pub back_changed : mark ≡ Changed → r ≡ well_placed end l.mfbwb.0 l.mfbwp → r ≡ back_right end mark l
-    unfolding back_right
-    back_changed e s = rw (e, s)
+    pub answer_right : Ok tt ≡ told (fields_broken rec l) → Ok l ≡ test_of rec m deleted
+    answer_right k = by_none (fields_broken rec l) k ∙ sym (answered (fields_broken rec l) refl)
 
-    pub back_new : mark ≡ New → r ≡ no_back l → r ≡ back_right end mark l
-    unfolding back_right
-    back_new e s = rw (e, s)
-
-pub ruleset test_answers =
-    (leader_mfn, leader_past_end, leader_base, leader_no_room, leader_length, leader_status, need_room, back_block, back_offset, back_settled, back_changed, back_new)
+    pub answer_wrong : (k : ℕ) → Err k ≡ told (fields_broken rec l) → Err (BadEntry k) ≡ test_of rec m deleted
+    answer_wrong k h = by_first (fields_broken rec l) k h ∙ sym (answered (fields_broken rec l) refl)
 
 -- ---- what a test that passed tells
 

@@ -26,16 +26,14 @@ pub fn find_field(rec: &[u8], tag: Tag, occurrence: u32) -> Result<Span, NotFoun
     requires { Readable rec.now }
     ensures { result ≡ find_of rec.now tag.0 occurrence }
 {
-    if occurrence < 1 {
+    if occurrence == 0 {
         return Err(NotFound::Missing);
     }
-    let base = u16_at(rec, 12) as usize;
-    let nvf = u16_at(rec, 14) as usize;
+    let base = usize::from(u16_at(rec, 12));
+    let nvf = usize::from(u16_at(rec, 14));
     let mut left = occurrence;
-    let mut i: usize = 0;
-    while i < nvf {
-        let t = tag_at(rec, i);
-        if t.0 == tag.0 {
+    for i in 0..nvf {
+        if tag_at(rec, i) == tag {
             if left == 1 {
                 return Ok(Span {
                     start: base + pos_at(rec, i),
@@ -44,13 +42,11 @@ pub fn find_field(rec: &[u8], tag: Tag, occurrence: u32) -> Result<Span, NotFoun
             }
             left -= 1;
         }
-        i += 1;
     }
-    let occurrences = occurrence - left;
-    if 0 < occurrences {
-        return Err(NotFound::Fewer { occurrences });
+    match occurrence - left {
+        0 => Err(NotFound::Missing),
+        occurrences => Err(NotFound::Fewer { occurrences }),
     }
-    Err(NotFound::Missing)
 }
 
 // One byte of a record.
@@ -66,9 +62,8 @@ pub fn data_length(rec: &[u8]) -> usize
     requires { Readable rec.now }
     ensures { result ≡ length (data_of (fields_of rec.now)) }
 {
-    let nvf = u16_at(rec, 14) as usize;
-    if nvf == 0 {
-        return 0;
+    match usize::from(u16_at(rec, 14)).checked_sub(1) {
+        None => 0,
+        Some(last) => pos_at(rec, last) + len_at(rec, last),
     }
-    pos_at(rec, nvf - 1) + len_at(rec, nvf - 1)
 }

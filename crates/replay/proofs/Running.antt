@@ -7,7 +7,7 @@ use native.Mathlib.Omega.{arith}
 use native.Mathlib.Numerals.{add-one, unary_clauses}
 use mathlib.Core.Path.{◌≡◌, refl, sym, ap, ◌∙◌}
 use mathlib.Core.Bool.{Bool, true, false, cond}
-use mathlib.Core.Option.{Option, some, none}
+use Rattle.std.specs.Prelude.{Option, Some, None, Result, Ok, Err}
 use mathlib.Core.List.{List, [], ◌∷◌, ◌++◌, append_assoc, append-nil}
 use lib.ListN.{length, take, drop, length-append, length-drop}
 use lib.Seq.{take_at, drop-drop}
@@ -18,7 +18,7 @@ use Rattle.word.proofs.Tests.{tests}
 use Rattle.store.specs.Store.{Store}
 use Rattle.ledger.specs.Call.{Call, Outcome}
 use Rattle.ledger.specs.StoreRun.{answer_s, next_s, answers_s, after_s}
-use Rattle.script.specs.Ops.{call_size, taken_by}
+use Rattle.script.specs.Ops.{call_size, counts, no_draft, taken_of}
 use Rattle.replay.specs.Calls.{Script, script, first_op, first_call, rest_of, rest_after, calls_in, calls_of}
 use Rattle.replay.specs.Replay.{numbers_of, outcome_numbers, outcome_bytes, has_room, fitting, stop_at, stop_for}
 use Rattle.script.specs.Cursor.{moved, Within}
@@ -26,8 +26,6 @@ use Rattle.replay.specs.Turns.{script_at, room_at, Ran, Halted, Turned, Finished
 use Rattle.script.specs.declared.report.Stop.{Stop}
 use Rattle.script.specs.declared.report.Stop.TheVariants.{NoRoom}
 use Rattle.script.specs.declared.cursor.Cursor.{Cursor}
-use Rattle.replay.specs.declared.turns.Turn.{Turn}
-use Rattle.replay.specs.declared.turns.Turn.TheVariants.{Next, Stopped}
 use Rattle.replay.proofs.Decoding.{first_fits, has_numbers}
 
 -- what is reported of a list: the store's answers, as far as there is room for them
@@ -58,12 +56,12 @@ rest_more (suc n) p = rest_more n (rest_of p)
 
 -- ---- the calls that are left
 
-calls_none : (n : ℕ) (s : Script) → first_call s ≡ none → calls_in n s ≡ []
+calls_none : (n : ℕ) (s : Script) → first_call s ≡ None → calls_in n s ≡ []
 unfolding calls_in
 calls_none zero s e = refl
 calls_none (suc n) s e = rw e
 
-calls_some : (n : ℕ) (s : Script) (c : Call) → first_call s ≡ some c → calls_in (suc n) s ≡ c ∷ calls_in n (rest_of s)
+calls_some : (n : ℕ) (s : Script) (c : Call) → first_call s ≡ Some c → calls_in (suc n) s ≡ c ∷ calls_in n (rest_of s)
 unfolding calls_in
 calls_some n s c e = rw e
 
@@ -89,7 +87,7 @@ module _ (ops mfns tags lens bytes : List ℕ) where
 
   -- as many calls as there are numbers bounds what is left
   abbrev pub left_calls : Cursor → List Call
-  left_calls at = calls_in (length ops - at.calls) (script_at ops mfns tags lens bytes at)
+  left_calls at = calls_in (length ops - at.calls) (script_at p at)
 
   -- from s₀ and two rooms, after the calls before the cursor
   pub record Going (s₀ : Store) (answers₀ shown₀ : List ℕ) (s : Store) (answers shown : List ℕ) (at : Cursor) : Type 0 where
@@ -109,16 +107,16 @@ module _ (ops mfns tags lens bytes : List ℕ) where
     -- the store is what they leave
     pub store_is : s ≡ after_s s₀ ran
     -- and what is left of the list gives the rest of the calls and of what is told
-    pub rest_is : script_at ops mfns tags lens bytes at ≡ rest_after at.calls p
+    pub rest_is : script_at p at ≡ rest_after at.calls p
     pub calls_are : calls_of p ≡ ran ++ left_calls at
     pub told_are : told s₀ (length answers₀) (length shown₀) p
         ≡ done ++ fitting (length answers₀ - at.numbers) (length shown₀ - at.shown) (answers_s s (left_calls at))
 
   -- before the first turn
-  pub going_start : (s₀ : Store) (answers₀ shown₀ : List ℕ) (at : Cursor) → at ≡ record { calls = 0; mfns = 0; tags = 0; lens = 0; bytes = 0; numbers = 0; shown = 0 }
+  going_start_at : (s₀ : Store) (answers₀ shown₀ : List ℕ) (at : Cursor) → at ≡ record { calls = 0; used = no_draft; numbers = 0; shown = 0 }
       → Going s₀ answers₀ shown₀ s₀ answers₀ shown₀ at
   unfolding outcome_numbers outcome_bytes after_s rest_after calls_of
-  going_start s₀ answers₀ shown₀ at e =
+  going_start_at s₀ answers₀ shown₀ at e =
       rw e
       (record {
         done = [];
@@ -144,21 +142,29 @@ module _ (ops mfns tags lens bytes : List ℕ) where
         told_are = simp unary_clauses;
       })
 
+  pub going_start : (s₀ : Store) (answers₀ shown₀ : List ℕ) (at : Cursor)
+      → at.calls ≡ 0 → at.used.mfns ≡ 0 → at.used.tags ≡ 0 → at.used.lens ≡ 0 → at.used.bytes ≡ 0 → at.numbers ≡ 0 → at.shown ≡ 0
+      → Going s₀ answers₀ shown₀ s₀ answers₀ shown₀ at
+  going_start s₀ answers₀ shown₀ at c m t l b n f =
+      let z : record { calls = at.calls; used = counts at.used.mfns at.used.tags at.used.lens at.used.bytes; numbers = at.numbers; shown = at.shown }
+      ≡ record { calls = 0; used = no_draft; numbers = 0; shown = 0 } = rw (c, m, t, l, b, n, f) in
+      going_start_at s₀ answers₀ shown₀ at z
+
   -- the cursor after a call stands before the rest
-  rest_moved : (at : Cursor) (size len : ℕ) → script_at ops mfns tags lens bytes (moved at (taken_by (first_op (script_at ops mfns tags lens bytes at))) size len) ≡ rest_of (script_at ops mfns tags lens bytes at)
+  rest_moved : (at : Cursor) (size len : ℕ) → script_at p (moved at (taken_of (first_op (script_at p at))) size len) ≡ rest_of (script_at p at)
   unfolding rest_of
   rest_moved at size len =
       let five : call_size * (at.calls + 1) ≡ call_size * at.calls + call_size = omega arith in
       script_same
       (ap (λ (n : ℕ). drop n ops) five ∙ sym (drop-drop call_size (call_size * at.calls) ops))
-      (sym (drop-drop _ at.mfns mfns))
-      (sym (drop-drop _ at.tags tags))
-      (sym (drop-drop _ at.lens lens))
-      (sym (drop-drop _ at.bytes bytes))
+      (sym (drop-drop _ at.used.mfns mfns))
+      (sym (drop-drop _ at.used.tags tags))
+      (sym (drop-drop _ at.used.lens lens))
+      (sym (drop-drop _ at.used.bytes bytes))
 
   module _ (s₀ : Store) (answers₀ shown₀ : List ℕ) (s : Store) (answers shown : List ℕ) (at : Cursor) (g : Going s₀ answers₀ shown₀ s answers shown at) where
     abbrev rest : Script
-    rest = script_at ops mfns tags lens bytes at
+    rest = script_at p at
 
     -- what is reported from a cursor on
     abbrev told_from : Cursor → Store → List Outcome
@@ -166,7 +172,7 @@ module _ (ops mfns tags lens bytes : List ℕ) where
 
     -- ---- the rest begins with a call
 
-    module _ (c : Call) (e : first_call rest ≡ some c) where
+    module _ (c : Call) (e : first_call rest ≡ Some c) where
       abbrev o : Outcome
       o = answer_s s c
 
@@ -196,7 +202,7 @@ module _ (ops mfns tags lens bytes : List ℕ) where
 
       module _ (room : room_at answers shown at o ≡ true) where
         abbrev next : Cursor
-        next = moved at (taken_by (first_op rest)) (length (numbers_of o)) (length o.shown)
+        next = moved at (taken_of (first_op rest)) (length (numbers_of o)) (length o.shown)
 
         room_now : (length (numbers_of o) ≤ length answers - at.numbers) × (length o.shown ≤ length shown - at.shown)
         room_now = simp tests at room
@@ -212,10 +218,10 @@ module _ (ops mfns tags lens bytes : List ℕ) where
             let r = room_now in
             let x = g.within.room_in in
             let y = g.within.mfns_in in
-            let km = length-drop at.mfns mfns in
-            let kt = length-drop at.tags tags in
-            let kl = length-drop at.lens lens in
-            let kb = length-drop at.bytes bytes in
+            let km = length-drop at.used.mfns mfns in
+            let kt = length-drop at.used.tags tags in
+            let kl = length-drop at.used.lens lens in
+            let kb = length-drop at.used.bytes bytes in
             let an : length (overwrite answers at.numbers (numbers_of o)) ≡ length answers = overwrite_length answers at.numbers (numbers_of o) (omega arith) in
             let sn : length (overwrite shown at.shown o.shown) ≡ length shown = overwrite_length shown at.shown o.shown (omega arith) in
             record {
@@ -286,7 +292,7 @@ module _ (ops mfns tags lens bytes : List ℕ) where
           }
 
     -- since there is no further call
-    finished_list : first_call rest ≡ none → Finished s₀ answers₀ shown₀ p (record { stop = stop_at rest; calls = at.calls }) s answers shown
+    finished_list : first_call rest ≡ None → Finished s₀ answers₀ shown₀ p (record { stop = stop_at rest; calls = at.calls }) s answers shown
     unfolding stop_for
     finished_list e =
         let no_more : left_calls at ≡ [] = calls_none (length ops - at.calls) rest e in
@@ -296,7 +302,7 @@ module _ (ops mfns tags lens bytes : List ℕ) where
         (rw (n, le-ltb at.calls at.calls (le_refl _)) (ap stop_at g.rest_is))
 
     -- since the next call has no room
-    finished_room : (c : Call) → first_call rest ≡ some c → room_at answers shown at (answer_s s c) ≡ false
+    finished_room : (c : Call) → first_call rest ≡ Some c → room_at answers shown at (answer_s s c) ≡ false
         → Finished s₀ answers₀ shown₀ p (record { stop = NoRoom; calls = at.calls }) s answers shown
     unfolding stop_for
     finished_room c e full =
@@ -309,49 +315,49 @@ module _ (ops mfns tags lens bytes : List ℕ) where
 
     -- ---- what a turn did
 
-    module _ (t : Turn) (s' : Store) (answers' shown' : List ℕ) (u : Turned rest s answers shown at t s' answers' shown') where
+    module _ (t : Result Cursor Stop) (s' : Store) (answers' shown' : List ℕ) (u : Turned rest s answers shown at t s' answers' shown') where
       -- a call was run and reported, or it had no room, or there was none
       data Did : Type 0 where
-        more : (c : Call) → first_call rest ≡ some c → room_at answers shown at (answer_s s c) ≡ true
-            → t ≡ Next (moved at (taken_by (first_op rest)) (length (numbers_of (answer_s s c))) (length (answer_s s c).shown)) → s' ≡ next_s s c
+        more : (c : Call) → first_call rest ≡ Some c → room_at answers shown at (answer_s s c) ≡ true
+            → t ≡ Ok (moved at (taken_of (first_op rest)) (length (numbers_of (answer_s s c))) (length (answer_s s c).shown)) → s' ≡ next_s s c
             → answers' ≡ overwrite answers at.numbers (numbers_of (answer_s s c)) → shown' ≡ overwrite shown at.shown (answer_s s c).shown → Did
-        full : (c : Call) → first_call rest ≡ some c → room_at answers shown at (answer_s s c) ≡ false
-            → t ≡ Stopped NoRoom → s' ≡ s → answers' ≡ answers → shown' ≡ shown → Did
-        over : first_call rest ≡ none → t ≡ Stopped (stop_at rest) → s' ≡ s → answers' ≡ answers → shown' ≡ shown → Did
+        full : (c : Call) → first_call rest ≡ Some c → room_at answers shown at (answer_s s c) ≡ false
+            → t ≡ Err NoRoom → s' ≡ s → answers' ≡ answers → shown' ≡ shown → Did
+        over : first_call rest ≡ None → t ≡ Err (stop_at rest) → s' ≡ s → answers' ≡ answers → shown' ≡ shown → Did
 
       did : Did
       unfolding Turned
       did = go (first_call rest) refl
         where
-          ran : (c : Call) → first_call rest ≡ some c → Ran s c (taken_by (first_op rest)) answers shown at t s' answers' shown'
+          ran : (c : Call) → first_call rest ≡ Some c → Ran s c (taken_of (first_op rest)) answers shown at t s' answers' shown'
               → (b : Bool) → room_at answers shown at (answer_s s c) ≡ b → Did
           ran c e r true b = more c e b (rw b at r.turn) (rw b at r.left) (rw b at r.numbers) (rw b at r.fields)
           ran c e r false b = full c e b (rw b at r.turn) (rw b at r.left) (rw b at r.numbers) (rw b at r.fields)
 
           go : (q : Option Call) → first_call rest ≡ q → Did
-          go none e = let h : Halted rest s answers shown t s' answers' shown' = rw e at u in over e h.turn h.left h.numbers h.fields
-          go (some c) e =
-              let r : Ran s c (taken_by (first_op rest)) answers shown at t s' answers' shown' = rw e at u in
+          go None e = let h : Halted rest s answers shown t s' answers' shown' = rw e at u in over e h.turn h.left h.numbers h.fields
+          go (Some c) e =
+              let r : Ran s c (taken_of (first_op rest)) answers shown at t s' answers' shown' = rw e at u in
               ran c e r (room_at answers shown at (answer_s s c)) refl
 
       -- it moves on
-      pub going_next : (at' : Cursor) → t ≡ Next at' → Going s₀ answers₀ shown₀ s' answers' shown' at'
+      pub going_next : (at' : Cursor) → t ≡ Ok at' → Going s₀ answers₀ shown₀ s' answers' shown' at'
       going_next at' n = go did
         where
           go : Did → Going s₀ answers₀ shown₀ s' answers' shown' at'
           go (more c e b turn left numbers fields) =
-              let z : at' ≡ moved at (taken_by (first_op rest)) (length (numbers_of (answer_s s c))) (length (answer_s s c).shown) = cc in
+              let z : at' ≡ moved at (taken_of (first_op rest)) (length (numbers_of (answer_s s c))) (length (answer_s s c).shown) = cc in
               rw (z, left, numbers, fields) (going_more c e b)
           go (full c e b turn left numbers fields) = absurd (let z : ◌≡◌ {A = ℕ} 0 1 = cc in omega arith)
           go (over e turn left numbers fields) = absurd (let z : ◌≡◌ {A = ℕ} 0 1 = cc in omega arith)
 
       -- and what is left to run falls
-      pub going_less : (at' : Cursor) → t ≡ Next at' → length ops - at'.calls < length ops - at.calls
+      pub going_less : (at' : Cursor) → t ≡ Ok at' → length ops - at'.calls < length ops - at.calls
       going_less at' n = go did
         where
           go : Did → length ops - at'.calls < length ops - at.calls
           go (more c e b turn left numbers fields) =
-              let z : at' ≡ moved at (taken_by (first_op rest)) (length (numbers_of (answer_s s c))) (length (answer_s s c).shown) = cc in
+              let z : at' ≡ moved at (taken_of (first_op rest)) (length (numbers_of (answer_s s c))) (length (answer_s s c).shown) = cc in
               let m : at'.calls ≡ at.calls + 1 = ap (λ (x : Cursor). x.calls) z in
               let l = left_now c e in
               omega arith
@@ -359,7 +365,7 @@ module _ (ops mfns tags lens bytes : List ℕ) where
           go (over e turn left numbers fields) = absurd (let z : ◌≡◌ {A = ℕ} 0 1 = cc in omega arith)
 
       -- it stops
-      pub going_stop : (x : Stop) → t ≡ Stopped x → Finished s₀ answers₀ shown₀ p (record { stop = x; calls = at.calls }) s' answers' shown'
+      pub going_stop : (x : Stop) → t ≡ Err x → Finished s₀ answers₀ shown₀ p (record { stop = x; calls = at.calls }) s' answers' shown'
       going_stop x n = go did
         where
           go : Did → Finished s₀ answers₀ shown₀ p (record { stop = x; calls = at.calls }) s' answers' shown'
@@ -367,4 +373,4 @@ module _ (ops mfns tags lens bytes : List ℕ) where
           go (full c e b turn left numbers fields) = let z : x ≡ NoRoom = cc in rw (z, left, numbers, fields) (finished_room c e b)
           go (over e turn left numbers fields) = let z : x ≡ stop_at rest = cc in rw (z, left, numbers, fields) (finished_list e)
 
-pub ruleset goings = (going_next, going_less, going_stop)
+pub ruleset goings = (going_start, going_next, going_less, going_stop)

@@ -5,15 +5,12 @@ use Prim.Native.Nat.{ℕ}
 use native.Mathlib.Omega.{arith}
 use mathlib.Core.Path.{◌≡◌, refl, sym, ◌∙◌}
 use mathlib.Core.Bool.{Bool, true, false}
-use mathlib.Core.List.{List, [], ◌∷◌}
-use denote.Enum.Declared.{tag_of}
-use types.Run.{OneOf}
+use mathlib.Core.List.{List}
 use Rattle.word.proofs.Tests.{false_true}
 use Rattle.store.specs.Reading.{lengths_permitted}
 use Rattle.writing.specs.Refusals.{format_answer}
 use Rattle.writing.specs.Calls.{format_leaves}
 use Rattle.store.specs.Answer.{Answer}
-use Rattle.store.specs.contracts.answer.Answer as answer
 use Rattle.writing.proofs.Plans.{not_done}
 use Rattle.store.proofs.Gates.{Refusing, refusing_not_done}
 use Rattle.store.specs.Store.{Store, store}

@@ -7,13 +7,17 @@ use native.Mathlib.Nat.{add-sub_cancel_left}
 use native.Mathlib.Omega.{arith}
 use mathlib.Core.Logic.{⊎_elim}
 use mathlib.Core.Path.{◌≡◌, refl, sym, ap, ◌∙◌}
-use mathlib.Core.Bool.{Bool, true, false, not}
-use mathlib.Core.Option.{none}
+use mathlib.Core.Bool.{Bool, true, false}
+use Rattle.std.specs.Prelude.{Option, Some, None, Result, Ok, Err, MatchResult}
+use Rattle.std.specs.Option.{ok_or}
+use Rattle.std.proofs.lemmas.Bool.{eqb-true}
+use Rattle.std.proofs.lemmas.List.{take_all, get_or-take}
+use Rattle.word.proofs.Tests.{false_true}
 use mathlib.Core.List.{List, [], ◌∷◌, ◌++◌, map}
-use lib.Dec.{leb}
+use lib.Dec.{leb, eqb}
 use lib.ListN.{length, take, drop, length-drop, length-map}
 use lib.Seq.{length-take-le}
-use borrow.Author.Tests.{le-leb, lt-leb, eq-eqb, ne_eqb, not-true, not-false}
+use borrow.Author.Tests.{le-leb, lt-leb, eq-eqb, ne_eqb}
 use Rattle.word.specs.Overwrite.{overwrite, part}
 use Rattle.word.proofs.Overwrite.{part_length, overwrite_none}
 use Rattle.script.proofs.Numbers.{before_part}
@@ -40,12 +44,12 @@ use Rattle.settling.proofs.Folding.{answers_count, lists_same, lists_short, list
 use Rattle.store.specs.Store.{Store, store}
 use Rattle.ledger.specs.Call.{Call, Outcome, listed}
 use Rattle.ledger.specs.StoreRun.{shown_outcome, answer_s, next_s, result_s}
-use Rattle.script.specs.Ops.{call_size, mfns_of, no_draft, taken_by, op_in}
-use Rattle.replay.specs.Calls.{Script, reading_call, writing_call, call_of, left_of, first_op, first_call}
+use Rattle.script.specs.Ops.{call_size, mfns_of, no_draft, counts, taken_by, op_in}
+use Rattle.replay.specs.Calls.{Script, script, reading_call, writing_call, call_of, left_of, first_op}
 use Rattle.script.specs.Report.{outcome_size}
 use Rattle.replay.specs.Replay.{numbers_of, stop_at}
 use Rattle.script.specs.Cursor.{left_at, moved, DraftWithin, Within}
-use Rattle.replay.specs.Turns.{writing_at, settling_at, script_at, without_mfn, Wrote, ListFits, ListReported, room_at, Ran, Turned}
+use Rattle.replay.specs.Turns.{writing_at, settling_at, script_at, IsFirst, IsOver, without_mfn, Wrote, ListFits, ListReported, room_at, Ran, Turned}
 use Rattle.script.specs.declared.calls.Counts.{Counts}
 use Rattle.script.specs.declared.calls.Reading.{Reading}
 use Rattle.script.specs.declared.calls.Reading.TheVariants.{View, Settled, Check}
@@ -53,13 +57,10 @@ use Rattle.script.specs.declared.calls.Writing.{Writing}
 use Rattle.script.specs.declared.calls.Writing.TheVariants.{Format, Create, Update, Delete, Settle, Revert, Migrate, Recount}
 use Rattle.script.specs.declared.calls.Op.{Op}
 use Rattle.script.specs.declared.calls.Op.TheVariants.{Asks, Writes, Settles}
-use Rattle.script.specs.declared.calls.Op.TheVariants as op
 use Rattle.script.specs.declared.report.Stop.{Stop}
 use Rattle.script.specs.declared.report.Stop.TheVariants.{Ended, NoRoom}
 use Rattle.script.specs.declared.report.Stop.TheVariants as stop
 use Rattle.script.specs.declared.cursor.Cursor.{Cursor}
-use Rattle.replay.specs.declared.turns.Turn.{Turn}
-use Rattle.replay.specs.declared.turns.Turn.TheVariants.{Next, Stopped}
 use Rattle.replay.proofs.Decoding.{first_fits, too_short, long_enough}
 
 -- ---- calls that read
@@ -151,15 +152,15 @@ pub written_at : (s s' : Store) (tags lens bytes : List ℕ) (at : Cursor) (n : 
     → Wrote s
     (writing_call
     (draft
-    (take (at.tags + n.tags - at.tags) (drop at.tags tags))
-    (take (at.lens + n.lens - at.lens) (drop at.lens lens))
-    (take (at.bytes + n.bytes - at.bytes) (drop at.bytes bytes)))
+    (take (at.used.tags + n.tags - at.used.tags) (drop at.used.tags tags))
+    (take (at.used.lens + n.lens - at.used.lens) (drop at.used.lens lens))
+    (take (at.used.bytes + n.bytes - at.used.bytes) (drop at.used.bytes bytes)))
     w)
     r s'
     → Wrote s (writing_at tags lens bytes at n w) r s'
 unfolding writing_at
 written_at s s' tags lens bytes at n w r h =
-    rw (add-sub_cancel_left at.tags n.tags, add-sub_cancel_left at.lens n.lens, add-sub_cancel_left at.bytes n.bytes) at h
+    rw (add-sub_cancel_left at.used.tags n.tags, add-sub_cancel_left at.used.lens n.lens, add-sub_cancel_left at.used.bytes n.bytes) at h
 
 -- ---- a call is run and reported
 
@@ -172,10 +173,10 @@ reading_keeps s Check = refl
 
 -- there is no room for a call, whichever it is
 module _ (s : Store) (c : Call) (n : Counts) (answers shown : List ℕ) (at : Cursor) where
-  full : room_at answers shown at (answer_s s c) ≡ false → Ran s c n answers shown at (Stopped NoRoom) s answers shown
+  full : room_at answers shown at (answer_s s c) ≡ false → Ran s c n answers shown at (Err NoRoom) s answers shown
   full b = record { turn = rw b; left = rw b; numbers = rw b; fields = rw b }
 
-  pub no_numbers : length answers - at.numbers < outcome_size → Ran s c n answers shown at (Stopped NoRoom) s answers shown
+  pub no_numbers : length answers - at.numbers < outcome_size → Ran s c n answers shown at (Err NoRoom) s answers shown
   no_numbers h = full (rw (lt-leb (length (numbers_of (answer_s s c))) (length answers - at.numbers) (omega arith)))
 
 -- a call that reads shows sh, and there is room for the five numbers
@@ -197,47 +198,47 @@ module _ (mst xrf answers shown : List ℕ) (at : Cursor) (r : Reading) (sh : Sh
   numbers_fit : leb (length (numbers_of o)) (length answers - at.numbers) ≡ true
   numbers_fit = rw numbers_size (le-leb outcome_size (length answers - at.numbers) h)
 
-  pub no_bytes : length shown - at.shown < sh.len → Ran s (reading_call r) no_draft answers shown at (Stopped NoRoom) s answers shown
+  pub no_bytes : length shown - at.shown < sh.len → Ran s (reading_call r) no_draft answers shown at (Err NoRoom) s answers shown
   no_bytes k = full s (reading_call r) no_draft answers shown at (rw (numbers_fit, shown_length, lt-leb sh.len (length shown - at.shown) k))
 
-  pub asked_next : (answers' shown' : List ℕ) (a : ℕ) (n : Counts) (at' : Cursor) → sh.len ≤ length shown - at.shown
-      → a ≡ number_of sh.answer → answers' ≡ overwrite answers at.numbers (a ∷ 0 ∷ sh.len ∷ sh.occurrences ∷ 0 ∷ [])
+  pub asked_next : (answers' shown' : List ℕ) (a m l : ℕ) (n : Counts) (at' : Cursor) → sh.len ≤ length shown - at.shown
+      → a ≡ number_of sh.answer → m ≡ 0 → l ≡ 0 → answers' ≡ overwrite answers at.numbers (a ∷ m ∷ sh.len ∷ sh.occurrences ∷ l ∷ [])
       → shown' ≡ overwrite shown at.shown (part mst sh.start (sh.start + sh.len - sh.start))
-      → n ≡ no_draft → at' ≡ moved at n outcome_size sh.len
-      → Ran s (reading_call r) no_draft answers shown at (Next at') s answers' shown'
-  asked_next answers' shown' a n at' k ea en ef z m =
+      → n.mfns ≡ 0 → n.tags ≡ 0 → n.lens ≡ 0 → n.bytes ≡ 0 → at' ≡ moved at n outcome_size sh.len
+      → Ran s (reading_call r) no_draft answers shown at (Ok at') s answers' shown'
+  asked_next answers' shown' a m l n at' k ea em el en ef nm nt nl nb at'-is =
       let b : room_at answers shown at o ≡ true = rw (numbers_fit, shown_length, le-leb sh.len (length shown - at.shown) k) in
       record {
-        turn = rw (b, numbers_size, shown_length, m, z);
+        turn = rw (b, numbers_size, shown_length, at'-is, nm, nt, nl, nb);
         left = rw (b, reading_keeps s r);
-        numbers = rw (b, shown_length, ← e, ← ea) en;
+        numbers = rw (b, shown_length, ← e, ← ea) (rw (em, el) at en);
         fields = rw (b, ← e) (rw (add-sub_cancel_left sh.start sh.len) at ef);
       }
 
 -- a call that may write is run where there is room for the five numbers: it shows nothing and lists nothing
-pub wrote_next : (s s' : Store) (tags lens bytes : List ℕ) (r : Created) (answers answers' : List ℕ) (a : ℕ) (at at' : Cursor) (k : Writing) (n : Counts)
+pub wrote_next : (s s' : Store) (tags lens bytes : List ℕ) (r : Created) (answers answers' : List ℕ) (a x y z : ℕ) (at at' : Cursor) (k : Writing) (n : Counts)
     → Wrote s (writing_at tags lens bytes at n k) r s' → outcome_size ≤ length answers - at.numbers
-    → a ≡ number_of r.answer → answers' ≡ overwrite answers at.numbers (a ∷ r.mfn.0 ∷ 0 ∷ 0 ∷ 0 ∷ [])
+    → a ≡ number_of r.answer → x ≡ 0 → y ≡ 0 → z ≡ 0 → answers' ≡ overwrite answers at.numbers (a ∷ r.mfn.0 ∷ x ∷ y ∷ z ∷ [])
     → at' ≡ moved at n outcome_size 0
-    → (shown : List ℕ) → Ran s (writing_at tags lens bytes at n k) n answers shown at (Next at') s' answers' shown
-wrote_next s s' tags lens bytes r answers answers' a at at' k n w h ea en m shown =
+    → (shown : List ℕ) → Ran s (writing_at tags lens bytes at n k) n answers shown at (Ok at') s' answers' shown
+wrote_next s s' tags lens bytes r answers answers' a x y z at at' k n w h ea ex ey ez en m shown =
     let b : room_at answers shown at (answer_s s (writing_at tags lens bytes at n k)) ≡ true = rw (← w.outcome, le-leb outcome_size (length answers - at.numbers) h, le-leb 0 (length shown - at.shown) (omega arith)) in
     record {
       turn = rw (b, ← w.outcome, m);
       left = rw (b, w.left);
-      numbers = rw (b, ← w.outcome, ← ea) en;
+      numbers = rw (b, ← w.outcome, ← ea) (rw (ex, ey, ez) at en);
       fields = rw (b, ← w.outcome) (sym (overwrite_none shown at.shown));
     }
 
 -- ---- a list is run and reported
 
 -- lists that are not right: nothing is run, and 17 is what the call answers
-module _ (s : Store) (mfns answers : List ℕ) (at : Cursor) (n lent : ℕ) (i : at.mfns + n ≤ length mfns) where
+module _ (s : Store) (mfns answers : List ℕ) (at : Cursor) (n lent : ℕ) (i : at.used.mfns + n ≤ length mfns) where
   abbrev c : Call
   c = settling_at mfns at n lent
 
-  mfns_length : length (take n (drop at.mfns mfns)) ≡ n
-  mfns_length = length-take-le n (drop at.mfns mfns) (let x = length-drop at.mfns mfns in omega arith)
+  mfns_length : length (take n (drop at.used.mfns mfns)) ≡ n
+  mfns_length = length-take-le n (drop at.used.mfns mfns) (let x = length-drop at.used.mfns mfns in omega arith)
 
   refused_outcome : lists_right n lent ≡ false → answer_s s c ≡ listed (Err NoRoomInList) []
   unfolding settling_at answer_s result_s settle_list_answer after number_of
@@ -247,77 +248,78 @@ module _ (s : Store) (mfns answers : List ℕ) (at : Cursor) (n lent : ℕ) (i :
   unfolding settling_at next_s result_s settle_list_answer settle_list_leaves after number_of
   refused_left h = rw (mfns_length, h)
 
-  pub list_refused : (answers' : List ℕ) (a : ℕ) (k : Counts) (at' : Cursor) (b : Bool) → b ≡ lists_right n lent → not b ≡ true
-      → outcome_size ≤ length answers - at.numbers → a ≡ number_of (Err NoRoomInList) → answers' ≡ overwrite answers at.numbers (a ∷ 0 ∷ 0 ∷ 0 ∷ 0 ∷ [])
-      → k ≡ mfns_of n → at' ≡ moved at k outcome_size 0
-      → (shown : List ℕ) → Ran s c (mfns_of n) answers shown at (Next at') s answers' shown
-  list_refused answers' a k at' b e f h ea en ek m shown =
-      let w : lists_right n lent ≡ false = sym e ∙ not-true b f in
+  pub list_refused : (answers' : List ℕ) (a x y z v t l q : ℕ) (at' : Cursor) (b : Bool) → b ≡ lists_right n lent → b ≡ false
+      → outcome_size ≤ length answers - at.numbers → a ≡ number_of (Err NoRoomInList) → x ≡ 0 → y ≡ 0 → z ≡ 0 → v ≡ 0
+      → answers' ≡ overwrite answers at.numbers (a ∷ x ∷ y ∷ z ∷ v ∷ [])
+      → t ≡ 0 → l ≡ 0 → q ≡ 0 → at' ≡ moved at (counts n t l q) outcome_size 0
+      → (shown : List ℕ) → Ran s c (mfns_of n) answers shown at (Ok at') s answers' shown
+  list_refused answers' a x y z v t l q at' b e f h ea ex ey ez ev en et el eq m shown =
+      let w : lists_right n lent ≡ false = sym e ∙ f in
       let o = refused_outcome w in
       let r : room_at answers shown at (answer_s s c) ≡ true = rw (o, le-leb outcome_size (length answers - at.numbers) h, le-leb 0 (length shown - at.shown) (omega arith)) in
       record {
-        turn = rw (r, o, m, ek);
+        turn = rw (r, o, m, et, el, eq);
         left = rw (r, refused_left w);
-        numbers = rw (r, o, ← ea) en;
+        numbers = rw (r, o, ← ea) (rw (ex, ey, ez, ev) at en);
         fields = rw (r, o) (sym (overwrite_none shown at.shown));
       }
 
   -- lists that are
-  module _ (b : Bool) (e : b ≡ lists_right n lent) (f : not b ≡ false) where
+  module _ (b : Bool) (e : b ≡ lists_right n lent) (f : b ≡ true) where
     right : lists_right n lent ≡ true
-    right = sym e ∙ not-false b f
+    right = sym e ∙ f
 
     pub lent_is : lent ≡ n
     lent_is = sym (lists_same n lent right)
 
-    done_outcome : answer_s s c ≡ listed (Ok tt) (settle_each_answers s (take n (drop at.mfns mfns)))
+    done_outcome : answer_s s c ≡ listed (Ok tt) (settle_each_answers s (take n (drop at.used.mfns mfns)))
     unfolding settling_at answer_s result_s settle_list_answer after number_of
     done_outcome = rw (mfns_length, right)
 
     done_size : length (numbers_of (answer_s s c)) ≡ outcome_size + n
     done_size =
-        let k = length-map (settle_each_answers s (take n (drop at.mfns mfns))) number_of ∙ answers_count s (take n (drop at.mfns mfns)) ∙ mfns_length in
+        let k = length-map (settle_each_answers s (take n (drop at.used.mfns mfns))) number_of ∙ answers_count s (take n (drop at.used.mfns mfns)) ∙ mfns_length in
         rw done_outcome (omega arith)
 
-    pub list_full : length answers - at.numbers < outcome_size + n → (shown : List ℕ) → Ran s c (mfns_of n) answers shown at (Stopped NoRoom) s answers shown
+    pub list_full : length answers - at.numbers < outcome_size + n → (shown : List ℕ) → Ran s c (mfns_of n) answers shown at (Err NoRoom) s answers shown
     list_full h shown = full s c (mfns_of n) answers shown at (rw (done_size, lt-leb (outcome_size + n) (length answers - at.numbers) h))
 
     pub list_fits : outcome_size + n ≤ length answers - at.numbers → at.numbers ≤ length answers → ListFits mfns n answers at
     list_fits h g = record { mfns_in = i; short = lists_short n lent right; room = omega arith }
 
-    pub list_next : (s' : Store) (answers' : List ℕ) (k : Counts) (at' : Cursor) → outcome_size + n ≤ length answers - at.numbers
-        → ListReported s (settling_at mfns at n n) answers at s' answers' → k ≡ mfns_of n → at' ≡ moved at k (outcome_size + n) 0
-        → (shown : List ℕ) → Ran s c (mfns_of n) answers shown at (Next at') s' answers' shown
-    list_next s' answers' k at' h w ek m shown =
+    pub list_next : (s' : Store) (answers' : List ℕ) (t l q : ℕ) (at' : Cursor) → outcome_size + n ≤ length answers - at.numbers
+        → ListReported s (settling_at mfns at n n) answers at s' answers' → t ≡ 0 → l ≡ 0 → q ≡ 0 → at' ≡ moved at (counts n t l q) (outcome_size + n) 0
+        → (shown : List ℕ) → Ran s c (mfns_of n) answers shown at (Ok at') s' answers' shown
+    list_next s' answers' t l q at' h w et el eq m shown =
         let same : settling_at mfns at n n ≡ c = ap (settling_at mfns at n) (sym lent_is) in
         let o = done_outcome in
         let none : length (answer_s s c).shown ≡ 0 = rw o in
         let r : room_at answers shown at (answer_s s c) ≡ true = rw (done_size, le-leb (outcome_size + n) (length answers - at.numbers) h, none, le-leb 0 (length shown - at.shown) (omega arith)) in
         record {
-          turn = rw (r, done_size, none, m, ek);
+          turn = rw (r, done_size, none, m, et, el, eq);
           left = rw r (w.left ∙ ap (next_s s) same);
           numbers = rw r (w.numbers ∙ ap (λ (q : Call). overwrite answers at.numbers (numbers_of (answer_s s q))) same);
           fields = rw (r, o) (sym (overwrite_none shown at.shown));
         }
 
 -- the list is settled in a part of the room, and the five numbers stand before it
-pub list_reported : (s s' : Store) (mfns : List ℕ) (n : ℕ) (answers answers₁ answers₂ : List ℕ) (at : Cursor) (a : Answer) (k : ℕ) → ListFits mfns n answers at
-    → a ≡ settle_list_answer (length (take (at.mfns + n - at.mfns) (drop at.mfns mfns))) (length (mid_of (at.numbers + outcome_size) (at.numbers + outcome_size + n - (at.numbers + outcome_size)) answers))
-    → s' ≡ settle_list_leaves s (take (at.mfns + n - at.mfns) (drop at.mfns mfns)) (length (mid_of (at.numbers + outcome_size) (at.numbers + outcome_size + n - (at.numbers + outcome_size)) answers))
-    → answers₁ ≡ settle_list_tells s (take (at.mfns + n - at.mfns) (drop at.mfns mfns)) (mid_of (at.numbers + outcome_size) (at.numbers + outcome_size + n - (at.numbers + outcome_size)) answers)
-    → k ≡ number_of a
-    → answers₂ ≡ overwrite (put_mid (at.numbers + outcome_size) (at.numbers + outcome_size + n - (at.numbers + outcome_size)) answers answers₁) at.numbers (k ∷ 0 ∷ 0 ∷ 0 ∷ n ∷ [])
+pub list_reported : (s s' : Store) (mfns : List ℕ) (n : ℕ) (answers answers₁ answers₂ : List ℕ) (at : Cursor) (a : Answer) (k x y z : ℕ) → ListFits mfns n answers at
+    → a ≡ settle_list_answer (length (take (at.used.mfns + n - at.used.mfns) (drop at.used.mfns mfns))) (length (mid_of (at.numbers + outcome_size) (at.numbers + outcome_size + n - (at.numbers + outcome_size)) answers))
+    → s' ≡ settle_list_leaves s (take (at.used.mfns + n - at.used.mfns) (drop at.used.mfns mfns)) (length (mid_of (at.numbers + outcome_size) (at.numbers + outcome_size + n - (at.numbers + outcome_size)) answers))
+    → answers₁ ≡ settle_list_tells s (take (at.used.mfns + n - at.used.mfns) (drop at.used.mfns mfns)) (mid_of (at.numbers + outcome_size) (at.numbers + outcome_size + n - (at.numbers + outcome_size)) answers)
+    → k ≡ number_of a → x ≡ 0 → y ≡ 0 → z ≡ 0
+    → answers₂ ≡ overwrite (put_mid (at.numbers + outcome_size) (at.numbers + outcome_size + n - (at.numbers + outcome_size)) answers answers₁) at.numbers (k ∷ x ∷ y ∷ z ∷ n ∷ [])
     → ListReported s (settling_at mfns at n n) answers at s' answers₂
 unfolding settling_at answer_s next_s result_s settle_list_answer settle_list_leaves settle_list_tells after number_of
-list_reported s s' mfns n answers answers₁ answers₂ at a k fits ea el et ek en =
+list_reported s s' mfns n answers answers₁ answers₂ at a k x y z fits ea el et ek ex ey ez en =
     let i = fits.mfns_in in
     let room = fits.room in
-    let ms = take n (drop at.mfns mfns) in
-    let x = length-drop at.mfns mfns in
+    let ms = take n (drop at.used.mfns mfns) in
+    let x = length-drop at.used.mfns mfns in
     let y = length-drop (at.numbers + outcome_size) answers in
     let fine : lists_right n n ≡ true = lists_fine n fits.short in
-    let long : length ms ≡ n = length-take-le n (drop at.mfns mfns) (omega arith) in
-    let p : at.mfns + n - at.mfns ≡ n = omega arith in
+    let long : length ms ≡ n = length-take-le n (drop at.used.mfns mfns) (omega arith) in
+    let p : at.used.mfns + n - at.used.mfns ≡ n = omega arith in
     let q : at.numbers + outcome_size + n - (at.numbers + outcome_size) ≡ n = omega arith in
     let w : length (take n (drop (at.numbers + outcome_size) answers)) ≡ n = length-take-le n (drop (at.numbers + outcome_size) answers) (omega arith) in
     let a-is : a ≡ (Ok tt) = ea ∙ rw (p, q, long, w, fine) in
@@ -326,7 +328,7 @@ list_reported s s' mfns n answers answers₁ answers₂ at a k fits ea el et ek 
     let count : length (settle_each_answers s ms) ≡ n = answers_count s ms ∙ long in
     let zero_is : k ≡ 0 = ek ∙ rw a-is in
     let placed : answers₂ ≡ overwrite answers at.numbers ((k ∷ 0 ∷ 0 ∷ 0 ∷ n ∷ []) ++ answers₁) =
-    en ∙ rw q (before_part answers (k ∷ 0 ∷ 0 ∷ 0 ∷ n ∷ []) answers₁ at.numbers n (omega arith) size) in
+    rw (ex, ey, ez) at en ∙ rw q (before_part answers (k ∷ 0 ∷ 0 ∷ 0 ∷ n ∷ []) answers₁ at.numbers n (omega arith) size) in
     record { left = el ∙ rw (p, q, long, w, fine); numbers = rw (long, fine, count) (rw (zero_is, told) at placed) }
 
 pub ruleset asked_turns = (no_numbers, no_bytes, asked_next)
@@ -337,13 +339,21 @@ pub ruleset settled_turns = (no_numbers, list_refused, list_full, list_fits, lis
 
 -- ---- a turn
 
--- what lies within a list has no number that is too high for 64 bits
-pub fits_word : (a n most : ℕ) → a + n ≤ most → most ≤ 9223372036854775807 → a + n ≤ 18446744073709551615
-fits_word a n most h k = omega arith
+-- the first five of a list are all that a call is read from
+op_front : (ns : List ℕ) (left : Counts) → op_in (take call_size ns) left ≡ op_in ns left
+unfolding op_in
+op_front ns left =
+    rw (
+      get_or-take call_size ns 0 0 (omega arith),
+      get_or-take call_size ns 1 0 (omega arith),
+      get_or-take call_size ns 2 0 (omega arith),
+      get_or-take call_size ns 3 0 (omega arith),
+      get_or-take call_size ns 4 0 (omega arith),
+    )
 
 module _ (ops mfns tags lens bytes : List ℕ) (at : Cursor) where
   abbrev rest : Script
-  rest = script_at ops mfns tags lens bytes at
+  rest = script_at (script ops mfns tags lens bytes) at
 
   rest_length : length rest.ops ≡ length ops - call_size * at.calls
   rest_length = length-drop (call_size * at.calls) ops
@@ -352,74 +362,90 @@ module _ (ops mfns tags lens bytes : List ℕ) (at : Cursor) where
   stop_malformed : (length ops ≡ call_size * at.calls → ⊥) → call_size * at.calls ≤ length ops → stop.Malformed ≡ stop_at rest
   stop_malformed k h = rw (rest_length, ne_eqb (length ops - call_size * at.calls) 0 (λ e. k (omega arith)))
 
-  -- the op that the code reads at the cursor is the first of what is left
-  was_read : (left : Counts) (o : Op) → left ≡ left_at (length mfns) (length tags) (length lens) (length bytes) at → o ≡ op_in (drop (call_size * at.calls) ops) left
-      → first_op rest ≡ o
-  unfolding first_op
-  was_read left o el eo =
-      let l : left ≡ left_of rest = el ∙ rw (length-drop at.mfns mfns, length-drop at.tags tags, length-drop at.lens lens, length-drop at.bytes bytes) in
-      sym (eo ∙ ap (op_in (drop (call_size * at.calls) ops)) l)
+  -- the numbers that the code looks at are all that are left
+  abbrev looked_at : List ℕ
+  looked_at = take (length ops - call_size * at.calls) (drop (call_size * at.calls) ops)
+
+  looked_is : looked_at ≡ rest.ops
+  looked_is = take_all (length ops - call_size * at.calls) rest.ops (let k = rest_length in omega arith)
+
+  module _ (h : call_size * at.calls ≤ length ops) (b : Bool) (e : b ≡ eqb (length looked_at) 0) where
+    pub op_ended : b ≡ true → IsOver rest Ended
+    op_ended f =
+        let k = rest_length in
+        let n : length rest.ops ≡ 0 = ap length (sym looked_is) ∙ eqb-true (length looked_at) 0 (sym e ∙ f) in
+        record { none = too_short rest (omega arith); stop = rw n }
+
+    module _ (f : b ≡ false) where
+      left_over : length ops ≡ call_size * at.calls → ⊥
+      left_over z =
+          let k = rest_length in
+          let n : length looked_at ≡ 0 = ap length looked_is ∙ omega arith in
+          false_true (sym f ∙ e ∙ eq-eqb (length looked_at) 0 n)
+
+      pub op_short : length looked_at < call_size → IsOver rest stop.Malformed
+      op_short g = record { none = too_short rest (rw looked_is at g); stop = stop_malformed left_over h }
+
+      -- the op that the code reads at the cursor is the first of what is left
+      pub op_read : (numbers : List ℕ) (all left : Counts) (o : Option Op) (r : Result Op Stop) → call_size ≤ length looked_at → numbers ≡ take call_size looked_at
+          → all ≡ counts (length mfns) (length tags) (length lens) (length bytes) → left ≡ left_at all at → o ≡ op_in numbers left → r ≡ ok_or o stop.Malformed
+          → MatchResult r (IsFirst rest) (IsOver rest)
+      unfolding first_op
+      op_read numbers all left o r g en ea el eo er = rw (er, was) (go (first_op rest) refl)
+        where
+          long : call_size ≤ length rest.ops
+          long = rw looked_is at g
+
+          was : o ≡ first_op rest
+          was =
+              let l : left ≡ left_of rest = el ∙ rw (ea, length-drop at.used.mfns mfns, length-drop at.used.tags tags, length-drop at.used.lens lens, length-drop at.used.bytes bytes) in
+              eo ∙ rw (en, l, op_front looked_at (left_of rest), looked_is)
+
+          go : (q : Option Op) → first_op rest ≡ q → MatchResult (ok_or q stop.Malformed) (IsFirst rest) (IsOver rest)
+          go None z = record { none = long_enough rest long ∙ ap (call_of rest) z; stop = stop_malformed left_over h }
+          go (Some x) z = record { read = z; called = long_enough rest long ∙ ap (call_of rest) z }
 
   -- so the draft of a call that may write lies within the lists
-  pub draft_within : (left : Counts) (o : Op) (w : Writing) (n : Counts) (answers shown : List ℕ)
-      → left ≡ left_at (length mfns) (length tags) (length lens) (length bytes) at → o ≡ op_in (drop (call_size * at.calls) ops) left → o ≡ Writes w n
-      → Within ops mfns tags lens bytes answers shown at → DraftWithin tags lens bytes at n
-  draft_within left o w n answers shown el eo e i =
-      let f = rw (was_read left o el eo ∙ e) at (first_fits rest) in
+  pub draft_within : (o : Op) (w : Writing) (n : Counts) (answers shown : List ℕ) → IsFirst rest o → o ≡ Writes w n → Within ops mfns tags lens bytes answers shown at → DraftWithin tags lens bytes at n
+  draft_within o w n answers shown e k i =
+      let f = rw (e.read, k) at (first_fits rest) in
       let d = i.drafts_in in
-      let x = length-drop at.tags tags in
-      let y = length-drop at.lens lens in
-      let z = length-drop at.bytes bytes in
+      let x = length-drop at.used.tags tags in
+      let y = length-drop at.used.lens lens in
+      let z = length-drop at.used.bytes bytes in
       record { tags_in = omega arith; lens_in = omega arith; bytes_in = omega arith }
 
   -- and so do the MFNs of a call
-  pub mfns_within : (left : Counts) (o q : Op) (answers shown : List ℕ)
-      → left ≡ left_at (length mfns) (length tags) (length lens) (length bytes) at → o ≡ op_in (drop (call_size * at.calls) ops) left → o ≡ q
-      → Within ops mfns tags lens bytes answers shown at → at.mfns + (taken_by q).mfns ≤ length mfns
-  mfns_within left o q answers shown el eo e i =
-      let f = rw (was_read left o el eo ∙ e) at (first_fits rest) in
+  pub mfns_within : (o q : Op) (answers shown : List ℕ) → IsFirst rest o → o ≡ q → Within ops mfns tags lens bytes answers shown at → at.used.mfns + (taken_by q).mfns ≤ length mfns
+  mfns_within o q answers shown e k i =
+      let f = rw (e.read, k) at (first_fits rest) in
       let d = i.mfns_in in
-      let x = length-drop at.mfns mfns in
+      let x = length-drop at.used.mfns mfns in
       omega arith
 
   module _ (answers shown : List ℕ) (s : Store) where
     -- there is no call
-    halted : (x : Stop) → first_call rest ≡ none → x ≡ stop_at rest → Turned rest s answers shown at (Stopped x) s answers shown
+    pub turned_over : (x : Stop) → IsOver rest x → Turned rest s answers shown at (Err x) s answers shown
     unfolding Turned
-    halted x e f = rw e (record { turn = ap Stopped f; left = refl; numbers = refl; fields = refl })
+    turned_over x o = rw o.none (record { turn = ap (λ (y : Stop). Err y) o.stop; left = refl; numbers = refl; fields = refl })
 
-    pub turned_ended : length ops ≡ call_size * at.calls → Turned rest s answers shown at (Stopped Ended) s answers shown
-    turned_ended h =
-        halted Ended (too_short rest (let k = rest_length in omega arith))
-        (rw (rest_length, eq-eqb (length ops - call_size * at.calls) 0 (omega arith)))
+    pub turned_asks : (o : Op) (r : Reading) (t : Result Cursor Stop) (answers' shown' : List ℕ) → IsFirst rest o → o ≡ Asks r → Ran s (reading_call r) no_draft answers shown at t s answers' shown'
+        → Turned rest s answers shown at t s answers' shown'
+    unfolding Turned
+    turned_asks o r t answers' shown' f e k = rw (f.called, f.read, e) k
 
-    pub turned_short : (length ops ≡ call_size * at.calls → ⊥) → Within ops mfns tags lens bytes answers shown at → length ops - call_size * at.calls < call_size
-        → Turned rest s answers shown at (Stopped stop.Malformed) s answers shown
-    turned_short k w h = halted stop.Malformed (too_short rest (let l = rest_length in omega arith)) (stop_malformed k w.ops_in)
+    pub turned_writes : (o : Op) (w : Writing) (n : Counts) (t : Result Cursor Stop) (s' : Store) (answers' : List ℕ) → IsFirst rest o → o ≡ Writes w n
+        → ((z : List ℕ) → Ran s (writing_at tags lens bytes at n w) n answers z at t s' answers' z)
+        → Turned rest s answers shown at t s' answers' shown
+    unfolding Turned writing_at
+    turned_writes o w n t s' answers' f e k = rw (f.called, f.read, e) (k shown)
 
-    module _ (left : Counts) (o : Op) (h : call_size ≤ length ops - call_size * at.calls) (el : left ≡ left_at (length mfns) (length tags) (length lens) (length bytes) at)
-        (eo : o ≡ op_in (drop (call_size * at.calls) ops) left) where
-      called : (q : Op) → o ≡ q → first_call rest ≡ call_of rest q
-      called q e = long_enough rest (let k = rest_length in omega arith) ∙ ap (call_of rest) (was_read left o el eo ∙ e)
+    pub turned_settles : (o : Op) (n lent : ℕ) (t : Result Cursor Stop) (s' : Store) (answers' : List ℕ) → IsFirst rest o → o ≡ Settles n lent
+        → ((z : List ℕ) → Ran s (settling_at mfns at n lent) (mfns_of n) answers z at t s' answers' z)
+        → Turned rest s answers shown at t s' answers' shown
+    unfolding Turned settling_at
+    turned_settles o n lent t s' answers' f e k = rw (f.called, f.read, e) (k shown)
 
-      pub turned_malformed : o ≡ op.Malformed → Turned rest s answers shown at (Stopped stop.Malformed) s answers shown
-      turned_malformed e = halted stop.Malformed (called op.Malformed e) (stop_malformed (λ z. omega arith) (omega arith))
+pub ruleset first_ops = (op_ended, op_short, op_read)
 
-      pub turned_asks : (r : Reading) (t : Turn) (answers' shown' : List ℕ) → o ≡ Asks r → Ran s (reading_call r) no_draft answers shown at t s answers' shown'
-          → Turned rest s answers shown at t s answers' shown'
-      unfolding Turned
-      turned_asks r t answers' shown' e k = rw (called (Asks r) e, was_read left o el eo ∙ e) k
-
-      pub turned_writes : (w : Writing) (n : Counts) (t : Turn) (s' : Store) (answers' : List ℕ) → o ≡ Writes w n
-          → ((z : List ℕ) → Ran s (writing_at tags lens bytes at n w) n answers z at t s' answers' z)
-          → Turned rest s answers shown at t s' answers' shown
-      unfolding Turned writing_at
-      turned_writes w n t s' answers' e k = rw (called (Writes w n) e, was_read left o el eo ∙ e) (k shown)
-
-      pub turned_settles : (n lent : ℕ) (t : Turn) (s' : Store) (answers' : List ℕ) → o ≡ Settles n lent
-          → ((z : List ℕ) → Ran s (settling_at mfns at n lent) (mfns_of n) answers z at t s' answers' z)
-          → Turned rest s answers shown at t s' answers' shown
-      unfolding Turned settling_at
-      turned_settles n lent t s' answers' e k = rw (called (Settles n lent) e, was_read left o el eo ∙ e) (k shown)
-
-pub ruleset turns = (turned_ended, turned_short, turned_malformed, turned_asks, turned_writes, turned_settles)
+pub ruleset turns = (turned_over, turned_asks, turned_writes, turned_settles)

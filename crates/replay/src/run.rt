@@ -1,11 +1,11 @@
 // Runs a list of calls on two lent buffers and writes down what each call answers.
 ghost use Rattle.store.specs.Store.{store};
-ghost use Rattle.replay.specs.Calls.{script};
+ghost use Rattle.replay.specs.Calls.{script_of};
 ghost use Rattle.replay.specs.Replay.{Runs, Replays};
 
 use crate::turns;
-use crate::turns::Turn;
 use script::cursor::Cursor;
+use script::lists::Script;
 use script::report::{Replayed, Stop};
 use store::answer::Answer;
 
@@ -14,32 +14,17 @@ use store::answer::Answer;
 pub fn run(
     mst: &mut [u8],
     xrf: &mut [u8],
-    ops: &[u32],
-    mfns: &[u32],
-    tags: &[u16],
-    lens: &[u16],
-    data: &[u8],
+    list: &Script,
     answers: &mut [u32],
     shown: &mut [u8],
 ) -> Replayed
-    ensures { Runs (store mst.old xrf.old) (script ops.now mfns.now tags.now lens.now «data».now) answers.old shown.old result (store mst.new xrf.new) answers.new shown.new }
+    ensures { Runs (store mst.old xrf.old) (script_of list.now) answers.old shown.old result (store mst.new xrf.new) answers.new shown.new }
 {
-    let mut at = Cursor {
-        calls: 0,
-        mfns: 0,
-        tags: 0,
-        lens: 0,
-        bytes: 0,
-        numbers: 0,
-        shown: 0,
-    };
+    let mut at = Cursor::default();
     loop {
-        let t = turns::one_turn(mst, xrf, ops, mfns, tags, lens, data, answers, shown, at);
-        match t {
-            Turn::Next(next) => {
-                at = next;
-            }
-            Turn::Stopped(stop) => {
+        match turns::one_turn(mst, xrf, list, answers, shown, at) {
+            Ok(next) => at = next,
+            Err(stop) => {
                 return Replayed {
                     stop,
                     calls: at.calls,
@@ -53,15 +38,11 @@ pub fn run(
 pub fn replay(
     mst: &mut [u8],
     xrf: &mut [u8],
-    ops: &[u32],
-    mfns: &[u32],
-    tags: &[u16],
-    lens: &[u16],
-    data: &[u8],
+    list: &Script,
     answers: &mut [u32],
     shown: &mut [u8],
 ) -> Replayed
-    ensures { Replays (store mst.old xrf.old) (script ops.now mfns.now tags.now lens.now «data».now) answers.old shown.old result (store mst.new xrf.new) answers.new shown.new }
+    ensures { Replays (store mst.old xrf.old) (script_of list.now) answers.old shown.old result (store mst.new xrf.new) answers.new shown.new }
 {
     let a = writing::format::format(mst, xrf);
     let Answer::Done = a else {
@@ -70,5 +51,5 @@ pub fn replay(
             calls: 0,
         };
     };
-    run(mst, xrf, ops, mfns, tags, lens, data, answers, shown)
+    run(mst, xrf, list, answers, shown)
 }

@@ -1,29 +1,22 @@
 // One call of a list: it is run, and what it answers is written down, where there is room.
-ghost use Rattle.std.specs.Prelude.{◌≡◌, List, ℕ, ◌+◌, ◌≤◌, length};
+ghost use Rattle.std.specs.Prelude.{◌≡◌, List, ℕ, ◌+◌, ◌*◌, ◌≤◌, length, MatchResult};
 ghost use Rattle.layout.specs.Sizes.{mst_most};
 ghost use Rattle.drafts.specs.Draft.{draft};
 ghost use Rattle.store.specs.Store.{store};
 ghost use Rattle.ledger.specs.StoreRun.{shown_outcome, answer_s};
-ghost use Rattle.script.specs.Ops.{mfns_of, no_draft};
-ghost use Rattle.script.specs.Cursor.{DraftWithin, NumbersWithin, RoomWithin, Within};
-ghost use Rattle.replay.specs.Calls.{reading_call, writing_call};
-ghost use Rattle.replay.specs.Turns.{writing_at, settling_at, script_at, without_mfn, Wrote, ListFits, ListReported, Ran, Turned};
+ghost use Rattle.script.specs.Ops.{call_size, mfns_of, no_draft};
+ghost use Rattle.script.specs.Cursor.{UsedWithin, DraftWithin, NumbersWithin, RoomWithin, Within};
+ghost use Rattle.replay.specs.Calls.{script_of, left_of, reading_call, writing_call};
+ghost use Rattle.replay.specs.Turns.{writing_at, settling_at, script_at, IsFirst, IsOver, without_mfn, Wrote, ListFits, ListReported, Ran, Turned};
 
 use layout::sizes::Mfn;
 use script::calls::{CALL_SIZE, Counts, Op, Reading, Writing};
 use script::cursor::Cursor;
-use script::report::{OUTCOME_SIZE, Stop};
-use script::{calls, cursor, report};
+use script::lists::Script;
+use script::report::{OUTCOME_SIZE, Outcome, Stop};
 use store::answer::Answer;
 use views::views::Shown;
 use writing::create::Created;
-
-// What a turn does: one call is reported, or the replay stops.
-#[derive(Clone, Copy)]
-pub enum Turn {
-    Next(Cursor),
-    Stopped(Stop),
-}
 
 // Runs a call that only reads.
 fn ask(mst: &[u8], xrf: &[u8], r: Reading) -> Shown
@@ -91,22 +84,24 @@ fn write_at(
     mst: &mut [u8],
     xrf: &mut [u8],
     w: Writing,
-    tags: &[u16],
-    lens: &[u16],
-    data: &[u8],
+    list: &Script,
     at: Cursor,
     n: Counts,
 ) -> Created
-    requires { DraftWithin tags.now lens.now «data».now at n }
-    ensures { Wrote (store mst.old xrf.old) (writing_at tags.now lens.now «data».now at n w) result (store mst.new xrf.new) }
+    requires { DraftWithin list.now.tags.now list.now.lens.now list.now.bytes.now at n }
+    ensures { Wrote (store mst.old xrf.old) (writing_at list.now.tags.now list.now.lens.now list.now.bytes.now at n w) result (store mst.new xrf.new) }
 {
-    let t = at.tags;
-    let l = at.lens;
-    let d = at.bytes;
-    let te = t + n.tags;
-    let le = l + n.lens;
-    let de = d + n.bytes;
-    write(mst, xrf, w, &tags[t..te], &lens[l..le], &data[d..de])
+    let t = at.used.tags;
+    let l = at.used.lens;
+    let d = at.used.bytes;
+    write(
+        mst,
+        xrf,
+        w,
+        &list.tags[t..t + n.tags],
+        &list.lens[l..l + n.lens],
+        &list.bytes[d..d + n.bytes],
+    )
 }
 
 // Runs and reports a call that only reads, where there is room.
@@ -117,35 +112,32 @@ fn ask_turn(
     answers: &mut [u32],
     shown: &mut [u8],
     at: Cursor,
-) -> Turn
+) -> Result<Cursor, Stop>
     requires { RoomWithin answers.old shown.old at }
     ensures { Ran (store mst.now xrf.now) (reading_call r) no_draft answers.old shown.old at result (store mst.now xrf.now) answers.new shown.new }
 {
     let i = at.numbers;
     if answers.len() - i < OUTCOME_SIZE {
-        return Turn::Stopped(Stop::NoRoom);
+        return Err(Stop::NoRoom);
     }
     let s = ask(mst, xrf, r);
     let b = at.shown;
     let len = s.len;
     if shown.len() - b < len {
-        return Turn::Stopped(Stop::NoRoom);
+        return Err(Stop::NoRoom);
     }
-    let next = cursor::move_cursor(at, calls::no_draft(), OUTCOME_SIZE, len);
-    let a = s.answer;
-    report::put_numbers(
-        answers,
-        i,
-        store::answer::number(a),
-        0,
-        len as u32,
-        s.occurrences,
-        0,
-    );
+    let next = at.moved(Counts::default(), OUTCOME_SIZE, len);
+    let outcome = Outcome {
+        answer: store::answer::number(s.answer),
+        len: len as u32,
+        count: s.occurrences,
+        ..Outcome::default()
+    };
+    outcome.put(answers, i);
     let start = s.start;
     let end = start + len;
     word::bytes::copy_to(shown, b, &mst[start..end]);
-    Turn::Next(next)
+    Ok(next)
 }
 
 // Runs and reports a call that may write, where there is room.
@@ -153,27 +145,29 @@ fn write_turn(
     mst: &mut [u8],
     xrf: &mut [u8],
     w: Writing,
-    tags: &[u16],
-    lens: &[u16],
-    data: &[u8],
+    list: &Script,
     answers: &mut [u32],
     at: Cursor,
     n: Counts,
-) -> Turn
-    requires draft_within { DraftWithin tags.now lens.now «data».now at n }
-    requires mfns_bound { at.mfns + n.mfns ≤ 18446744073709551615 }
+) -> Result<Cursor, Stop>
+    requires draft_within { DraftWithin list.now.tags.now list.now.lens.now list.now.bytes.now at n }
+    requires mfns_within { at.used.mfns + n.mfns ≤ length list.now.mfns.now }
     requires numbers_within { NumbersWithin answers.old at }
-    ensures { (shown : List ℕ) → Ran (store mst.old xrf.old) (writing_at tags.now lens.now «data».now at n w) n answers.old shown at result (store mst.new xrf.new) answers.new shown }
+    ensures { (shown : List ℕ) → Ran (store mst.old xrf.old) (writing_at list.now.tags.now list.now.lens.now list.now.bytes.now at n w) n answers.old shown at result (store mst.new xrf.new) answers.new shown }
 {
     let i = at.numbers;
     if answers.len() - i < OUTCOME_SIZE {
-        return Turn::Stopped(Stop::NoRoom);
+        return Err(Stop::NoRoom);
     }
-    let next = cursor::move_cursor(at, n, OUTCOME_SIZE, 0);
-    let c = write_at(mst, xrf, w, tags, lens, data, at, n);
-    let a = c.answer;
-    report::put_numbers(answers, i, store::answer::number(a), c.mfn.0, 0, 0, 0);
-    Turn::Next(next)
+    let next = at.moved(n, OUTCOME_SIZE, 0);
+    let c = write_at(mst, xrf, w, list, at, n);
+    let outcome = Outcome {
+        answer: store::answer::number(c.answer),
+        mfn: c.mfn.0,
+        ..Outcome::default()
+    };
+    outcome.put(answers, i);
+    Ok(next)
 }
 
 // Settles so many of the MFNs at a cursor as a list, and reports it: the five numbers, and the answers behind them.
@@ -188,13 +182,21 @@ fn settle_at(
     requires { ListFits mfns.now n answers.old at }
     ensures { ListReported (store mst.old xrf.old) (settling_at mfns.now at n n) answers.old at (store mst.new xrf.new) answers.new }
 {
-    let m = at.mfns;
-    let me = m + n;
+    let m = at.used.mfns;
     let i = at.numbers;
     let from = i + OUTCOME_SIZE;
-    let to = from + n;
-    let a = settling::settle_list::settle_list(mst, xrf, &mfns[m..me], &mut answers[from..to]);
-    report::put_numbers(answers, i, store::answer::number(a), 0, 0, 0, n as u32);
+    let a = settling::settle_list::settle_list(
+        mst,
+        xrf,
+        &mfns[m..m + n],
+        &mut answers[from..from + n],
+    );
+    let outcome = Outcome {
+        answer: store::answer::number(a),
+        listed: n as u32,
+        ..Outcome::default()
+    };
+    outcome.put(answers, i);
 }
 
 // Settles so many of the MFNs at a cursor and reports it, where there is room. A list for the answers that is not as long as the list of MFNs, or
@@ -207,69 +209,69 @@ fn settle_turn(
     lent: usize,
     answers: &mut [u32],
     at: Cursor,
-) -> Turn
-    requires n_in_bounds { at.mfns + n ≤ length mfns.now }
+) -> Result<Cursor, Stop>
+    requires n_in_bounds { at.used.mfns + n ≤ length mfns.now }
     requires numbers_within { NumbersWithin answers.old at }
     ensures { (shown : List ℕ) → Ran (store mst.old xrf.old) (settling_at mfns.now at n lent) (mfns_of n) answers.old shown at result (store mst.new xrf.new) answers.new shown }
 {
     let i = at.numbers;
     let room = answers.len() - i;
     if room < OUTCOME_SIZE {
-        return Turn::Stopped(Stop::NoRoom);
+        return Err(Stop::NoRoom);
     }
+    let taken = Counts {
+        mfns: n,
+        ..Counts::default()
+    };
     if !settling::settle_list::lists_right(n, lent) {
-        let next = cursor::move_cursor(at, calls::only_mfns(n), OUTCOME_SIZE, 0);
-        report::put_numbers(
-            answers,
-            i,
-            store::answer::number(Answer::NoRoomInList),
-            0,
-            0,
-            0,
-            0,
-        );
-        return Turn::Next(next);
+        let next = at.moved(taken, OUTCOME_SIZE, 0);
+        let outcome = Outcome {
+            answer: store::answer::number(Answer::NoRoomInList),
+            ..Outcome::default()
+        };
+        outcome.put(answers, i);
+        return Ok(next);
     }
     if room < OUTCOME_SIZE + n {
-        return Turn::Stopped(Stop::NoRoom);
+        return Err(Stop::NoRoom);
     }
-    let next = cursor::move_cursor(at, calls::only_mfns(n), OUTCOME_SIZE + n, 0);
+    let next = at.moved(taken, OUTCOME_SIZE + n, 0);
     settle_at(mst, xrf, mfns, n, answers, at);
-    Turn::Next(next)
+    Ok(next)
+}
+
+// The first call of what is left at a cursor; or why there is none.
+fn next_op(list: &Script, at: Cursor) -> Result<Op, Stop>
+    requires ops_in { call_size * at.calls ≤ length list.now.ops.now }
+    requires used_in { UsedWithin at (left_of (script_of list.now)) }
+    ensures { let rest = script_at (script_of list.now) at in
+        MatchResult result (IsFirst rest) (IsOver rest) }
+{
+    let ops = &list.ops[CALL_SIZE * at.calls..];
+    if ops.is_empty() {
+        return Err(Stop::Ended);
+    }
+    let Some(numbers) = ops.first_chunk() else {
+        return Err(Stop::Malformed);
+    };
+    Op::read(numbers, at.left(list.counts())).ok_or(Stop::Malformed)
 }
 
 // One call: the first of what is left at a cursor.
 pub(crate) fn one_turn(
     mst: &mut [u8],
     xrf: &mut [u8],
-    ops: &[u32],
-    mfns: &[u32],
-    tags: &[u16],
-    lens: &[u16],
-    data: &[u8],
+    list: &Script,
     answers: &mut [u32],
     shown: &mut [u8],
     at: Cursor,
-) -> Turn
-    requires { Within ops.now mfns.now tags.now lens.now «data».now answers.old shown.old at }
-    ensures { Turned (script_at ops.now mfns.now tags.now lens.now «data».now at) (store mst.old xrf.old) answers.old shown.old at result (store mst.new xrf.new) answers.new shown.new }
+) -> Result<Cursor, Stop>
+    requires { Within list.now.ops.now list.now.mfns.now list.now.tags.now list.now.lens.now list.now.bytes.now answers.old shown.old at }
+    ensures { Turned (script_at (script_of list.now) at) (store mst.old xrf.old) answers.old shown.old at result (store mst.new xrf.new) answers.new shown.new }
 {
-    let i = CALL_SIZE * at.calls;
-    if ops.len() == i {
-        return Turn::Stopped(Stop::Ended);
-    }
-    if ops.len() - i < CALL_SIZE {
-        return Turn::Stopped(Stop::Malformed);
-    }
-    let op = calls::read_op(
-        ops,
-        i,
-        cursor::left_at(mfns.len(), tags.len(), lens.len(), data.len(), at),
-    );
-    match op {
+    match next_op(list, at)? {
         Op::Asks(r) => ask_turn(mst, xrf, r, answers, shown, at),
-        Op::Writes(w, n) => write_turn(mst, xrf, w, tags, lens, data, answers, at, n),
-        Op::Settles { mfns: n, lent } => settle_turn(mst, xrf, mfns, n, lent, answers, at),
-        Op::Malformed => Turn::Stopped(Stop::Malformed),
+        Op::Writes(w, n) => write_turn(mst, xrf, w, list, answers, at, n),
+        Op::Settles { mfns: n, lent } => settle_turn(mst, xrf, list.mfns, n, lent, answers, at),
     }
 }

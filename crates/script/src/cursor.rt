@@ -1,46 +1,47 @@
 // Where a run stands in its list of calls and in its two rooms.
 ghost use Rattle.std.specs.Prelude.{◌≡◌, ◌≤◌};
-ghost use Rattle.script.specs.Cursor.{left_at, moved, Movable};
+ghost use Rattle.script.specs.Cursor.{left_at, moved, UsedWithin, Movable};
 
 use crate::calls::Counts;
 
 // How far a run is: calls reported, MFNs, tags, lengths and bytes used, and numbers and bytes written.
-#[derive(Clone, Copy)]
+#[derive(Clone, Copy, Debug, Default, PartialEq, Eq)]
 pub struct Cursor {
     pub calls: usize,
-    pub mfns: usize,
-    pub tags: usize,
-    pub lens: usize,
-    pub bytes: usize,
+    pub used: Counts,
     pub numbers: usize,
     pub shown: usize,
 }
 
-// The cursor after a call with MFNs or a draft that is reported by `size` numbers and `len` bytes.
-pub fn move_cursor(at: Cursor, n: Counts, size: usize, len: usize) -> Cursor
-    requires { Movable at n size len }
-    ensures { result ≡ moved at n size len }
-{
-    Cursor {
-        calls: at.calls + 1,
-        mfns: at.mfns + n.mfns,
-        tags: at.tags + n.tags,
-        lens: at.lens + n.lens,
-        bytes: at.bytes + n.bytes,
-        numbers: at.numbers + size,
-        shown: at.shown + len,
+impl Cursor {
+    // The cursor after a call with MFNs or a draft that is reported by `size` numbers and `len` bytes.
+    pub fn moved(self, n: Counts, size: usize, len: usize) -> Cursor
+        requires { Movable self n size len }
+        ensures { result ≡ moved self n size len }
+    {
+        Cursor {
+            calls: self.calls + 1,
+            used: Counts {
+                mfns: self.used.mfns + n.mfns,
+                tags: self.used.tags + n.tags,
+                lens: self.used.lens + n.lens,
+                bytes: self.used.bytes + n.bytes,
+            },
+            numbers: self.numbers + size,
+            shown: self.shown + len,
+        }
     }
-}
 
-// How much of the MFNs and of the drafts is left at a cursor.
-pub fn left_at(mfns: usize, tags: usize, lens: usize, bytes: usize, at: Cursor) -> Counts
-    requires { (at.mfns ≤ mfns) × (at.tags ≤ tags) × (at.lens ≤ lens) × (at.bytes ≤ bytes) }
-    ensures { result ≡ left_at mfns tags lens bytes at }
-{
-    Counts {
-        mfns: mfns - at.mfns,
-        tags: tags - at.tags,
-        lens: lens - at.lens,
-        bytes: bytes - at.bytes,
+    // How much of all the MFNs and drafts is left.
+    pub fn left(self, all: Counts) -> Counts
+        requires { UsedWithin self all }
+        ensures { result ≡ left_at all self }
+    {
+        Counts {
+            mfns: all.mfns - self.used.mfns,
+            tags: all.tags - self.used.tags,
+            lens: all.lens - self.used.lens,
+            bytes: all.bytes - self.used.bytes,
+        }
     }
 }

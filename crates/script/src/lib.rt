@@ -4,4 +4,5 @@
 
 pub mod calls;
 pub mod cursor;
+pub mod lists;
 pub mod report;

@@ -17,7 +17,7 @@ use Rattle.layout.specs.declared.entry.Entry.TheVariants.{At}
 use Rattle.drafts.specs.Bytes.{need_for}
 use Rattle.store.specs.Store.{store}
 use Rattle.drafts.specs.Draft.{Draft, is_right, fields_in}
-use Rattle.store.specs.Answer.{Row, refuse, lowest, number_of}
+use Rattle.store.specs.Answer.{Row, refuse, lowest, number_of, Answer}
 use Rattle.store.specs.Reading.{mfn_in_range, entry_for, place_for, is_gone, is_settled, is_new, leader_at, current_fields}
 use Rattle.store.specs.Refusals.{named, fine, both_fine}
 use Rattle.store.specs.declared.answer.Refusal.TheVariants.{BadControl, BadDraft, NoMfn, NoSlot, BadEntry, Gone as GoneAnswer, Deleted, NotPending, NeverSettled, NoRoom}
@@ -157,7 +157,11 @@ module _ {mst xrf : List ℕ} (s : Sound mst xrf) (m : ℕ) where
 
 -- ---- create
 
-rows : (d f h r : Bool) → cond (not d) (Err BadDraft) (cond f (Err NoSlot) (cond (not h) (Err BadEntry) (cond r (Err NoRoom) (Ok tt)))) ≡ Ok tt → (d ≡ true) × (f ≡ false) × (r ≡ false)
+-- 3, 5, 6 and 13
+abbrev row_list : Bool → Bool → Bool → Bool → Answer
+row_list d f h r = cond (not d) (Err BadDraft) (cond f (Err NoSlot) (cond (not h) (Err BadEntry) (cond r (Err NoRoom) (Ok tt))))
+
+rows : (d f h r : Bool) → row_list d f h r ≡ Ok tt → (d ≡ true) × (f ≡ false) × (r ≡ false)
 rows true true h r e = let z : ◌≡◌ {A = ℕ} 0 1 = cc in absurd (omega arith)
 rows true false true true e = let z : ◌≡◌ {A = ℕ} 0 1 = cc in absurd (omega arith)
 rows true false true false e = (refl, refl, refl)

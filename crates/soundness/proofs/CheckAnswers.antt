@@ -1,10 +1,10 @@
 -- What the check and the recount answer, by what the gate and the passes found: one law for each `return` of `sound_apart`, `count_live`, `check` and
 -- `recount`. That a tally with the walk's answer is whether every entry is sound is `walk_decides`.
-use Rattle.std.specs.Prelude.{Ok, Err}
+use Rattle.std.specs.Prelude.{Option, Some, None, Result, Ok, Err}
+use Rattle.std.specs.Option.{ok_or}
 use Prim.Native.Nat.{ℕ, ◌+◌, ◌-◌, ◌≤◌}
 use native.Mathlib.Omega.{arith}
 use mathlib.Core.Path.{◌≡◌, refl, sym, ap, ◌∙◌}
-use mathlib.Core.Logic.{⊎_elim}
 use mathlib.Core.Bool.{Bool, true, false, not, ◌&&◌, cond, and-false}
 use mathlib.Core.List.{List, [], ◌∷◌}
 use lib.IntN.{pos}
@@ -12,140 +12,124 @@ use lib.ListN.{length, take}
 use borrow.Author.Tests.{not-true, not-false}
 use Rattle.layout.specs.Sizes.{capacity_of}
 use Rattle.files.specs.Control.{next_of, end_of, count_is, count_most, with_count}
-use Rattle.layout.specs.declared.sizes.Mfn.{Mfn}
-use Rattle.store.specs.Answer.{number_of, refuse, Answer}
+use Rattle.files.specs.declared.control.Control.{Control}
+use Rattle.store.specs.Answer.{number_of, refuse, give, Answer}
 use Rattle.store.specs.Reading.{lengths_permitted, control_fine, entry_for}
-use Rattle.store.specs.Gate.{gate_of, gate_answer}
+use Rattle.store.specs.Gate.{gate_of}
 use Rattle.store.specs.declared.answer.Refusal.TheVariants.{BadLength, BadControl, NotSound}
-use Rattle.store.specs.declared.gate.Gate.{Gate}
-use Rattle.store.specs.declared.gate.Gate.TheVariants.{Open, Shut}
-use Rattle.store.proofs.Gates.{Refusing, done_number, after_done, after_refused, after_cases, refused_is, done_is, holds, gate_done, gate_shut, open_from, gate_open, opened, open_xrf}
+use Rattle.store.specs.declared.answer.Refusal.{Refusal}
+use Rattle.store.proofs.Gates.{Refusing, refusing, done_number, after_done, after_refused, refused_is, done_is, given_refused, given_done, holds, gate_done, gate_shut, open_from, gate_open, opened, open_xrf}
 use Rattle.store.proofs.Reaching.{whole_length, lent_open, lent_as}
 use Rattle.soundness.specs.Sound.{bit, heads_right, rest_free, steps, is_live, live_count, count_right, body_apart, body_sound, check_answer}
 use Rattle.soundness.specs.Recount.{recount_answer, recounted_mst, recount_leaves}
-use Rattle.soundness.specs.Passes.{entries_fine, named_total, tally_of, walk_of, apart_of, counted_of, counted_answer}
-use Rattle.soundness.specs.declared.check.Apart.{Apart}
-use Rattle.soundness.specs.declared.check.Apart.TheVariants.{Sound, Unsound}
-use Rattle.soundness.specs.declared.check.Counted.{Counted}
-use Rattle.soundness.specs.declared.check.Counted.TheVariants.{Live, Refused}
+use Rattle.soundness.specs.Passes.{entries_fine, named_total, tally_of, walk_of, apart_of, counted_of}
 use Rattle.soundness.specs.declared.passes.Tally.{Tally}
-use Rattle.soundness.specs.declared.passes.Tally.TheVariants.{Named, Wrong}
 use Rattle.soundness.proofs.Sums.{sum_few}
 use Rattle.soundness.proofs.Counting.{bit_le}
 use Rattle.soundness.proofs.Deciding.{entries_wrong, walk_decides}
 use Rattle.soundness.proofs.PassAnswers.{open_next, open_low, named_parts, wrong_part}
 use Rattle.store.specs.Store.{store}
 
-module _ (mst xrf : List ℕ) (t : Tally) (e : t ≡ tally_of (store mst xrf)) where
-  not_fine : t ≡ Wrong → entries_fine (store mst xrf) ≡ false
+module _ (mst xrf : List ℕ) (t : Option Tally) (e : t ≡ tally_of (store mst xrf)) where
+  not_fine : t ≡ None → entries_fine (store mst xrf) ≡ false
   unfolding tally_of
   not_fine h = wrong_part (entries_fine (store mst xrf)) (named_total (store mst xrf)) (live_count (store mst xrf)) (sym e ∙ h)
 
-  tally_both : (named live : ℕ) → t ≡ Named named live
-      → (entries_fine (store mst xrf) ≡ true) × (named_total (store mst xrf) ≡ named) × (live_count (store mst xrf) ≡ live)
+  tally_both : (x : Tally) → t ≡ Some x
+      → (entries_fine (store mst xrf) ≡ true) × (named_total (store mst xrf) ≡ x.named) × (live_count (store mst xrf) ≡ x.live)
   unfolding tally_of
-  tally_both named live h = named_parts (entries_fine (store mst xrf)) (named_total (store mst xrf)) (live_count (store mst xrf)) named live (sym e ∙ h)
+  tally_both x h = named_parts (entries_fine (store mst xrf)) (named_total (store mst xrf)) (live_count (store mst xrf)) x (sym e ∙ h)
 
-  pub tally_fine : (named live : ℕ) → t ≡ Named named live → entries_fine (store mst xrf) ≡ true
-  tally_fine named live h = (tally_both named live h).0
+  pub tally_fine : (x : Tally) → t ≡ Some x → entries_fine (store mst xrf) ≡ true
+  tally_fine x h = (tally_both x h).0
 
 -- what is found of a store that is not sound apart from RECCNT, and of one that is
-unsound_is : (mst xrf : List ℕ) → body_apart (store mst xrf) ≡ false → Unsound ≡ apart_of (store mst xrf)
+unsound_is : (mst xrf : List ℕ) → body_apart (store mst xrf) ≡ false → None ≡ apart_of (store mst xrf)
 unfolding apart_of
 unsound_is mst xrf h = rw h
 
-sound_is : (mst xrf : List ℕ) (live : ℕ) → body_apart (store mst xrf) ≡ true → live_count (store mst xrf) ≡ live → Sound live ≡ apart_of (store mst xrf)
+sound_is : (mst xrf : List ℕ) (live : ℕ) → body_apart (store mst xrf) ≡ true → live_count (store mst xrf) ≡ live → Some live ≡ apart_of (store mst xrf)
 unfolding apart_of
 sound_is mst xrf live h e = rw (h, e)
 
 -- ---- behind an open gate
 
-module _ (mst xrf : List ℕ) (next : Mfn) (end : ℕ) (g : gate_of (store mst xrf) ≡ Open next end) where
-  pub body_next : next.0 ≤ capacity_of (length xrf) + 1
-  body_next = let f = gate_open mst xrf next end g in omega arith
+module _ (mst xrf : List ℕ) (k : Control) (g : gate_of (store mst xrf) ≡ Ok k) where
+  pub body_next : k.next.0 ≤ capacity_of (length xrf) + 1
+  body_next = let f = gate_open mst xrf k g in omega arith
 
   module _ (w : Bool) (u : w ≡ heads_right xrf) where
-    pub body_heads : not w ≡ true → Unsound ≡ apart_of (store mst xrf)
+    pub body_heads : not w ≡ true → None ≡ apart_of (store mst xrf)
     unfolding body_apart
     body_heads n = unsound_is mst xrf (rw (← u, not-true w n))
 
-    module _ (v : Bool) (s : v ≡ rest_free xrf next.0) where
+    module _ (v : Bool) (s : v ≡ rest_free xrf k.next.0) where
       rest_is : rest_free xrf (next_of mst) ≡ v
-      rest_is = rw (← open_next mst xrf next end g) (sym s)
+      rest_is = rw (← open_next mst xrf k g) (sym s)
 
-      pub body_rest : not v ≡ true → Unsound ≡ apart_of (store mst xrf)
+      pub body_rest : not v ≡ true → None ≡ apart_of (store mst xrf)
       unfolding body_apart
       body_rest n = unsound_is mst xrf (rw (rest_is, not-true v n, and-false))
 
-      module _ (t : Tally) (k : t ≡ tally_of (store mst xrf)) where
-        pub body_wrong : t ≡ Wrong → Unsound ≡ apart_of (store mst xrf)
+      module _ (t : Option Tally) (c : t ≡ tally_of (store mst xrf)) where
+        pub body_wrong : t ≡ None → None ≡ apart_of (store mst xrf)
         unfolding body_apart
-        body_wrong n = unsound_is mst xrf (rw (entries_wrong mst xrf (not_fine mst xrf t k n) (steps mst 64), and-false))
+        body_wrong n = unsound_is mst xrf (rw (entries_wrong mst xrf (not_fine mst xrf t c n) (steps mst 64), and-false))
 
-        module _ (m : not w ≡ false) (n : not v ≡ false) (named live : ℕ) (c : t ≡ Named named live) (r : Bool) (x : r ≡ walk_of (store mst xrf) named) where
+        module _ (m : not w ≡ false) (n : not v ≡ false) (x : Tally) (h : t ≡ Some x) (r : Bool) (y : r ≡ walk_of (store mst xrf) x.named) where
           walked : r ≡ body_apart (store mst xrf)
           unfolding body_apart
           walked =
-              let q = tally_both mst xrf t k named live c in
-              x
+              let q = tally_both mst xrf t c x h in
+              y
               ∙ ap (walk_of (store mst xrf)) (sym q.1)
-              ∙ walk_decides mst xrf (gate_open mst xrf next end g).next_low q.0
+              ∙ walk_decides mst xrf (gate_open mst xrf k g).next_low q.0
               ∙ rw (← u, rest_is, not-false w m, not-false v n)
 
-          pub body_astray : not r ≡ true → Unsound ≡ apart_of (store mst xrf)
-          body_astray h = unsound_is mst xrf (sym walked ∙ not-true r h)
+          pub body_astray : not r ≡ true → None ≡ apart_of (store mst xrf)
+          body_astray z = unsound_is mst xrf (sym walked ∙ not-true r z)
 
-          pub body_walked : not r ≡ false → Sound live ≡ apart_of (store mst xrf)
-          body_walked h = sound_is mst xrf live (sym walked ∙ not-false r h) (tally_both mst xrf t k named live c).2
+          pub body_walked : not r ≡ false → Some x.live ≡ apart_of (store mst xrf)
+          body_walked z = sound_is mst xrf x.live (sym walked ∙ not-false r z) (tally_both mst xrf t c x h).2
 
 pub ruleset body_answers = (open_xrf, open_low, body_next, body_heads, body_rest, tally_fine, body_wrong, body_astray, body_walked, arith)
 
 -- ---- what the check and the recount ask alike
 
-apart_parts : (t : Bool) (n live : ℕ) → cond t (Sound n) Unsound ≡ Sound live → (t ≡ true) × (n ≡ live)
-apart_parts true n live e = (refl, (cc))
-apart_parts false n live e = let z : ◌≡◌ {A = ℕ} 0 1 = cc in absurd (omega arith)
-
-apart_none : (t : Bool) (n : ℕ) → cond t (Sound n) Unsound ≡ Unsound → t ≡ false
-apart_none true n e = let z : ◌≡◌ {A = ℕ} 0 1 = cc in absurd (omega arith)
-apart_none false n e = refl
-
-module _ (mst xrf : List ℕ) (g : Gate) (e : g ≡ gate_of (store mst xrf)) where
-  pub counted_shut : (a r : Answer) → g ≡ Shut a → r ≡ gate_answer g → Refused r ≡ counted_of (store mst xrf)
+module _ (mst xrf : List ℕ) (g : Result Control Refusal) (e : g ≡ gate_of (store mst xrf)) where
+  pub counted_shut : (r : Refusal) → g ≡ Err r → Err r ≡ counted_of (store mst xrf)
   unfolding counted_of recount_answer
-  counted_shut a r h q =
-      let f = gate_shut mst xrf a (sym e ∙ h) in
-      let t : r ≡ a = q ∙ ap gate_answer h in
-      rw t (refused_is (recount_answer (store mst xrf)) _ Refused a (f.answers (refuse NotSound (not (body_apart (store mst xrf))) ∷ [])) f.refusing)
+  counted_shut r h =
+      let f = gate_shut mst xrf r (sym e ∙ h) in
+      refused_is (recount_answer (store mst xrf)) _ r (f.answers (refuse NotSound (not (body_apart (store mst xrf))) ∷ []))
 
-  module _ (next : Mfn) (end : ℕ) (h : g ≡ Open next end) (a : Apart) (lent : a ≡ apart_of (store (take (length mst) mst) (take (length xrf) xrf))) where
+  module _ (k : Control) (h : g ≡ Ok k) (a : Option ℕ) (lent : a ≡ apart_of (store (take (length mst) mst) (take (length xrf) xrf))) where
     q : a ≡ apart_of (store mst xrf)
     q = lent_as apart_of mst xrf a lent
 
     recount_is : recount_answer (store mst xrf) ≡ cond (not (body_apart (store mst xrf))) (Err NotSound) (Ok tt)
     unfolding recount_answer
-    recount_is = let f = opened mst xrf g e next end h in rw (f.lengths, f.control)
+    recount_is = let f = opened mst xrf g e k h in rw (f.lengths, f.control)
 
-    pub counted_unsound : a ≡ Unsound → Refused (Err NotSound) ≡ counted_of (store mst xrf)
-    unfolding counted_of apart_of number_of
-    counted_unsound n =
-        let no = apart_none (body_apart (store mst xrf)) (live_count (store mst xrf)) (sym q ∙ n) in
-        refused_is (recount_answer (store mst xrf)) _ Refused (Err NotSound) (recount_is ∙ rw no) (λ z. omega arith)
+    by_body : (b : Bool) (n : ℕ) → ok_or (cond b (Some n) None) NotSound ≡ give (cond (not b) (Err NotSound) (Ok tt)) n
+    unfolding give
+    by_body true n = refl
+    by_body false n = refl
 
-    pub counted_live : (live : ℕ) → a ≡ Sound live → Live live ≡ counted_of (store mst xrf)
+    pub counted_live : ok_or a NotSound ≡ counted_of (store mst xrf)
     unfolding counted_of apart_of
-    counted_live live n =
-        let p = apart_parts (body_apart (store mst xrf)) (live_count (store mst xrf)) live (sym q ∙ n) in
-        done_is (recount_answer (store mst xrf)) _ Refused (Live live) (recount_is ∙ rw p.0) (ap Live (sym p.1))
+    counted_live = rw (q, recount_is) (by_body (body_apart (store mst xrf)) (live_count (store mst xrf)))
 
-pub ruleset counted_answers = (whole_length, lent_open, counted_shut, counted_unsound, counted_live)
+pub ruleset counted_answers = (whole_length, lent_open, counted_shut, counted_live)
 
 -- ---- the check and the recount
 
+-- 1, 2 and 14
+abbrev asked_list : Bool → Bool → Bool → Answer
+asked_list lengths control body = cond (not lengths) (Err BadLength) (cond (not control) (Err BadControl) (cond (not body) (Err NotSound) (Ok tt)))
+
 -- where what both ask is refused, the check is
-alike : (lengths control body right : Bool) → Refusing (cond (not lengths) (Err BadLength) (cond (not control) (Err BadControl) (cond (not body) (Err NotSound) (Ok tt))))
-    → cond (not lengths) (Err BadLength) (cond (not control) (Err BadControl) (cond (not (body && right)) (Err NotSound) (Ok tt)))
-    ≡ cond (not lengths) (Err BadLength) (cond (not control) (Err BadControl) (cond (not body) (Err NotSound) (Ok tt)))
+alike : (lengths control body right : Bool) → Refusing (asked_list lengths control body) → asked_list lengths control (body && right) ≡ asked_list lengths control body
 alike true true true right h = absurd (h done_number)
 alike true true false right h = refl
 alike true false body right h = refl
@@ -156,36 +140,28 @@ pub live_most : (mst xrf : List ℕ) → live_count (store mst xrf) ≤ next_of 
 unfolding live_count
 live_most mst xrf = sum_few (next_of mst - 1) (λ (m : ℕ). bit (is_live (entry_for (store mst xrf) m))) (λ m. bit_le (is_live (entry_for (store mst xrf) m)))
 
-module _ (mst xrf : List ℕ) (c : Counted) (e : c ≡ counted_of (store mst xrf)) where
-  refused_parts : (a : Answer) → c ≡ Refused a → (recount_answer (store mst xrf) ≡ a) × Refusing (recount_answer (store mst xrf))
+module _ (mst xrf : List ℕ) (c : Result ℕ Refusal) (e : c ≡ counted_of (store mst xrf)) where
+  refused_by : (r : Refusal) → c ≡ Err r → recount_answer (store mst xrf) ≡ Err r
   unfolding counted_of
-  refused_parts a h =
-      ⊎_elim
-      (λ d. let s = sym d.1 ∙ sym e ∙ h in let z : ◌≡◌ {A = ℕ} 0 1 = cc in absurd (omega arith))
-      (λ r. let s = sym r.1 ∙ sym e ∙ h in ((cc), r.0))
-      (after_cases (recount_answer (store mst xrf)) (Live (live_count (store mst xrf))) (Refused (recount_answer (store mst xrf))))
+  refused_by r h = given_refused (recount_answer (store mst xrf)) (live_count (store mst xrf)) r (sym e ∙ h)
 
-  pub check_refused : (a r : Answer) → c ≡ Refused a → r ≡ counted_answer c → r ≡ check_answer (store mst xrf)
+  pub check_refused : (r : Refusal) → c ≡ Err r → Err r ≡ check_answer (store mst xrf)
   unfolding check_answer recount_answer body_sound
-  check_refused a r h q =
-      let p = refused_parts a h in
-      q ∙ ap counted_answer h ∙ sym p.0
-      ∙ sym (alike (lengths_permitted (store mst xrf)) (control_fine (store mst xrf)) (body_apart (store mst xrf)) (count_right (store mst xrf)) p.1)
+  check_refused r h =
+      let p = refused_by r h in
+      sym p
+      ∙ sym (alike (lengths_permitted (store mst xrf)) (control_fine (store mst xrf)) (body_apart (store mst xrf)) (count_right (store mst xrf)) (rw p (refusing r)))
 
-  pub recount_refused : (a r : Answer) → c ≡ Refused a → r ≡ counted_answer c → (r ≡ recount_answer (store mst xrf)) × (store mst xrf ≡ recount_leaves (store mst xrf))
+  pub recount_refused : (r : Refusal) → c ≡ Err r → (Err r ≡ recount_answer (store mst xrf)) × (store mst xrf ≡ recount_leaves (store mst xrf))
   unfolding recount_leaves
-  recount_refused a r h q =
-      let p = refused_parts a h in
-      (q ∙ ap counted_answer h ∙ sym p.0, sym (after_refused (recount_answer (store mst xrf)) _ (store mst xrf) p.1))
+  recount_refused r h =
+      let p = refused_by r h in
+      (sym p, sym (after_refused (recount_answer (store mst xrf)) _ (store mst xrf) (rw p (refusing r))))
 
-  module _ (live : ℕ) (n : c ≡ Live live) where
+  module _ (live : ℕ) (n : c ≡ Ok live) where
     parts : (recount_answer (store mst xrf) ≡ Ok tt) × (live_count (store mst xrf) ≡ live)
     unfolding counted_of
-    parts =
-        ⊎_elim
-        (λ d. let s = sym d.1 ∙ sym e ∙ n in (d.0, (cc)))
-        (λ r. let s = sym r.1 ∙ sym e ∙ n in let z : ◌≡◌ {A = ℕ} 0 1 = cc in absurd (omega arith))
-        (after_cases (recount_answer (store mst xrf)) (Live (live_count (store mst xrf))) (Refused (recount_answer (store mst xrf))))
+    parts = given_done (recount_answer (store mst xrf)) (live_count (store mst xrf)) live (sym e ∙ n)
 
     asked : (lengths_permitted (store mst xrf) ≡ true) × (control_fine (store mst xrf) ≡ true) × (body_apart (store mst xrf) ≡ true)
     unfolding recount_answer number_of

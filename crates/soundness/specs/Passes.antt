@@ -1,8 +1,7 @@
 -- Inner: serves the functions of the check, no part of what is promised. What the passes of the check find. Each entry names a place, and under
 -- the changed mark a back place. The first pass over the MFNs asks all of an entry but whether these are steps, and counts them; the second walks
 -- the steps, and counts those that the entry of the MFN written there names. That the two counts agree exactly if every entry names steps only is a law (proofs/Deciding.antt), and no part of what is promised.
-use Rattle.std.specs.Prelude.{Ok}
-use Rattle.std.specs.Prelude.{ℕ, ◌+◌, ◌-◌, ◌≤◌, ◌≡◌, Bool, true, false, ◌&&◌, cond, List, [], ◌∷◌, eqb, length}
+use Rattle.std.specs.Prelude.{ℕ, ◌+◌, ◌-◌, ◌≤◌, ◌≡◌, Bool, true, false, ◌&&◌, cond, List, [], ◌∷◌, eqb, length, Option, Some, None, Result}
 use Rattle.layout.specs.Entry.{place_address}
 use Rattle.files.specs.Control.{next_of, end_of}
 use Rattle.layout.specs.Leader.{leader_of}
@@ -12,16 +11,12 @@ use Rattle.layout.specs.declared.entry.Place.{Place}
 use Rattle.layout.specs.declared.entry.Entry.{Entry}
 use Rattle.layout.specs.declared.entry.Entry.TheVariants.{Gone, Malformed, At}
 use Rattle.store.specs.Store.{Store}
-use Rattle.store.specs.Answer.{number_of, after, Answer}
+use Rattle.store.specs.Answer.{give}
+use Rattle.store.specs.declared.answer.Refusal.{Refusal}
 use Rattle.store.specs.Reading.{mfn_in_range, entry_for, is_changed, record_from, leader_at, back_address, record_fine, version_fine}
-use Rattle.soundness.specs.Sound.{bit, sum_to, all_to, elem, steps, arrives, is_live, live_count, body_apart}
+use Rattle.soundness.specs.Sound.{bit, sum_to, all_to, elem, step_right, next_step, steps, arrives, is_live, live_count, body_apart}
 use Rattle.soundness.specs.Recount.{recount_answer}
 use Rattle.soundness.specs.declared.passes.Tally.{Tally}
-use Rattle.soundness.specs.declared.passes.Tally.TheVariants.{Named, Wrong}
-use Rattle.soundness.specs.declared.check.Apart.{Apart}
-use Rattle.soundness.specs.declared.check.Apart.TheVariants.{Sound, Unsound}
-use Rattle.soundness.specs.declared.check.Counted.{Counted}
-use Rattle.soundness.specs.declared.check.Counted.TheVariants.{Live, Refused}
 
 -- ---- counting
 
@@ -52,34 +47,34 @@ entries_fine s = all_to (next_of s.mst - 1) (λ m. entry_fine s.mst m (entry_for
 unfoldable pub named_total : Store → ℕ
 named_total s = sum_to (next_of s.mst - 1) (λ m. length (names_of s.mst (entry_for s m)))
 
-unfoldable pub tally_of : Store → Tally
-tally_of s = cond (entries_fine s) (Named (named_total s) (live_count s)) Wrong
+abbrev pub tally : ℕ → ℕ → Tally
+tally named live = record { named = named; live = live }
+
+-- both counts, where every entry is right
+unfoldable pub tally_of : Store → Option Tally
+tally_of s = cond (entries_fine s) (Some (tally (named_total s) (live_count s))) None
 
 -- the same for one entry
-unfoldable pub entry_tally : List ℕ → ℕ → Entry → Tally
-entry_tally mst m e = cond (entry_fine mst m e) (Named (length (names_of mst e)) (bit (is_live e))) Wrong
+unfoldable pub entry_tally : List ℕ → ℕ → Entry → Option Tally
+entry_tally mst m e = cond (entry_fine mst m e) (Some (tally (length (names_of mst e)) (bit (is_live e)))) None
 
 -- how many addresses a place names, by its mark
 abbrev pub named_under : Mark → ℕ
 named_under mark = cond (is_changed mark) 2 1
 
--- the tally of an entry whose record is refused: 7, physically deleted, is right and names nothing
-abbrev pub refused_tally : Answer → Tally
-refused_tally a = cond (eqb (number_of a) 7) (Named 0 0) Wrong
-
--- what the check finds of a store apart from RECCNT: that it is sound, and how many entries are live
-unfoldable pub apart_of : Store → Apart
-apart_of s = cond (body_apart s) (Sound (live_count s)) Unsound
+-- what the check finds of a store apart from RECCNT: how many entries are live, where it is sound
+unfoldable pub apart_of : Store → Option ℕ
+apart_of s = cond (body_apart s) (Some (live_count s)) None
 
 -- what the check and the recount ask alike: how many entries are live, where 1, 2, and 14 apart from RECCNT, do not apply
-unfoldable pub counted_of : Store → Counted
-counted_of s = after (recount_answer s) (Live (live_count s)) (Refused (recount_answer s))
-
-abbrev pub counted_answer : Counted → Answer
-counted_answer (Live n) = (Ok tt)
-counted_answer (Refused a) = a
+unfoldable pub counted_of : Store → Result ℕ Refusal
+counted_of s = give (recount_answer s) (live_count s)
 
 -- ---- the second pass
+
+-- the next step, where MFRL is right
+unfoldable pub step_of : List ℕ → ℕ → Option ℕ
+step_of mst s = cond (step_right mst s) (Some (next_step mst s)) None
 
 -- the MFN written at a step
 abbrev pub mfn_at : List ℕ → ℕ → ℕ

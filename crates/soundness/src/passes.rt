@@ -1,24 +1,26 @@
 // The passes of the whole-store check. Two over the XRF look at the first integers and at the free slots. Then the first over the MFNs tests
 // each entry but for the steps, and counts the steps that the entries name and the entries that are live; the second walks the steps, and counts
 // those that the entry of the MFN written there names. Each entry names steps only exactly if the two counts agree.
-ghost use Rattle.std.specs.Prelude.{◌≡◌, true, ◌+◌, ◌≤◌, ◌<◌, length};
+ghost use Rattle.std.specs.Prelude.{◌≡◌, true, ◌+◌, ◌≤◌, ◌<◌, Ok, length};
 ghost use Rattle.layout.specs.Sizes.{xrf_most, capacity_of};
+ghost use Rattle.layout.specs.declared.entry.Entry.TheVariants.{At};
 ghost use Rattle.store.specs.Reading.{entry_for};
 ghost use Rattle.store.specs.Gate.{gate_of};
-ghost use Rattle.soundness.specs.Sound.{bit, elem, heads_right, rest_free, is_live};
-ghost use Rattle.soundness.specs.Passes.{names_of, named_under, refused_tally, entry_tally, entries_fine, tally_of, hit, walk_of, Names};
+ghost use Rattle.soundness.specs.Sound.{elem, heads_right, rest_free};
+ghost use Rattle.soundness.specs.Passes.{names_of, named_under, entry_tally, entries_fine, tally_of, hit, walk_of, Names};
 ghost use Rattle.store.specs.Store.{store};
 
+use files::control::Control;
 use layout::entry::{Entry, Mark, Place};
 use layout::sizes::Mfn;
-use store::answer::Answer;
-use store::gate::{Gate, Known};
+use store::answer::Refusal;
+use store::gate::Record;
 
-// What the first pass finds: how many steps the entries name and how many of them are live, or that one of them is wrong.
-#[derive(Drop)]
-pub(crate) enum Tally {
-    Named { named: u32, live: u32 },
-    Wrong,
+// What the first pass finds: how many steps the entries name and how many of them are live.
+#[derive(Clone, Copy, Debug, PartialEq, Eq)]
+pub(crate) struct Tally {
+    pub named: u32,
+    pub live: u32,
 }
 
 // Whether the first integer of every XRF block is right.
@@ -26,13 +28,10 @@ pub(crate) fn heads_right(xrf: &[u8]) -> bool
     requires { length xrf.now ≤ xrf_most }
     ensures { result ≡ heads_right xrf.now }
 {
-    let n = xrf.len() / 512;
-    let mut k: usize = 1;
-    while k <= n {
+    for k in 1..=xrf.len() / 512 {
         if !files::cross_reference::head_right(xrf, k) {
             return false;
         }
-        k += 1;
     }
     true
 }
@@ -43,12 +42,10 @@ pub(crate) fn rest_free(xrf: &[u8], next: Mfn) -> bool
     ensures { result ≡ rest_free xrf.now next.0 }
 {
     let last = layout::sizes::capacity(xrf.len()) as u32;
-    let mut m = next.0;
-    while m <= last {
+    for m in next.0..=last {
         if !files::cross_reference::slot_free(xrf, Mfn(m)) {
             return false;
         }
-        m += 1;
     }
     true
 }
@@ -57,125 +54,86 @@ pub(crate) fn rest_free(xrf: &[u8], next: Mfn) -> bool
 fn named_under(mark: Mark) -> u32
     ensures { result ≡ named_under mark }
 {
-    match mark {
-        Mark::Settled => 1,
-        Mark::Changed => 2,
-        Mark::New => 1,
-    }
+    1 + u32::from(mark == Mark::Changed)
 }
 
-// 1 for a record that is not deleted, else 0.
-fn live_of(p: Place) -> u32
-    ensures { result ≡ bit (is_live (Entry.At p)) }
-{
-    if p.deleted { 0 } else { 1 }
-}
-
-// The tally of an entry with no record: only 7, physically deleted, is right.
-fn refused_tally(a: Answer) -> Tally
-    ensures { result ≡ refused_tally a }
-{
-    if store::answer::number(a) == 7 {
-        Tally::Named { named: 0, live: 0 }
-    } else {
-        Tally::Wrong
-    }
-}
-
-// The tally of one entry.
-fn tally_entry(mst: &[u8], xrf: &[u8], next: Mfn, end: usize, m: Mfn) -> Tally
-    requires xrf_value { gate_of (store mst.now xrf.now) ≡ Gate.Open next end }
-    requires le_m { (1 ≤ m.0) × (m.0 < next.0) }
+// The tally of one entry, where it is right: of those with no record only 7, physically deleted.
+fn tally_entry(mst: &[u8], xrf: &[u8], control: Control, m: Mfn) -> Option<Tally>
+    requires xrf_value { gate_of (store mst.now xrf.now) ≡ Ok control }
+    requires le_m { (1 ≤ m.0) × (m.0 < control.next.0) }
     ensures { result ≡ entry_tally mst.now m.0 (entry_for (store mst.now xrf.now) m.0) }
 {
-    let k = store::gate::find_both(mst, xrf, next, end, m);
-    let Known::Record { place, leader: _ } = k else {
-        return refused_tally(store::gate::known_answer(k));
-    };
-    let mark = place.mark;
-    Tally::Named {
-        named: named_under(mark),
-        live: live_of(place),
+    match store::gate::find_both(mst, xrf, control, m) {
+        Ok(Record { place, leader: _ }) => Some(Tally {
+            named: named_under(place.mark),
+            live: u32::from(!place.deleted),
+        }),
+        Err(Refusal::Gone) => Some(Tally { named: 0, live: 0 }),
+        Err(_) => None,
     }
 }
 
 // The first pass: every entry below NXTMFN.
-pub(crate) fn tally_entries(mst: &[u8], xrf: &[u8], next: Mfn, end: usize) -> Tally
-    requires { gate_of (store mst.now xrf.now) ≡ Gate.Open next end }
+pub(crate) fn tally_entries(mst: &[u8], xrf: &[u8], control: Control) -> Option<Tally>
+    requires { gate_of (store mst.now xrf.now) ≡ Ok control }
     ensures { result ≡ tally_of (store mst.now xrf.now) }
 {
     let mut named: u32 = 0;
     let mut live: u32 = 0;
-    let mut m: u32 = 1;
-    while m < next.0 {
-        let t = tally_entry(mst, xrf, next, end, Mfn(m));
-        let Tally::Named { named: n, live: l } = t else {
-            return Tally::Wrong;
-        };
-        named += n;
-        live += l;
-        m += 1;
+    for m in 1..control.next.0 {
+        let one = tally_entry(mst, xrf, control, Mfn(m))?;
+        named += one.named;
+        live += one.live;
     }
-    Tally::Named { named, live }
+    Some(Tally { named, live })
 }
 
-// 1 where the place `p`, or its back place, is the step `s`, else 0.
-fn place_hit(mst: &[u8], end: usize, p: Place, s: usize) -> usize
+// Whether the place `p`, or its back place, is the step `s`.
+fn place_hit(mst: &[u8], end: usize, p: Place, s: usize) -> bool
     requires { Names mst.now end p }
-    ensures { result ≡ bit (elem s (names_of mst.now (Entry.At p))) }
+    ensures { result ≡ elem s (names_of mst.now (At p)) }
 {
     let at = layout::entry::place_address(p);
     if at == s {
-        return 1;
+        return true;
     }
-    let mark = p.mark;
-    let Mark::Changed = mark else {
-        return 0;
-    };
+    if p.mark != Mark::Changed {
+        return false;
+    }
     let l = layout::leader::read_leader(&mst[at..end]);
-    let b = l.mfbwb;
-    if layout::sizes::address(b, l.mfbwp) == s {
-        1
-    } else {
-        0
-    }
+    layout::sizes::address(l.mfbwb, l.mfbwp) == s
 }
 
-// 1 where the entry of the MFN written at the step `s` names this step, else 0.
-fn step_hit(mst: &[u8], xrf: &[u8], next: Mfn, end: usize, s: usize) -> usize
-    requires xrf_value { gate_of (store mst.now xrf.now) ≡ Gate.Open next end }
-    requires xrf_value_2 { (entries_fine (store mst.now xrf.now) ≡ true) × (s + 18 ≤ end) }
-    ensures { result ≡ bit (hit (store mst.now xrf.now) s) }
+// Whether the entry of the MFN written at the step `s` names this step.
+fn step_hit(mst: &[u8], xrf: &[u8], control: Control, s: usize) -> bool
+    requires xrf_value { gate_of (store mst.now xrf.now) ≡ Ok control }
+    requires xrf_value_2 { (entries_fine (store mst.now xrf.now) ≡ true) × (s + 18 ≤ control.end) }
+    ensures { result ≡ hit (store mst.now xrf.now) s }
 {
-    let l = layout::leader::read_leader(&mst[s..end]);
-    let m = l.mfn;
-    if m.0 < 1 {
-        return 0;
+    let m = layout::leader::read_leader(&mst[s..control.end]).mfn;
+    if m.0 < 1 || control.next.0 <= m.0 {
+        return false;
     }
-    if next.0 <= m.0 {
-        return 0;
-    }
-    let e = files::cross_reference::entry_at(xrf, end, m);
-    let Entry::At(p) = e else {
-        return 0;
+    let Entry::At(p) = files::cross_reference::entry_at(xrf, control.end, m) else {
+        return false;
     };
-    place_hit(mst, end, p, s)
+    place_hit(mst, control.end, p, s)
 }
 
 // The second pass: whether stepping from address 64 on one arrives at the end, and meets all that the entries name.
-pub(crate) fn walk_steps(mst: &[u8], xrf: &[u8], next: Mfn, end: usize, named: usize) -> bool
-    requires xrf_value { gate_of (store mst.now xrf.now) ≡ Gate.Open next end }
+pub(crate) fn walk_steps(mst: &[u8], xrf: &[u8], control: Control, named: usize) -> bool
+    requires xrf_value { gate_of (store mst.now xrf.now) ≡ Ok control }
     requires xrf_value_2 { entries_fine (store mst.now xrf.now) ≡ true }
     ensures { result ≡ walk_of (store mst.now xrf.now) named }
 {
     let mut hits: usize = 0;
     let mut at: usize = 64;
-    while at + 18 <= end {
-        hits += step_hit(mst, xrf, next, end, at);
-        at = crate::steps::next_step(mst, end, at);
+    while at + 18 <= control.end {
+        hits += usize::from(step_hit(mst, xrf, control, at));
+        let Some(next) = crate::steps::next_step(mst, control.end, at) else {
+            return false;
+        };
+        at = next;
     }
-    if at != end {
-        return false;
-    }
-    hits == named
+    at == control.end && hits == named
 }

@@ -2,20 +2,19 @@
 ghost use Rattle.std.specs.Prelude.{◌≡◌, ◌+◌, ◌≤◌, length};
 ghost use Rattle.layout.specs.Sizes.{mst_most};
 ghost use Rattle.files.specs.Control.{end_of};
-ghost use Rattle.soundness.specs.Sound.{next_step};
+ghost use Rattle.soundness.specs.Passes.{step_of};
 
-// The step after `s`; past the end where MFRL is not right.
-pub(crate) fn next_step(mst: &[u8], end: usize, s: usize) -> usize
+// The step after `s`, where MFRL is right.
+pub(crate) fn next_step(mst: &[u8], end: usize, s: usize) -> Option<usize>
     requires { (s + 18 ≤ end) × (end ≡ end_of mst.now) × (end ≤ length mst.now) × (length mst.now ≤ mst_most) }
-    ensures { result ≡ next_step mst.now s }
+    ensures { result ≡ step_of mst.now s }
 {
-    let l = layout::leader::read_leader(&mst[s..end]);
-    let mfrl = l.mfrl as usize;
+    let mfrl = layout::leader::read_leader(&mst[s..end]).mfrl as usize;
     if !layout::sizes::record_length(mfrl) {
-        return end + 1;
+        return None;
     }
     if end < s + mfrl {
-        return end + 1;
+        return None;
     }
-    layout::sizes::end_moved(s + mfrl)
+    Some(layout::sizes::end_moved(s + mfrl))
 }

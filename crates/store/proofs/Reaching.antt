@@ -5,9 +5,6 @@ use Prim.Native.Nat.{ℕ}
 use mathlib.Core.Path.{◌≡◌, refl, sym, ap, ◌∙◌}
 use mathlib.Core.Bool.{Bool, true}
 use mathlib.Core.List.{List, []}
-use native.Mathlib.Nat.{le_refl}
-use lib.ListN.{length, take}
-use lib.Seq.{take_all}
 use Rattle.files.specs.Control.{next_of, end_of}
 use Rattle.layout.specs.declared.entry.Place.{Place}
 use Rattle.layout.specs.declared.entry.Entry.TheVariants.{At}
@@ -22,56 +19,39 @@ use Rattle.files.specs.declared.control.Control.{Control}
 use Rattle.store.specs.declared.answer.Refusal.{Refusal}
 use Rattle.store.specs.declared.gate.Record.{Record}
 use Rattle.store.specs.declared.gate.Reached.{Reached}
-use Rattle.store.proofs.Gates.{refused_is, done_is, given_refused, given_done, gated_passes, gate_done, named_done, gate_shut, gate_is, opened, RefusedFacts, known_refused, both_refused, KnownFacts, known_facts, BothFacts, both_facts, both_from, OpenFacts, Planned, planned_at}
+use Rattle.store.proofs.Gates.{refused_is, done_is, given_refused, given_done, gated_passes, gate_done, named_done, gate_shut, gate_open, RefusedFacts, known_refused, both_refused, KnownFacts, known_facts, BothFacts, both_facts, both_from, OpenFacts, Planned, planned_at}
 use Rattle.store.proofs.Lowest.{above, lowest_append}
-
--- ---- a slice lent whole, as a part
-
-whole : (d : List ℕ) → take (length d) d ≡ d
-whole d = take_all (length d) d (le_refl (length d))
-
-pub whole_length : (d : List ℕ) → length d ≡ length (take (length d) d)
-whole_length d = ap length (sym (whole d))
-
-lent : List ℕ → List ℕ → Store
-lent mst xrf = store (take (length mst) mst) (take (length xrf) xrf)
-
-lent_whole : (mst xrf : List ℕ) → lent mst xrf ≡ store mst xrf
-unfolding lent
-lent_whole mst xrf = rw (whole mst, whole xrf)
-
--- what is told of what is lent so
-pub lent_as : {A : Type 0} (f : Store → A) (mst xrf : List ℕ) (r : A) → r ≡ f (store (take (length mst) mst) (take (length xrf) xrf)) → r ≡ f (store mst xrf)
-unfolding lent
-lent_as f mst xrf r w = w ∙ ap f (lent_whole mst xrf)
 
 -- ---- what is returned
 
-module _ (mst xrf : List ℕ) (m : ℕ) (g : Result Control Refusal) (p : g ≡ gate_of (store mst xrf)) where
+module _ (mst xrf : List ℕ) (m : ℕ) where
   abbrev answered : Bool → Answer
   answered ok = lowest (gated (store mst xrf) (named (store mst xrf) m ok []))
 
-  shut : (ok : Bool) (r : Refusal) → g ≡ Err r → Err r ≡ reached_if (answered ok) (store mst xrf) m
+  shut : (ok : Bool) (r : Refusal) → gate_of (store mst xrf) ≡ Err r → Err r ≡ reached_if (answered ok) (store mst xrf) m
   unfolding reached_if
-  shut ok r q = refused_is _ _ r ((gate_shut mst xrf r (sym p ∙ q)).answers (named (store mst xrf) m ok []))
+  shut ok r q = refused_is _ _ r ((gate_shut mst xrf r q).answers (named (store mst xrf) m ok []))
 
-  pub reach_shut : (r : Refusal) → g ≡ Err r → Err r ≡ reached_of (store mst xrf) m
+  pub reach_shut : (r : Refusal) → gate_of (store mst xrf) ≡ Err r → Err r ≡ reached_of (store mst xrf) m
   unfolding reached_of
   reach_shut r q = shut (fine (store mst xrf) m) r q
 
-  pub both_shut : (r : Refusal) → g ≡ Err r → Err r ≡ reached_both (store mst xrf) m
+  pub both_shut : (r : Refusal) → gate_of (store mst xrf) ≡ Err r → Err r ≡ reached_both (store mst xrf) m
   unfolding reached_both
   both_shut r q = shut (both_fine (store mst xrf) m) r q
 
-  module _ (k : Control) (q : g ≡ Ok k) where
-    pub lent_open : gate_of (store (take (length mst) mst) (take (length xrf) xrf)) ≡ Ok k
-    unfolding lent
-    lent_open = ap gate_of (lent_whole mst xrf) ∙ gate_is mst xrf g p k q
+  -- the store as it was opened is the one that was lent
+  module _ (s : Store) (same : (s.mst ≡ mst) × (s.xrf ≡ xrf)) (k : Control) (g : gate_of s ≡ Ok k) where
+    is : s ≡ store mst xrf
+    is = rw (same.0, same.1)
+
+    opened_is : gate_of (store mst xrf) ≡ Ok k
+    opened_is = ap gate_of (sym is) ∙ g
 
     unknown : (ok : Bool) (r : Refusal) → RefusedFacts mst xrf m ok r → Err r ≡ reached_if (answered ok) (store mst xrf) m
     unfolding reached_if
     unknown ok r f =
-        let o = opened mst xrf g p k q in
+        let o = gate_open mst xrf k opened_is in
         refused_is _ _ r (gated_passes mst xrf (named (store mst xrf) m ok []) o.lengths o.control ∙ f.answers [])
 
     -- a record that was found, and whatever else 8 asks
@@ -79,12 +59,12 @@ module _ (mst xrf : List ℕ) (m : ℕ) (g : Result Control Refusal) (p : g ≡ 
         → Ok (reached_at k.end x.place x.leader) ≡ reached_if (answered ok) (store mst xrf) m
     unfolding reached_if
     there ok x f r =
-        let o = opened mst xrf g p k q in
+        let o = gate_open mst xrf k opened_is in
         done_is _ _ _ (rw (o.lengths, o.control, f.known, f.entry, r)) (rw (f.entry, o.end_is, f.leader_is))
 
-    module _ (y : Result Record Refusal) (w : y ≡ known_of (store (take (length mst) mst) (take (length xrf) xrf)) m) where
+    module _ (y : Result Record Refusal) (w : y ≡ known_of s m) where
       u : y ≡ known_of (store mst xrf) m
-      u = lent_as (λ (s : Store). known_of s m) mst xrf y w
+      u = w ∙ ap (λ (t : Store). known_of t m) is
 
       pub reach_unknown : (r : Refusal) → y ≡ Err r → Err r ≡ reached_of (store mst xrf) m
       unfolding reached_of
@@ -96,9 +76,9 @@ module _ (mst xrf : List ℕ) (m : ℕ) (g : Result Control Refusal) (p : g ≡ 
           let f = known_facts mst xrf m x.place x.leader (sym u ∙ e) in
           there (fine (store mst xrf) m) x f (rw f.place_is f.record_fine_lem)
 
-    module _ (y : Result Record Refusal) (w : y ≡ known_both (store (take (length mst) mst) (take (length xrf) xrf)) m) where
+    module _ (y : Result Record Refusal) (w : y ≡ known_both s m) where
       v : y ≡ known_both (store mst xrf) m
-      v = lent_as (λ (s : Store). known_both s m) mst xrf y w
+      v = w ∙ ap (λ (t : Store). known_both t m) is
 
       pub both_unknown : (r : Refusal) → y ≡ Err r → Err r ≡ reached_both (store mst xrf) m
       unfolding reached_both
@@ -110,7 +90,7 @@ module _ (mst xrf : List ℕ) (m : ℕ) (g : Result Control Refusal) (p : g ≡ 
           let f = both_facts mst xrf m x.place x.leader (sym v ∙ e) in
           there (both_fine (store mst xrf) m) x f.current (rw (f.current.place_is, f.current.record_fine_lem, f.version_fine_lem))
 
-pub ruleset reach_answers = (whole_length, lent_open, reach_shut, reach_unknown, reach_there, both_shut, both_unknown, both_there)
+pub ruleset reach_answers = (reach_shut, reach_unknown, reach_there, both_shut, both_unknown, both_there)
 
 -- ---- what a caller learns
 

@@ -1,5 +1,5 @@
 // What every call asks first: the lengths and the control record, then, of an MFN, its range, its entry and its record.
-ghost use Rattle.std.specs.Prelude.{◌≡◌, true, ◌+◌, ◌≤◌, Ok, length};
+ghost use Rattle.std.specs.Prelude.{◌≡◌, true, ◌+◌, ◌≤◌, Ok, Err, IfOk, IfErr, length};
 ghost use Rattle.files.specs.Control.{end_of};
 ghost use Rattle.layout.specs.Entry.{well_placed};
 ghost use Rattle.store.specs.Reading.{lengths_permitted, back_fine};
@@ -25,6 +25,15 @@ pub struct Reached {
     pub end: usize,
     pub place: Place,
     pub leader: Leader,
+}
+
+// A store whose lengths and control record are right, lent for reading.
+#[derive(Clone, Copy)]
+pub struct OpenStore<'a> {
+    pub mst: &'a [u8],
+    pub xrf: &'a [u8],
+    pub control: Control,
+    ghost open: { gate_of (store mst.now xrf.now) ≡ Ok control },
 }
 
 // Whether both lengths are permitted.
@@ -84,18 +93,6 @@ fn test_place(mst: &[u8], end: usize, m: Mfn, place: Place) -> Result<Record, Re
     Ok(Record { place, leader })
 }
 
-// The record of MFN `m`, behind an open gate.
-pub fn find_record(mst: &[u8], xrf: &[u8], control: Control, m: Mfn) -> Result<Record, Refusal>
-    requires { gate_of (store mst.now xrf.now) ≡ Ok control }
-    ensures { result ≡ known_of (store mst.now xrf.now) m.0 }
-{
-    if m.0 < 1 || control.next.0 <= m.0 {
-        return Err(Refusal::NoMfn);
-    }
-    let place = place_of(files::cross_reference::entry_at(xrf, control.end, m))?;
-    test_place(mst, control.end, m, place)
-}
-
 // Whether the settled version of a changed record, at its back place, is well formed.
 fn settled_fine(mst: &[u8], end: usize, m: Mfn, at: usize) -> bool
     requires { (end ≤ length mst.now) × (at ≤ end) }
@@ -107,33 +104,51 @@ fn settled_fine(mst: &[u8], end: usize, m: Mfn, at: usize) -> bool
     record::test::no_back(leader)
 }
 
-// The record of MFN `m` with its settled version, where it is changed.
-pub fn find_both(mst: &[u8], xrf: &[u8], control: Control, m: Mfn) -> Result<Record, Refusal>
-    requires { gate_of (store mst.now xrf.now) ≡ Ok control }
-    ensures { result ≡ known_both (store mst.now xrf.now) m.0 }
-{
-    let record = find_record(mst, xrf, control, m)?;
-    if record.place.mark != Mark::Changed {
-        return Ok(record);
+impl<'a> OpenStore<'a> {
+    // Opens the gate.
+    pub fn open(mst: &'a [u8], xrf: &'a [u8]) -> Result<OpenStore<'a>, Refusal>
+        ensures refused { IfErr result (λ r. gate_of (store mst.now xrf.now) ≡ Err r) }
+        ensures lent { IfOk result (λ s. (s.mst.now ≡ mst.now) × (s.xrf.now ≡ xrf.now)) }
+    {
+        let control = open_gate(mst, xrf)?;
+        Ok(OpenStore { mst, xrf, control })
     }
-    let at = layout::sizes::address(record.leader.mfbwb, record.leader.mfbwp);
-    if !settled_fine(mst, control.end, m, at) {
-        return Err(Refusal::BadRecord);
+
+    // The record of MFN `m`.
+    pub fn find_record(&self, m: Mfn) -> Result<Record, Refusal>
+        ensures { result ≡ known_of (store self.now.mst.now self.now.xrf.now) m.0 }
+    {
+        if m.0 < 1 || self.control.next.0 <= m.0 {
+            return Err(Refusal::NoMfn);
+        }
+        let entry = files::cross_reference::entry_at(self.xrf, self.control.end, m);
+        test_place(self.mst, self.control.end, m, place_of(entry)?)
     }
-    Ok(record)
+
+    // The record of MFN `m` with its settled version, where it is changed.
+    pub fn find_both(&self, m: Mfn) -> Result<Record, Refusal>
+        ensures { result ≡ known_both (store self.now.mst.now self.now.xrf.now) m.0 }
+    {
+        let record = self.find_record(m)?;
+        if record.place.mark != Mark::Changed {
+            return Ok(record);
+        }
+        let at = layout::sizes::address(record.leader.mfbwb, record.leader.mfbwp);
+        if !settled_fine(self.mst, self.control.end, m, at) {
+            return Err(Refusal::BadRecord);
+        }
+        Ok(record)
+    }
 }
 
 // Opens the gate and finds the record of MFN `m`.
 pub fn reach(mst: &[u8], xrf: &[u8], m: Mfn) -> Result<Reached, Refusal>
     ensures { result ≡ reached_of (store mst.now xrf.now) m.0 }
 {
-    let control = open_gate(mst, xrf)?;
-    // lent as parts that are made here: a slice that is handed on whole goes through memory once more
-    let mst_len = mst.len();
-    let xrf_len = xrf.len();
-    let Record { place, leader } = find_record(&mst[..mst_len], &xrf[..xrf_len], control, m)?;
+    let store = OpenStore::open(mst, xrf)?;
+    let Record { place, leader } = store.find_record(m)?;
     Ok(Reached {
-        end: control.end,
+        end: store.control.end,
         place,
         leader,
     })
@@ -143,12 +158,10 @@ pub fn reach(mst: &[u8], xrf: &[u8], m: Mfn) -> Result<Reached, Refusal>
 pub fn reach_both(mst: &[u8], xrf: &[u8], m: Mfn) -> Result<Reached, Refusal>
     ensures { result ≡ reached_both (store mst.now xrf.now) m.0 }
 {
-    let control = open_gate(mst, xrf)?;
-    let mst_len = mst.len();
-    let xrf_len = xrf.len();
-    let Record { place, leader } = find_both(&mst[..mst_len], &xrf[..xrf_len], control, m)?;
+    let store = OpenStore::open(mst, xrf)?;
+    let Record { place, leader } = store.find_both(m)?;
     Ok(Reached {
-        end: control.end,
+        end: store.control.end,
         place,
         leader,
     })

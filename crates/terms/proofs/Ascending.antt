@@ -1,24 +1,24 @@
 -- The turns of the loop that asks whether keys ascend.
 use Prim.Native.Nat.{ℕ, suc, ◌+◌, ◌*◌, ◌-◌, ◌<◌, ◌≤◌}
-use native.Mathlib.Nat.{suc-mul}
+use native.Mathlib.Nat.{suc-mul, add-zero, mul-le-mul_right}
 use native.Mathlib.Omega.{arith}
-use mathlib.Core.Path.{◌≡◌, refl, ap, ◌∙◌}
+use mathlib.Core.Path.{◌≡◌, refl, sym, ap, ◌∙◌}
 use mathlib.Core.Bool.{Bool, true, false, ◌&&◌}
 use mathlib.Core.List.{List}
 use Rattle.word.specs.Overwrite.{part}
+use Rattle.word.proofs.Overwrite.{part_part}
 use Rattle.terms.specs.Key.{below, ascending, ascending_after}
-use Rattle.terms.specs.Inner.{keys_run}
+use Rattle.terms.specs.Inner.{big, keys_run}
 
--- so many keys, and one more, lie in the file
-pub run_more : (left step : ℕ) → 0 < left → (left + 1) * step ≡ step + (left - 1 + 1) * step
-run_more left step h =
-    let z : left + 1 ≡ suc (left - 1 + 1) = omega arith in
-    ap (λ (k : ℕ). k * step) z ∙ omega (arith, suc-mul (left - 1 + 1) step)
+-- the key behind the one at `key`, which is key i - 1, lies in the file
+pub next_in : (at step i count size key : ℕ) → key + step ≡ at + i * step → i < count → at + count * step ≤ size → key + step + step ≤ size
+next_in at step i count size key e h l =
+    let m : suc i * step ≤ count * step = mul-le-mul_right step h in
+    omega (arith, suc-mul i step)
 
-pub run_one : (left step : ℕ) → (left + 1) * step ≡ left * step + step
-run_one left step =
-    let z : left + 1 ≡ suc left = omega arith in
-    ap (λ (k : ℕ). k * step) z ∙ suc-mul left step
+-- the number of a key's first 8 bytes, of the key alone
+pub front_big : (f : List ℕ) (at width x : ℕ) → 8 ≤ width → x ≡ big (part f at 8) → x ≡ big (part (part f at width) 0 8)
+front_big f at width x h e = e ∙ ap big (sym (part_part f at width 0 8 h ∙ ap (λ (k : ℕ). part f k 8) (add-zero at)))
 
 module _ (f : List ℕ) (step width : ℕ) where
   first : (at k : ℕ) → ascending (keys_run f at step width (suc k)) ≡ ascending_after (part f at width) (keys_run f (at + step) step width k)
@@ -34,20 +34,20 @@ module _ (f : List ℕ) (step width : ℕ) where
       let z : count ≡ suc (count - 1) = omega arith in
       ap (λ (k : ℕ). ascending (keys_run f at step width k)) z ∙ first at (count - 1)
 
+  -- r is what all keys do, which those behind the one at `key` decide
   module _ (r : Bool) (key left : ℕ) (inv : r ≡ ascending_after (part f key width) (keys_run f (key + step) step width left)) where
     pub run_done : left ≤ 0 → true ≡ r
     unfolding ascending_after keys_run
     run_done h = let z : left ≡ 0 = omega arith in rw (inv, z)
 
-    run_step : 0 < left
-        → r ≡ (below (part f key width) (part f (key + step) width) && ascending_after (part f (key + step) width) (keys_run f (key + step + step) step width (left - 1)))
-    run_step h =
-        let z : left ≡ suc (left - 1) = omega arith in
-        inv ∙ ap (λ (k : ℕ). ascending_after (part f key width) (keys_run f (key + step) step width k)) z ∙ after (part f key width) (key + step) (left - 1)
+    module _ (b : Bool) (next left' : ℕ) (n : next ≡ key + step) (l : left ≡ left' + 1) (e : b ≡ below (part f key width) (part f next width)) where
+      run_step : r ≡ (b && ascending_after (part f next width) (keys_run f (next + step) step width left'))
+      run_step =
+          let z : left ≡ suc left' = omega arith in
+          inv ∙ ap (λ (k : ℕ). ascending_after (part f key width) (keys_run f (key + step) step width k)) z ∙ rw (← n, after (part f key width) next left', ← e)
 
-    module _ (b : Bool) (h : 0 < left) (e : b ≡ below (part f key width) (part f (key + step) width)) where
       pub run_stop : b ≡ false → false ≡ r
-      run_stop q = rw (run_step h, ← e, q)
+      run_stop q = rw (run_step, q)
 
-      pub run_next : b ≡ true → r ≡ ascending_after (part f (key + step) width) (keys_run f (key + step + step) step width (left - 1))
-      run_next q = rw (run_step h, ← e, q)
+      pub run_next : b ≡ true → r ≡ ascending_after (part f next width) (keys_run f (next + step) step width left')
+      run_next q = rw (run_step, q)

@@ -1,21 +1,24 @@
 -- Keys compared 8 bytes at a time: bytes as the digits of one number, whose order is the order of the bytes.
-use Prim.Native.Nat.{ℕ, suc, ◌+◌, ◌*◌, ◌-◌, ◌/◌, ◌%◌, ◌^◌, ◌<◌, ◌≤◌}
-use native.Mathlib.Nat.{add-zero, suc-mul, mul-le-mul_right, pow-zero, pow-succ'}
+use Prim.Native.Nat.{ℕ, suc, ◌+◌, ◌*◌, ◌/◌, ◌%◌, ◌^◌, ◌<◌, ◌≤◌}
+use native.Mathlib.Nat.{suc-mul, mul-le-mul_right, pow-zero, pow-succ'}
 use native.Mathlib.Omega.{arith}
 use mathlib.Core.Path.{◌≡◌, refl, sym, ap, ◌∙◌}
 use mathlib.Core.Logic.{◌⊎◌, inl, inr, ⊎_elim}
 use mathlib.Core.Bool.{true, false}
 use mathlib.Core.List.{List, [], ◌∷◌, ◌++◌}
 use lib.Dec.{eqb, ltb}
-use lib.ListN.{length, take, drop}
-use lib.Seq.{take-take}
-use borrow.Author.Tests.{eq-eqb, eqb-true, eqb-false, lt-ltb, le-ltb}
-use Rattle.word.specs.Integer.{le}
+use lib.ListN.{length, get_or, take, drop, take-append-drop}
+use lib.Seq.{take-take, take-add, take-length}
+use borrow.Author.Tests.{eq-eqb, ne_eqb, eqb-true, eqb-false, lt-ltb, le-ltb}
+use mir.Syntax.{w8}
+use mir.Val.{Fits}
+use Rattle.std.specs.Int.{w64, swap_bytes, from_be_bytes}
+use Rattle.word.specs.Integer.{u64_at, le}
 use Rattle.word.specs.Overwrite.{part}
-use Rattle.word.proofs.Overwrite.{lt_or_ge, part_length, part_add}
-use Rattle.word.proofs.Integers.{Bytes, bytes_part}
+use Rattle.word.proofs.Overwrite.{lt_or_ge, part_length}
+use Rattle.word.proofs.Integers.{Bytes, bytes_part, u64_back}
 use Rattle.terms.specs.Key.{same, below}
-use Rattle.terms.specs.Inner.{big, DecidedAt}
+use Rattle.terms.specs.Inner.{big}
 use Rattle.terms.proofs.Order.{by_cases, never, below_irrefl, below_trans, below_first, below_rest, same_is, same_refl}
 
 -- ---- two numbers by their highest digits
@@ -97,117 +100,84 @@ apart xs ys e = by_cases (same xs ys) (λ t. ⊎_elim (λ l. never (rw (same_is 
 
 -- ---- two keys that agree in front
 
--- a part in two
-halves : (s : List ℕ) (at n k : ℕ) → k ≤ n → part s at n ≡ part s at k ++ part s (at + k) (n - k)
-halves s at n k h =
-    let z : n ≡ k + (n - k) = omega arith in
-    ap (part s at) z ∙ part_add s at k (n - k)
-
 -- they agree in their first k bytes
-abbrev pub Agree : List ℕ → List ℕ → ℕ → ℕ → ℕ → Type 0
-Agree a b i j k = part a i k ≡ part b j k
+abbrev pub Agree : List ℕ → List ℕ → ℕ → Type 0
+Agree a b k = take k a ≡ take k b
 
-agree_less : (a b : List ℕ) (i j k m : ℕ) → m ≤ k → Agree a b i j k → Agree a b i j m
-agree_less a b i j k m h e = sym (take-take m k (drop i a) h) ∙ ap (take m) e ∙ take-take m k (drop j b) h
+pub agree_less : (a b : List ℕ) (k m : ℕ) → m ≤ k → Agree a b k → Agree a b m
+agree_less a b k m h e = sym (take-take m k a h) ∙ ap (take m) e ∙ take-take m k b h
 
 -- the 8 bytes behind the first k, and the number that they are the digits of
-pub record Eight (s : List ℕ) (at k x : ℕ) : Type 0 where
-  pub small : Bytes (part s (at + k) 8)
-  pub eight : length (part s (at + k) 8) ≡ 8
-  pub number : x ≡ big (part s (at + k) 8)
+pub record Eight (s : List ℕ) (k x : ℕ) : Type 0 where
+  pub small : Bytes (part s k 8)
+  pub eight : length (part s k 8) ≡ 8
+  pub number : x ≡ big (part s k 8)
 
-pub eight_at : (s : List ℕ) (at k x : ℕ) → Bytes s → at + (k + 8) ≤ length s → x ≡ big (part s (at + k) 8) → Eight s at k x
-eight_at s at k x b l e = record { small = bytes_part s (at + k) 8 b; eight = part_length s (at + k) 8 (omega arith); number = e }
+pub eight_at : (s : List ℕ) (k x : ℕ) → Bytes s → k + 8 ≤ length s → x ≡ big (part s k 8) → Eight s k x
+eight_at s k x b l e = record { small = bytes_part s k 8 b; eight = part_length s k 8 l; number = e }
 
-pub eight_first : (s : List ℕ) (at x : ℕ) {n : ℕ} → Bytes s → at + n ≤ length s → 8 ≤ n → x ≡ big (part s at 8) → Eight s at 0 x
-eight_first s at x b l h e = eight_at s at 0 x b (omega arith) (rw add-zero e)
+-- a key as its first k bytes, the 8 behind them, and the others
+thirds : (s : List ℕ) (k : ℕ) → s ≡ take k s ++ (part s k 8 ++ drop 8 (drop k s))
+thirds s k = sym (ap (λ (l : List ℕ). take k s ++ l) (take-append-drop 8 (drop k s)) ∙ take-append-drop k s)
 
-module _ (a b : List ℕ) (i j k x y : ℕ) (p : Eight a i k x) (q : Eight b j k y) (known : Agree a b i j k) where
-  these : x ≡ y → part a (i + k) 8 ≡ part b (j + k) 8
+-- two numbers decide between two keys
+pub record Decides (a b : List ℕ) (x y : ℕ) : Type 0 where
+  pub equal : eqb x y ≡ same a b
+  pub less : ltb x y ≡ below a b
+
+module _ (a b : List ℕ) (k x y : ℕ) (p : Eight a k x) (q : Eight b k y) (known : Agree a b k) where
+  these : x ≡ y → part a k 8 ≡ part b k 8
   these e = same_big _ _ p.small q.small (p.eight ∙ sym q.eight) (sym p.number ∙ e ∙ q.number)
 
-  pub agree_more : x ≡ y → Agree a b i j (k + 8)
-  agree_more e = part_add a i k 8 ∙ rw (known, these e) (sym (part_add b j k 8))
+  pub agree_more : x ≡ y → Agree a b (k + 8)
+  agree_more e = take-add k 8 a ∙ rw (known, these e) (sym (take-add k 8 b))
 
-  module _ (n : ℕ) (h : k + 8 ≤ n) where
-    -- the keys as the bytes that agree, the 8 behind them, and the others
-    thirds : (s : List ℕ) (at : ℕ) → part s at n ≡ part s at k ++ (part s (at + k) 8 ++ part s (at + k + 8) (n - k - 8))
-    thirds s at = halves s at n k (omega arith) ∙ ap (λ (l : List ℕ). part s at k ++ l) (halves s (at + k) (n - k) 8 (omega arith))
+  same_from : same a b ≡ same (part a k 8 ++ drop 8 (drop k a)) (part b k 8 ++ drop 8 (drop k b))
+  same_from = ap (λ (l : List ℕ). same l b) (thirds a k ∙ ap (λ (l : List ℕ). l ++ (part a k 8 ++ drop 8 (drop k a))) known) ∙ ap (same (take k b ++ (part a k 8 ++ drop 8 (drop k a)))) (thirds b k) ∙ same_skip (take k b) _ _
 
-    same_from : same (part a i n) (part b j n) ≡ same (part a (i + k) 8 ++ part a (i + k + 8) (n - k - 8)) (part b (j + k) 8 ++ part b (j + k + 8) (n - k - 8))
-    same_from = rw (thirds a i, thirds b j, known) (same_skip (part b j k) _ _)
+  below_from : below a b ≡ below (part a k 8 ++ drop 8 (drop k a)) (part b k 8 ++ drop 8 (drop k b))
+  below_from = ap (λ (l : List ℕ). below l b) (thirds a k ∙ ap (λ (l : List ℕ). l ++ (part a k 8 ++ drop 8 (drop k a))) known) ∙ ap (below (take k b ++ (part a k 8 ++ drop 8 (drop k a)))) (thirds b k) ∙ below_skip (take k b) _ _
 
-    below_from : below (part a i n) (part b j n) ≡ below (part a (i + k) 8 ++ part a (i + k + 8) (n - k - 8)) (part b (j + k) 8 ++ part b (j + k + 8) (n - k - 8))
-    below_from = rw (thirds a i, thirds b j, known) (below_skip (part b j k) _ _)
+  up : x < y → below (part a k 8 ++ drop 8 (drop k a)) (part b k 8 ++ drop 8 (drop k b)) ≡ true
+  up l = below_big (part a k 8) (part b k 8) _ _ p.small q.small (p.eight ∙ sym q.eight) (omega (arith, p.number, q.number))
 
-    up : x < y → below (part a (i + k) 8 ++ part a (i + k + 8) (n - k - 8)) (part b (j + k) 8 ++ part b (j + k + 8) (n - k - 8)) ≡ true
-    up l = below_big (part a (i + k) 8) (part b (j + k) 8) _ _ p.small q.small (p.eight ∙ sym q.eight) (omega (arith, p.number, q.number))
+  down : y < x → below (part b k 8 ++ drop 8 (drop k b)) (part a k 8 ++ drop 8 (drop k a)) ≡ true
+  down l = below_big (part b k 8) (part a k 8) _ _ q.small p.small (q.eight ∙ sym p.eight) (omega (arith, p.number, q.number))
 
-    down : y < x → below (part b (j + k) 8 ++ part b (j + k + 8) (n - k - 8)) (part a (i + k) 8 ++ part a (i + k + 8) (n - k - 8)) ≡ true
-    down l = below_big (part b (j + k) 8) (part a (i + k) 8) _ _ q.small p.small (q.eight ∙ sym p.eight) (omega (arith, p.number, q.number))
+  -- where the 8 bytes differ
+  pub differ : (x ≡ y → ⊥) → Decides a b x y
+  differ ne =
+      record {
+        equal = ne_eqb x y ne ∙ sym (same_from ∙ apart _ _ (⊎_elim (λ l. inl (up l)) (⊎_elim (λ e. absurd (ne e)) (λ l. inr (down l))) (three x y)));
+        less =
+            ⊎_elim (λ l. lt-ltb x y l ∙ sym (below_from ∙ up l))
+            (⊎_elim (λ e. absurd (ne e)) (λ l. le-ltb x y (omega arith) ∙ sym (below_from ∙ asym _ _ (down l)))) (three x y);
+      }
 
-    -- the 8 bytes differ
-    module _ (ne : x ≡ y → ⊥) where
-      pub differ_same : false ≡ same (part a i n) (part b j n)
-      differ_same = sym (same_from ∙ apart _ _ (⊎_elim (λ l. inl (up l)) (⊎_elim (λ e. absurd (ne e)) (λ l. inr (down l))) (three x y)))
-
-      pub differ_below : ltb x y ≡ below (part a i n) (part b j n)
-      differ_below =
-          ⊎_elim (λ l. lt-ltb x y l ∙ sym (below_from ∙ up l))
-          (⊎_elim (λ e. absurd (ne e)) (λ l. le-ltb x y (omega arith) ∙ sym (below_from ∙ asym _ _ (down l)))) (three x y)
-
-  -- the 8 bytes are the last
-  module _ (n : ℕ) (h : n ≡ k + 8) where
-    whole : x ≡ y → part a i n ≡ part b j n
-    whole e = rw h (agree_more e)
-
-    last_same : eqb x y ≡ same (part a i n) (part b j n)
-    last_same =
-        by_cases (eqb x y) (λ e. e ∙ sym (rw (whole (eqb-true x y e)) (same_refl (part b j n))))
-        (λ e. e ∙ differ_same n (omega arith) (eqb-false x y e))
-
-    last_below : ltb x y ≡ below (part a i n) (part b j n)
-    last_below =
-        by_cases (eqb x y) (λ e. let z = eqb-true x y e in le-ltb x y (omega arith) ∙ sym (rw (whole z) (below_irrefl (part b j n))))
-        (λ e. differ_below n (omega arith) (eqb-false x y e))
-
--- ---- where keys are decided
-
--- at 8 bytes that differ
-pub decided_here : (a b : List ℕ) (i j n k x y : ℕ) → Eight a i k x → Eight b j k y → Agree a b i j k → k + 8 ≤ n → (x ≡ y → ⊥) → DecidedAt a i b j n k
-decided_here a b i j n k x y p q known h ne =
-    record { inside = h; agree = known; last = λ e. absurd (ne (p.number ∙ ap big e ∙ sym q.number)) }
-
--- or at the last 8
-pub decided_last : (a b : List ℕ) (i j n k : ℕ) → 8 ≤ n → n - 8 ≤ k → Agree a b i j k → DecidedAt a i b j n (n - 8)
-decided_last a b i j n k h l known = record { inside = omega arith; agree = agree_less a b i j k (n - 8) l known; last = λ e. omega arith }
-
-module _ (a b : List ℕ) (i j n k x y : ℕ) (d : DecidedAt a i b j n k) (p : Eight a i k x) (q : Eight b j k y) where
-  end : x ≡ y → n ≡ k + 8
-  end e = sym (d.last (these a b i j k x y p q d.agree e))
-
-  pub decided_same : eqb x y ≡ same (part a i n) (part b j n)
-  decided_same =
-      by_cases (eqb x y) (λ e. last_same a b i j k x y p q d.agree n (end (eqb-true x y e)))
-      (λ e. e ∙ differ_same a b i j k x y p q d.agree n d.inside (eqb-false x y e))
-
-  pub decided_below : ltb x y ≡ below (part a i n) (part b j n)
-  decided_below =
-      by_cases (eqb x y) (λ e. last_below a b i j k x y p q d.agree n (end (eqb-true x y e)))
-      (λ e. differ_below a b i j k x y p q d.agree n d.inside (eqb-false x y e))
+  -- where they are the last
+  pub last : length a ≡ k + 8 → length b ≡ k + 8 → Decides a b x y
+  last la lb = by_cases (eqb x y) (λ e. alike (eqb-true x y e)) (λ e. differ (eqb-false x y e))
+    where
+      alike : x ≡ y → Decides a b x y
+      alike e =
+          let z : a ≡ b = sym (rw (← la) (take-length a)) ∙ agree_more e ∙ rw (← lb) (take-length b) in
+          rw z (record { equal = eq-eqb x y e ∙ sym (same_refl b); less = le-ltb x y (omega arith) ∙ sym (below_irrefl b) })
 
 -- ---- 8 bytes as one number
 
--- the digits in two halves
-pub swapped_is : (v : ℕ) (high low : ℕ)
-    → high ≡ v % 256 * 16777216 + v / 256 % 256 * 65536 + v / 256 / 256 % 256 * 256 + v / 256 / 256 / 256 % 256
-    → low
-    ≡ v / 256 / 256 / 256 / 256 % 256 * 16777216 + v / 256 / 256 / 256 / 256 / 256 % 256 * 65536 + v / 256 / 256 / 256 / 256 / 256 / 256 % 256 * 256
-    + v / 256 / 256 / 256 / 256 / 256 / 256 / 256 % 256
-    → high * 4294967296 + low ≡ big (le 8 v)
+swapped_is : (v : ℕ) → swap_bytes w64 v ≡ big (le 8 v)
 unfolding big
-swapped_is v high low p q = digits _ _ _ _ _ _ _ _ high low p q
+swapped_is v =
+    let e2 : v / 65536 % 256 ≡ v / 256 / 256 % 256 = omega arith in
+    let e3 : v / 16777216 % 256 ≡ v / 256 / 256 / 256 % 256 = omega arith in
+    let e4 : v / 4294967296 % 256 ≡ v / 256 / 256 / 256 / 256 % 256 = omega arith in
+    let e5 : v / 1099511627776 % 256 ≡ v / 256 / 256 / 256 / 256 / 256 % 256 = omega arith in
+    let e6 : v / 281474976710656 % 256 ≡ v / 256 / 256 / 256 / 256 / 256 / 256 % 256 = omega arith in
+    let e7 : v / 72057594037927936 % 256 ≡ v / 256 / 256 / 256 / 256 / 256 / 256 / 256 % 256 = omega arith in
+    rw (e2, e3, e4, e5, e6, e7) (digits _ _ _ _ _ _ _ _)
   where
-    digits : (b0 b1 b2 b3 b4 b5 b6 b7 high low : ℕ) → high ≡ b0 * 16777216 + b1 * 65536 + b2 * 256 + b3 → low ≡ b4 * 16777216 + b5 * 65536 + b6 * 256 + b7
-        → high * 4294967296 + low ≡ big (b0 ∷ b1 ∷ b2 ∷ b3 ∷ b4 ∷ b5 ∷ b6 ∷ b7 ∷ [])
-    digits b0 b1 b2 b3 b4 b5 b6 b7 high low p q = omega (arith, p, q)
+    digits : (b0 b1 b2 b3 b4 b5 b6 b7 : ℕ) → from_be_bytes w64 (b0 ∷ b1 ∷ b2 ∷ b3 ∷ b4 ∷ b5 ∷ b6 ∷ b7 ∷ []) ≡ big (b0 ∷ b1 ∷ b2 ∷ b3 ∷ b4 ∷ b5 ∷ b6 ∷ b7 ∷ [])
+    digits b0 b1 b2 b3 b4 b5 b6 b7 = omega arith
+
+pub big_part : (s : List ℕ) (at : ℕ) → ((i : ℕ) → Fits w8 (get_or s i 0)) → at + 8 ≤ length s → big (part s at 8) ≡ swap_bytes w64 (u64_at s at)
+big_part s at b h = ap big (sym (u64_back s at (λ i. (b i).fits) h)) ∙ sym (swapped_is (u64_at s at))

@@ -2,16 +2,17 @@
 use Prim.Native.Nat.{ℕ, zero, suc, ◌+◌, ◌-◌, ◌≤◌}
 use native.Mathlib.Omega.{arith}
 use mathlib.Core.Path.{◌≡◌, refl, ap, ◌∙◌}
-use mathlib.Core.Logic.{◌⊎◌, inl, inr, ⊎_elim}
 use mathlib.Core.Bool.{Bool, true, false, cond}
 use mathlib.Core.List.{List, ◌∷◌, ◌++◌}
-use lib.Dec.{eqb, leb}
+use lib.Dec.{leb}
 use lib.ListN.{length, take, drop, replicate}
 use lib.Seq.{take-append-add}
 use borrow.Author.Tests.{leb-true}
 use Rattle.word.specs.Overwrite.{overwrite, part}
 use Rattle.word.proofs.Tests.{tests}
 use Rattle.terms.specs.Term.{term_right, kind_for, width_of, padded}
+use Rattle.terms.specs.declared.term.Kind.{Kind}
+use Rattle.terms.specs.declared.term.Kind.TheVariants.{Short, Long}
 
 -- ---- the tree
 
@@ -19,35 +20,22 @@ pub term_fits : (term : List ℕ) → term_right term ≡ true → length term �
 unfolding term_right
 term_fits term e = let q = simp tests at e in q.0.1
 
-width_cases : (b : Bool) → (◌≡◌ {A = ℕ} (cond b 10 30) 10) ⊎ (◌≡◌ {A = ℕ} (cond b 10 30) 30)
-width_cases true = inl refl
-width_cases false = inr refl
+pub width_low : (kind : Kind) → 10 ≤ width_of kind
+width_low Short = omega arith
+width_low Long = omega arith
 
-pub width_is : (kind : ℕ) → (width_of kind ≡ 10) ⊎ (width_of kind ≡ 30)
-width_is kind = width_cases (eqb kind 1)
+pub width_high : (kind : Kind) → width_of kind ≤ 30
+width_high Short = omega arith
+width_high Long = omega arith
 
-pub width_low : (kind : ℕ) → 10 ≤ width_of kind
-width_low kind = ⊎_elim (λ e. omega (arith, e)) (λ e. omega (arith, e)) (width_is kind)
-
-pub width_high : (kind : ℕ) → width_of kind ≤ 30
-width_high kind = ⊎_elim (λ e. omega (arith, e)) (λ e. omega (arith, e)) (width_is kind)
-
-module _ (term : List ℕ) where
-  pub short_fits : kind_for term ≡ 1 → length term ≤ 10
-  unfolding kind_for
-  short_fits e = at (leb (length term) 10) refl e
-    where
-      at : (b : Bool) → leb (length term) 10 ≡ b → ◌≡◌ {A = ℕ} (cond b 1 2) 1 → length term ≤ 10
-      at true p q = leb-true (length term) 10 p
-      at false p q = absurd (omega (arith, q))
-
-  pub long_kind : (kind_for term ≡ 1 → ⊥) → kind_for term ≡ 2
-  unfolding kind_for
-  long_kind h = at (leb (length term) 10) h
-    where
-      at : (b : Bool) → (◌≡◌ {A = ℕ} (cond b 1 2) 1 → ⊥) → ◌≡◌ {A = ℕ} (cond b 1 2) 2
-      at true h = absurd (h refl)
-      at false h = refl
+-- a right term is no longer than the keys of its tree
+pub kind_fits : (term : List ℕ) → term_right term ≡ true → length term ≤ width_of (kind_for term)
+unfolding kind_for
+kind_fits term e = cases (leb (length term) 10) refl
+  where
+    cases : (b : Bool) → leb (length term) 10 ≡ b → length term ≤ width_of (cond b Short Long)
+    cases true p = leb-true (length term) 10 p
+    cases false p = term_fits term e
 
 -- ---- padding
 

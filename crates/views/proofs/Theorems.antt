@@ -1,6 +1,6 @@
 -- WHICH FIELD a view shows and WHICH KIND OF MISSING it says, on any store: what is asked of the fields comes behind the refusals below 12, and each
 -- of the three ways in which it comes out is one answer.
-use Rattle.std.specs.Prelude.{Ok, Err}
+use Rattle.std.specs.Prelude.{Result, Ok, Err}
 use Prim.Native.Nat.{ℕ, ◌+◌, ◌-◌, ◌<◌}
 use native.Mathlib.Omega.{arith}
 use mathlib.Core.Path.{◌≡◌, refl, sym, ap, ◌∙◌}
@@ -14,7 +14,8 @@ use Rattle.layout.specs.Entry.{place_address}
 use Rattle.layout.specs.declared.entry.Place.{Place}
 use Rattle.files.specs.Control.{end_of}
 use Rattle.record.specs.Fields.{fields_of, field_named, occurrences_of, is_missing, is_fewer, find_of}
-use Rattle.record.specs.declared.fields.Found.{Found}
+use Rattle.record.specs.declared.fields.Span.{Span}
+use Rattle.record.specs.declared.fields.NotFound.{NotFound}
 use Rattle.record.proofs.Search.{missing_facts, present_facts, fewer_facts, enough_facts, FoundBy, by_missing, by_fewer, by_span, found_by}
 use Rattle.record.proofs.Find.{found_there}
 use Rattle.store.specs.Store.{Store}
@@ -42,11 +43,11 @@ shown_field mst at end tag occ r m f = go (find_of rec tag occ) (found_by rec ta
     rec : List ℕ
     rec = part mst at (end - at)
 
-    go : (x : Found) → FoundBy (fields_of rec) tag occ x → find_of rec tag occ ≡ x
+    go : (x : Result Span NotFound) → FoundBy (fields_of rec) tag occ x → find_of rec tag occ ≡ x
         → field_named (fields_of rec) tag occ ≡ some (part mst (at + found_start x) (found_length x))
     go _ (by_missing e) q = absurd (false_true (sym m ∙ e))
     go _ (by_fewer m e) q = absurd (false_true (sym f ∙ e))
-    go _ (by_span start len m f) q = found_there mst at (end - at) r.readable tag occ start len q
+    go _ (by_span s m f) q = found_there mst at (end - at) r.readable tag occ s q
 
 module _ (mst : List ℕ) (before : Answer) (at end tag occ : ℕ) (readable : before ≡ Ok tt → ReadableAt mst at end) where
   abbrev rec : List ℕ
@@ -81,17 +82,17 @@ module _ (mst : List ℕ) (before : Answer) (at end tag occ : ℕ) (readable : b
         }
 
     module _ (p : is_missing (fields_of rec) tag occ ≡ false) where
-      fewer_which : is_fewer (fields_of rec) tag occ ≡ true → Says (Err FewerFields)
+      fewer_which : is_fewer (fields_of rec) tag occ ≡ true → Says (Err (FewerFields (occurrences_of (fields_of rec) tag)))
       unfolding shown_at occurrences_with number_of
       fewer_which f =
           let some = present_facts (fields_of rec) tag occ p in
           let less = fewer_facts (fields_of rec) tag occ f in
           record {
             missing = ((λ e. absurd (apart (λ z. omega arith) e)), (λ q. absurd (⊎_elim (λ z. omega arith) (λ z. omega arith) q.1)));
-            fewer = λ n. ((λ e. (d, (e.1, (omega (arith, e.1), omega (arith, e.1))))), (λ q. (refl, q.1.0)));
+            fewer = λ n. ((λ e. (d, (e.1, (omega (arith, e.1), omega (arith, e.1))))), (λ q. (rw q.1.0 refl, q.1.0)));
             done = ((λ e. absurd (apart (λ z. omega arith) e)), (λ q. absurd (omega arith)));
             shows = λ e. absurd (apart (λ z. omega arith) e);
-            other = λ e. absurd (e refl);
+            other = λ e. absurd (e (occurrences_of (fields_of rec) tag) refl);
           }
 
       done_which : is_fewer (fields_of rec) tag occ ≡ false → Says (Ok tt)

@@ -1,9 +1,10 @@
 -- What the calls that hand out a record's fields one after the other show of the version that they read. The theorem stands last: at each index
 -- they hand out the record's field of that number, and from the number of its fields on they answer 12.
-use Rattle.std.specs.Prelude.{Ok, Err}
+use Rattle.std.specs.Prelude.{Option, Some, None, Result, Ok, Err}
+use Rattle.std.specs.Option.{ok_or}
 use Prim.Native.Nat.{ℕ, ◌+◌, ◌-◌, ◌^◌, ◌≤◌, ◌<◌}
 use native.Mathlib.Omega.{arith}
-use mathlib.Core.Path.{◌≡◌, refl, sym, ◌∙◌}
+use mathlib.Core.Path.{◌≡◌, refl, sym, ap, ◌∙◌}
 use mathlib.Core.Bool.{Bool, true, false, cond}
 use mathlib.Core.List.{List, [], ◌∷◌}
 use mir.Syntax.{w64}
@@ -15,102 +16,115 @@ use Rattle.word.proofs.Overwrite.{part_part, part_short}
 use Rattle.layout.specs.Entry.{place_address}
 use Rattle.files.specs.Control.{end_of}
 use Rattle.layout.specs.Leader.{leader_of}
-use Rattle.layout.specs.declared.sizes.Tag.{Tag}
-use Rattle.layout.specs.declared.entry.Place.{Place}
-use Rattle.record.specs.Directory.{tag_at, pos_at, len_at}
+use Rattle.record.specs.Directory.{pos_at, len_at}
 use Rattle.record.specs.Fields.{Field, fields_of}
-use Rattle.walking.specs.Walker.{at_end, walked_at}
-use Rattle.walking.specs.declared.walker.Walked.{Walked}
-use Rattle.walking.specs.declared.walker.Walked.TheVariants.{Field as FieldHere, End}
+use Rattle.walking.specs.Walker.{at_end, spot_at, walked_at}
+use Rattle.walking.specs.declared.walker.Spot.{Spot}
 use Rattle.record.proofs.FieldData.{fields_count}
 use Rattle.record.proofs.Facts.{readable_facts}
 use Rattle.walking.proofs.Walking.{field_in_lem, walked_here, walked_is, walked_in_lem}
-use Rattle.store.specs.Answer.{number_of, refuse, lowest, after, Answer}
-use Rattle.store.specs.Reading.{place_for, record_at, record_from, shown_settled, current_fields}
+use Rattle.store.specs.Answer.{number_of, Row, refuse, lowest, after, Answer}
+use Rattle.store.specs.Reading.{place_for, record_from, shown_settled, current_fields}
 use Rattle.views.specs.Views.{on_current, on_settled, settled_address}
-use Rattle.views.specs.Fields.{field_answer, settled_field_answer, handed_out, field_of, settled_field_of}
-use Rattle.views.specs.Versions.{lastly, version_if, current_version, settled_version, refused_field, version_answer, shown_walked, walked_in, ReadableAt, Legible}
+use Rattle.views.specs.Fields.{ShownField, shown_field, field_answer, settled_field_answer, handed_out, field_of, settled_field_of}
+use Rattle.views.specs.Versions.{current_version, settled_version, shown_walked, walked_in, ReadableAt}
+use Rattle.store.specs.declared.answer.Refusal.{Refusal}
 use Rattle.store.specs.declared.answer.Refusal.TheVariants.{NoField}
 use Rattle.views.specs.declared.views.Version.{Version}
-use Rattle.views.specs.declared.views.Version.TheVariants.{Begins, Refused as NoVersion}
-use Rattle.views.specs.declared.walk.ShownField.{ShownField}
-use Rattle.store.proofs.Gates.{Refusing, after_refused}
-use Rattle.views.proofs.VersionAnswers.{current_then, settled_then, version_shows, settled_from, current_readable, current_legible, settled_readable, settled_legible, version_end_in, version_before, version_readable, version_within}
+use Rattle.views.proofs.VersionAnswers.{current_then, settled_then, settled_from, current_readable, settled_readable, NoVersion, FoundVersion, current_none, current_there, current_legible, settled_none, settled_there, settled_legible, version_within}
 use Rattle.store.specs.Store.{store}
 
 -- ---- what is handed out
 
 -- a refused call hands out nothing
-handed_refused : (a : Answer) (at : ℕ) (rec : List ℕ) (i : ℕ) → Refusing a → refused_field a ≡ handed_out a at rec i
-unfolding handed_out
-handed_refused a at rec i h =
-    rw (
-      after_refused {A = ℕ} a (tag_at rec i) 0 h,
-      after_refused {A = ℕ} a (at + ((leader_of rec).base + pos_at rec i)) 0 h,
-      after_refused {A = ℕ} a (len_at rec i) 0 h,
-    )
+handed_refused : (e : Refusal) (at : ℕ) (rec : List ℕ) (i : ℕ) → shown_field (Err e) ≡ handed_out (Err e) at rec i
+unfolding handed_out after
+handed_refused e at rec i = refl
 
-pub refused_within : (mst : List ℕ) (a : Answer) (r : ShownField) → r ≡ refused_field a → r.start + r.len ≤ length mst
-refused_within mst a r s = rw s (omega arith)
+-- one more answer: 12 past the last entry of the directory
+abbrev past_the_end : List ℕ → ℕ → List Row
+past_the_end rec i = refuse NoField (at_end rec i) ∷ []
 
--- 12, at the end of the directory
-handed_walked : (at : ℕ) (rec : List ℕ) (i : ℕ) → shown_walked at (walked_at rec i) ≡ handed_out (lastly (Err NoField) (at_end rec i)) at rec i
-unfolding walked_at handed_out after number_of
+handed_walked : (at : ℕ) (rec : List ℕ) (i : ℕ) → shown_field (shown_walked at (walked_at rec i)) ≡ handed_out (lowest (past_the_end rec i)) at rec i
+unfolding walked_at handed_out after
 handed_walked at rec i = by (at_end rec i)
   where
-    by : (over : Bool)
-        → shown_walked at (cond over End (FieldHere (record { 0 = tag_at rec i }) ((leader_of rec).base + pos_at rec i) (len_at rec i)))
-        ≡ handed_out (lastly (Err NoField) over) at rec i
+    by : (over : Bool) → shown_field (shown_walked at (cond over None (Some (spot_at rec i)))) ≡ handed_out (cond over (Err NoField) (Ok tt)) at rec i
     by true = refl
     by false = refl
 
 -- ---- the field at an index of a version
 
-module _ (mst : List ℕ) (i : ℕ) (v : Version) where
-  pub walk_refused : (a b : Answer) (r : ShownField) → v ≡ NoVersion b → a ≡ version_answer v → r ≡ refused_field a → r ≡ walked_in mst i v
+module _ (mst : List ℕ) (i : ℕ) (v : Version) (o : Option Spot) (x : o ≡ walked_at (part mst v.at (v.end - v.at)) i) where
+  walked : (y : Option Spot) → o ≡ y → walked_in mst i v ≡ shown_walked v.at y
   unfolding walked_in
-  walk_refused a b r e u s = rw (s, u, e)
+  walked y e = rw (← x, e)
 
-  module _ (at end : ℕ) (e : v ≡ Begins at end) (w : Walked) (x : w ≡ walked_at (part mst at (end - at)) i) where
-    pub walk_ended : (r : ShownField) → w ≡ End → r ≡ refused_field (Err NoField) → r ≡ walked_in mst i v
-    unfolding walked_in
-    walk_ended r d s = rw (s, e, ← x, d)
+  pub walk_ended : (e : Refusal) → ok_or o NoField ≡ Err e → Err e ≡ walked_in mst i v
+  walk_ended e d = by o refl d
+    where
+      by : (y : Option Spot) → o ≡ y → ok_or y NoField ≡ Err e → Err e ≡ walked_in mst i v
+      by None q d = sym d ∙ sym (walked None q)
+      by (Some s) q d = let z : ◌≡◌ {A = ℕ} 0 1 = cc in absurd (omega arith)
 
-    module _ (tag : Tag) (start len : ℕ) (d : w ≡ FieldHere tag start len) where
-      pub walk_found : record { answer = Ok tt; tag = tag; start = at + start; len = len } ≡ walked_in mst i v
-      unfolding walked_in
-      walk_found = rw (e, ← x, d)
+  module _ (s : Spot) (d : ok_or o NoField ≡ Ok s) where
+    there : o ≡ Some s
+    there = by o d
+      where
+        by : (y : Option Spot) → ok_or y NoField ≡ Ok s → y ≡ Some s
+        by None d = let z : ◌≡◌ {A = ℕ} 0 1 = cc in absurd (omega arith)
+        by (Some t) d = let z : t ≡ s = cc in ap Some z
 
-      pub walk_within : Legible mst v → at + start + len ≤ length mst
-      walk_within h =
-          version_within mst v h at end e start len (walked_in_lem (part mst at (end - at)) i tag start len (version_readable mst v h at end e) (sym x ∙ d))
+    pub walk_found : Ok (record { tag = s.tag; start = v.at + s.start; len = s.len }) ≡ walked_in mst i v
+    walk_found = sym (walked (Some s) there)
 
-      pub walk_sum : Legible mst v → length mst < 2 ^ 64 → Fits w64 (at + start)
-      walk_sum h n = omega (arith, walk_within h)
+    pub walk_within : ReadableAt mst v.at v.end → v.at + s.start + s.len ≤ length mst
+    walk_within h = version_within mst v.at v.end h s.start s.len (walked_in_lem (part mst v.at (v.end - v.at)) i s h.readable (sym x ∙ there))
 
-module _ (mst xrf : List ℕ) (m i : ℕ) (v : Version) (r : ShownField) (s : r ≡ walked_in mst i v) where
-  version_handed : (a b : Answer) (at : ℕ) → v ≡ version_if a at (end_of mst) → b ≡ after a (lastly (Err NoField) (at_end (record_from mst at) i)) a
-      → r ≡ handed_out b at (record_from mst at) i
+    pub walk_sum : ReadableAt mst v.at v.end → length mst < 2 ^ 64 → Fits w64 (v.at + s.start)
+    walk_sum h n = omega (arith, walk_within h)
+
+-- ---- a call
+
+module _ (mst : List ℕ) (table : List Row → List Row) (at i : ℕ) where
+  abbrev asked : Answer
+  asked = lowest (table (past_the_end (record_from mst at) i))
+
+  unversioned : (e : Refusal) → NoVersion table e → shown_field (Err e) ≡ handed_out asked at (record_from mst at) i
+  unversioned e n = rw (n.answers (past_the_end (record_from mst at) i)) (handed_refused e at (record_from mst at) i)
+
+  versioned : (v : Version) (r : Result Spot Refusal) → FoundVersion mst table at v → r ≡ walked_in mst i v
+      → shown_field r ≡ handed_out asked at (record_from mst at) i
   unfolding walked_in
-  version_handed a b at e t =
-      let rec : List ℕ = record_from mst at in
-      rw (s, e, t) (version_shows (walked_in mst i) (λ c. handed_out c at rec i) a (lastly (Err NoField) (at_end rec i)) at (end_of mst) (handed_walked at rec i) (handed_refused a at rec i))
+  versioned v r n s =
+      rw (n.answers (past_the_end (record_from mst at) i), s, n.at_is, n.end_is) (handed_walked at (record_from mst at) i)
 
-  pub field_handed : v ≡ current_version (store mst xrf) m → r ≡ field_of (store mst xrf) m i
-  unfolding current_version field_of field_answer
-  field_handed e =
-      let p : Place = place_for (store mst xrf) m in
-      version_handed (lowest (on_current (store mst xrf) m [])) _ (place_address p) e (current_then mst xrf m (refuse NoField (at_end (record_at mst p) i) ∷ []))
+module _ (mst xrf : List ℕ) (m i : ℕ) (x : Result Version Refusal) (p : x ≡ current_version (store mst xrf) m) where
+  pub field_refused : (e : Refusal) → x ≡ Err e → shown_field (Err e) ≡ field_of (store mst xrf) m i
+  unfolding field_of field_answer
+  field_refused e q =
+      unversioned mst (on_current (store mst xrf) m) (place_address (place_for (store mst xrf) m)) i e (current_none mst xrf m x p e q)
 
-  pub settled_field_handed : v ≡ settled_version (store mst xrf) m → r ≡ settled_field_of (store mst xrf) m i
-  unfolding settled_version settled_field_of settled_field_answer
-  settled_field_handed e =
-      let at : ℕ = settled_address mst (place_for (store mst xrf) m) in
+  pub field_handed : (v : Version) (r : Result Spot Refusal) → x ≡ Ok v → r ≡ walked_in mst i v → shown_field r ≡ field_of (store mst xrf) m i
+  unfolding field_of field_answer
+  field_handed v r q s =
+      versioned mst (on_current (store mst xrf) m) (place_address (place_for (store mst xrf) m)) i v r (current_there mst xrf m x p v q) s
+
+module _ (mst xrf : List ℕ) (m i : ℕ) (x : Result Version Refusal) (p : x ≡ settled_version (store mst xrf) m) where
+  pub settled_field_refused : (e : Refusal) → x ≡ Err e → shown_field (Err e) ≡ settled_field_of (store mst xrf) m i
+  unfolding settled_field_of settled_field_answer
+  settled_field_refused e q =
       rw (← settled_from mst (place_for (store mst xrf) m))
-      (version_handed (lowest (on_settled (store mst xrf) m [])) _ at e (settled_then mst xrf m (refuse NoField (at_end (record_from mst at) i) ∷ [])))
+      (unversioned mst (on_settled (store mst xrf) m) (settled_address mst (place_for (store mst xrf) m)) i e (settled_none mst xrf m x p e q))
+
+  pub settled_field_handed : (v : Version) (r : Result Spot Refusal) → x ≡ Ok v → r ≡ walked_in mst i v → shown_field r ≡ settled_field_of (store mst xrf) m i
+  unfolding settled_field_of settled_field_answer
+  settled_field_handed v r q s =
+      rw (← settled_from mst (place_for (store mst xrf) m))
+      (versioned mst (on_settled (store mst xrf) m) (settled_address mst (place_for (store mst xrf) m)) i v r (settled_there mst xrf m x p v q) s)
 
 pub ruleset walk_answers =
-    (refused_within, walk_refused, walk_ended, walk_found, walk_within, walk_sum, version_end_in, version_before, version_readable, current_legible, settled_legible, field_handed, settled_field_handed, arith)
+    (walk_ended, walk_found, walk_within, walk_sum, current_legible, settled_legible, field_refused, field_handed, settled_field_refused, settled_field_handed, arith)
 
 -- ---- every field is handed out, and no more
 
@@ -134,7 +148,7 @@ module _ (mst : List ℕ) (at end i : ℕ) (h : ReadableAt mst at end) where
       (part_part mst at (end - at) ((leader_of rec).base + pos_at rec i) (len_at rec i)
       (omega (arith, field_in_lem rec i h.readable l, (readable_facts h.readable).record_in, part_short mst at (end - at))))
 
-  hands_out : (a : Answer) → a ≡ Ok tt → HandsOut mst (fields_of rec) i (handed_out (after a (lastly (Err NoField) (at_end rec i)) a) at rec i)
+  hands_out : (a : Answer) → a ≡ Ok tt → HandsOut mst (fields_of rec) i (handed_out (after a (lowest (past_the_end rec i)) a) at rec i)
   unfolding handed_out after number_of
   hands_out a e =
       record {
@@ -150,7 +164,7 @@ module _ (mst xrf : List ℕ) (m i : ℕ) where
   pub handed_out_lem : lowest (on_current (store mst xrf) m []) ≡ Ok tt → HandsOut mst (current_fields mst (place_for (store mst xrf) m)) i (field_of (store mst xrf) m i)
   unfolding field_of field_answer
   handed_out_lem e =
-      rw (current_then mst xrf m (refuse NoField (at_end (record_at mst (place_for (store mst xrf) m)) i) ∷ []))
+      rw (current_then mst xrf m (past_the_end (record_from mst (place_address (place_for (store mst xrf) m))) i))
       (hands_out mst (place_address (place_for (store mst xrf) m)) (end_of mst) i (current_readable mst xrf m e) (lowest (on_current (store mst xrf) m [])) e)
 
   -- and those of the settled version the fields of the record that the settled view reads
@@ -158,5 +172,5 @@ module _ (mst xrf : List ℕ) (m i : ℕ) where
       → HandsOut mst (fields_of (shown_settled mst (place_for (store mst xrf) m))) i (settled_field_of (store mst xrf) m i)
   unfolding settled_field_of settled_field_answer
   settled_handed_out e =
-      rw (settled_then mst xrf m (refuse NoField (at_end (shown_settled mst (place_for (store mst xrf) m)) i) ∷ []), ← settled_from mst (place_for (store mst xrf) m))
+      rw (settled_then mst xrf m (past_the_end (shown_settled mst (place_for (store mst xrf) m)) i), ← settled_from mst (place_for (store mst xrf) m))
       (hands_out mst (settled_address mst (place_for (store mst xrf) m)) (end_of mst) i (settled_readable mst xrf m e) (lowest (on_settled (store mst xrf) m [])) e)

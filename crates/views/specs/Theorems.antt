@@ -8,21 +8,20 @@ use Rattle.store.specs.Store.{Store}
 use Rattle.store.specs.Answer.{lowest, Answer}
 use Rattle.store.specs.Reading.{place_for, record_at, shown_settled}
 use Rattle.store.specs.declared.answer.Refusal.TheVariants.{NoField, FewerFields}
-use Rattle.views.specs.Views.{on_current, on_settled, view_of, settled_view_of, shown_bytes}
-use Rattle.views.specs.declared.views.Shown.{Shown}
+use Rattle.views.specs.Views.{on_current, on_settled, Shown, view_of, settled_view_of, shown_bytes}
 
 -- a view of a tag and an occurrence, among the fields of a version of which the refusals before these answer `before`
 pub record SaysWhich (before : Answer) (mst : List ℕ) (fs : List Field) (tag occ : ℕ) (r : Shown) : Type 0 where
   -- 12 exactly if the tag does not occur, or occurrence 0 is asked
   pub missing : (r.answer ≡ Err NoField) ↔ ((before ≡ Ok tt) × ((occurrences_of fs tag ≡ 0) ⊎ (occ ≡ 0)))
   -- 15 with n exactly if the tag occurs n times, 1 ≤ n < occurrence
-  pub fewer : (n : ℕ) → ((r.answer ≡ Err FewerFields) × (r.occurrences ≡ n)) ↔ ((before ≡ Ok tt) × ((occurrences_of fs tag ≡ n) × ((1 ≤ n) × (n < occ))))
+  pub fewer : (n : ℕ) → ((r.answer ≡ Err (FewerFields n)) × (r.occurrences ≡ n)) ↔ ((before ≡ Ok tt) × ((occurrences_of fs tag ≡ n) × ((1 ≤ n) × (n < occ))))
   -- 0 exactly if the occurrence is at least 1, and at most the number of occurrences
   pub done : (r.answer ≡ Ok tt) ↔ ((before ≡ Ok tt) × ((1 ≤ occ) × (occ ≤ occurrences_of fs tag)))
   -- and the bytes shown are those of the field that is asked for
   pub shows : r.answer ≡ Ok tt → field_named fs tag occ ≡ some (shown_bytes mst r)
   -- the number is 0 with every other answer
-  pub other : (r.answer ≡ Err FewerFields → ⊥) → r.occurrences ≡ 0
+  pub other : ((n : ℕ) → r.answer ≡ Err (FewerFields n) → ⊥) → r.occurrences ≡ 0
 
 -- THE CLAIM, of both views
 pub record WhichMissing (s : Store) (m tag occ : ℕ) : Type 0 where

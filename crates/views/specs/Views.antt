@@ -1,18 +1,18 @@
 -- The two views: the refusals of each in the order of their numbers, and where in the MST the field lies; nowhere, and empty, where the view is
 -- refused. Document 01, "What is built", "Records" and "Answer numbers"; request C-15.
-use Rattle.std.specs.Prelude.{ℕ, ◌+◌, ◌&&◌, cond, List, [], ◌∷◌, eqb}
+use Rattle.std.specs.Prelude.{ℕ, ◌+◌, ◌&&◌, cond, List, [], ◌∷◌, eqb, Result, Ok, Err}
 use Rattle.word.specs.Overwrite.{part}
 use Rattle.layout.specs.Entry.{place_address}
 use Rattle.layout.specs.declared.entry.Place.{Place}
 use Rattle.record.specs.Fields.{Field, fields_of, occurrences_of, is_missing, is_fewer, find_of}
-use Rattle.record.specs.declared.fields.Found.{Found}
-use Rattle.record.specs.declared.fields.Found.TheVariants.{Span, Fewer, Missing}
+use Rattle.record.specs.declared.fields.Span.{Span}
+use Rattle.record.specs.declared.fields.NotFound.{NotFound}
 use Rattle.store.specs.Store.{Store}
 use Rattle.store.specs.Answer.{number_of, Row, refuse, lowest, after, Answer}
 use Rattle.store.specs.Reading.{place_for, is_settled, is_changed, is_new, record_at, leader_at, back_address, shown_settled}
 use Rattle.store.specs.Refusals.{gated, named, fine, both_fine}
-use Rattle.store.specs.declared.answer.Refusal.TheVariants.{Deleted, NeverSettled, NoField, FewerFields}
-use Rattle.views.specs.declared.views.Shown.{Shown}
+use Rattle.store.specs.declared.answer.Refusal.{Refusal}
+use Rattle.store.specs.declared.answer.Refusal.TheVariants.{BadLength, BadControl, BadDraft, NoMfn, NoSlot, BadEntry, Gone, BadRecord, Deleted, NotPending, NeverSettled, NoField, NoRoom, NotSound, FewerFields, NoRoomInList}
 
 -- ---- refusals
 
@@ -31,7 +31,7 @@ on_settled s m rest =
 
 -- 12 if occurrence 0 is asked or the tag does not occur, and 15 if it occurs fewer times than asked, among the fields of the version
 abbrev pub among_fields : List Field → ℕ → ℕ → List Row
-among_fields fs tag occ = refuse NoField (is_missing fs tag occ) ∷ refuse FewerFields (is_fewer fs tag occ) ∷ []
+among_fields fs tag occ = refuse NoField (is_missing fs tag occ) ∷ refuse (FewerFields (occurrences_of fs tag)) (is_fewer fs tag occ) ∷ []
 
 -- the current view
 abbrev pub view_refusals : Store → ℕ → ℕ → ℕ → List Row
@@ -49,15 +49,44 @@ settled_view_answer s m tag occ = lowest (settled_view_refusals s m tag occ)
 
 -- ---- what is shown
 
-abbrev pub found_start : Found → ℕ
-found_start (Span start len) = start
-found_start (Fewer n) = 0
-found_start Missing = 0
+-- the answer of a view, where in the MST the field lies, and with answer 15 how often the tag occurs
+pub record Shown : Type 0 where
+  pub answer : Answer
+  pub start : ℕ
+  pub len : ℕ
+  pub occurrences : ℕ
 
-abbrev pub found_length : Found → ℕ
-found_length (Span start len) = len
-found_length (Fewer n) = 0
-found_length Missing = 0
+-- the number that a refusal tells: how often the tag occurs, where that is fewer times than asked
+abbrev pub occurrences_told : Refusal → ℕ
+occurrences_told BadLength = 0
+occurrences_told BadControl = 0
+occurrences_told BadDraft = 0
+occurrences_told NoMfn = 0
+occurrences_told NoSlot = 0
+occurrences_told BadEntry = 0
+occurrences_told Gone = 0
+occurrences_told BadRecord = 0
+occurrences_told Deleted = 0
+occurrences_told NotPending = 0
+occurrences_told NeverSettled = 0
+occurrences_told NoField = 0
+occurrences_told NoRoom = 0
+occurrences_told NotSound = 0
+occurrences_told (FewerFields occurrences) = occurrences
+occurrences_told NoRoomInList = 0
+
+-- what a view that came out so shows: nowhere and empty, where it is refused
+abbrev pub shown : Result Span Refusal → Shown
+shown (Ok s) = record { answer = Ok tt; start = s.start; len = s.len; occurrences = 0 }
+shown (Err r) = record { answer = Err r; start = 0; len = 0; occurrences = occurrences_told r }
+
+abbrev pub found_start : Result Span NotFound → ℕ
+found_start (Ok s) = s.start
+found_start (Err n) = 0
+
+abbrev pub found_length : Result Span NotFound → ℕ
+found_length (Ok s) = s.len
+found_length (Err n) = 0
 
 -- the number of occurrences comes with 15, and 0 with every other answer
 unfoldable pub occurrences_with : Answer → ℕ → ℕ

@@ -1,173 +1,142 @@
 // The two views: where in the MST a field lies, and the field itself as a part of the lent MST. A view first finds the version
 // that it reads, current or settled, and then shows a field of it.
-ghost use Rattle.std.specs.Prelude.{◌≡◌, ◌+◌, ◌≤◌, length};
+ghost use Rattle.std.specs.Prelude.{◌≡◌, ◌+◌, ◌≤◌, length, IfOk};
 ghost use Rattle.store.specs.Answer.{number_of};
-ghost use Rattle.views.specs.Views.{view_answer, settled_view_answer, view_of, settled_view_of, shown_bytes};
-ghost use Rattle.views.specs.Versions.{current_version, settled_version, version_answer, refused_view, Located, settled_of, Legible, shown_in};
+ghost use Rattle.views.specs.Views.{occurrences_told, shown, view_answer, settled_view_answer, view_of, settled_view_of, shown_bytes};
+ghost use Rattle.views.specs.Versions.{current_version, settled_version, Located, settled_of, ReadableAt, shown_in};
 ghost use Rattle.store.specs.Store.{store};
 
 use layout::entry::{Mark, Place};
 use layout::leader::Leader;
 use layout::sizes::{Mfn, Tag};
-use record::fields::Found;
-use store::answer::Answer;
+use record::fields::{NotFound, Span};
+use store::answer::Refusal;
 use store::gate::Reached;
 
-// The answer of a view, where in the MST the field lies, and with answer 15 how often the tag occurs.
-#[derive(Clone, Copy)]
-pub struct Shown {
-    pub answer: Answer,
-    pub start: usize,
-    pub len: usize,
-    pub occurrences: u32,
-}
-
-// The address of a version that is right, and the store's end, or the refusal.
-#[derive(Clone, Copy)]
-pub enum Version {
-    Begins { at: usize, end: usize },
-    Refused(Answer),
-}
-
-// The refusal of a version that is not there.
-pub fn version_answer(v: Version) -> Answer
-    ensures { result ≡ version_answer v }
-{
-    match v {
-        Version::Begins { at: _, end: _ } => Answer::Done,
-        Version::Refused(a) => a,
-    }
+// The address of a version that is right, and the store's end.
+#[derive(Clone, Copy, Debug, PartialEq, Eq)]
+pub struct Version {
+    pub at: usize,
+    pub end: usize,
 }
 
 // Where the current version of MFN `m` begins.
-pub fn current_version(mst: &[u8], xrf: &[u8], m: Mfn) -> Version
+pub fn current_version(mst: &[u8], xrf: &[u8], m: Mfn) -> Result<Version, Refusal>
     ensures { result ≡ current_version (store mst.now xrf.now) m.0 }
 {
-    let r = store::gate::reach(mst, xrf, m);
-    let Reached::There {
-        end,
-        place,
-        leader: _,
-    } = r
-    else {
-        return Version::Refused(store::gate::reached_answer(r));
-    };
+    let Reached { end, place, .. } = store::gate::reach(mst, xrf, m)?;
     if place.deleted {
-        return Version::Refused(Answer::Deleted);
+        return Err(Refusal::Deleted);
     }
-    Version::Begins {
+    Ok(Version {
         at: layout::entry::place_address(place),
         end,
-    }
+    })
 }
 
 // Where the settled version of a record begins, by its mark.
-fn settled_of(end: usize, place: Place, leader: Leader) -> Version
+fn settled_of(end: usize, place: Place, leader: Leader) -> Result<Version, Refusal>
     requires { Located place leader }
     ensures { result ≡ settled_of end place leader }
 {
-    let mark = place.mark;
-    match mark {
-        Mark::Settled => {
-            if place.deleted {
-                return Version::Refused(Answer::Deleted);
-            }
-            Version::Begins {
-                at: layout::entry::place_address(place),
-                end,
-            }
-        }
-        Mark::Changed => {
-            let b = leader.mfbwb;
-            Version::Begins {
-                at: layout::sizes::address(b, leader.mfbwp),
-                end,
-            }
-        }
-        Mark::New => Version::Refused(Answer::NeverSettled),
+    match place.mark {
+        Mark::Settled if place.deleted => Err(Refusal::Deleted),
+        Mark::Settled => Ok(Version {
+            at: layout::entry::place_address(place),
+            end,
+        }),
+        Mark::Changed => Ok(Version {
+            at: layout::sizes::address(leader.mfbwb, leader.mfbwp),
+            end,
+        }),
+        Mark::New => Err(Refusal::NeverSettled),
     }
 }
 
 // Where the settled version of MFN `m` begins.
-pub fn settled_version(mst: &[u8], xrf: &[u8], m: Mfn) -> Version
+pub fn settled_version(mst: &[u8], xrf: &[u8], m: Mfn) -> Result<Version, Refusal>
     ensures { result ≡ settled_version (store mst.now xrf.now) m.0 }
 {
-    let r = store::gate::reach_both(mst, xrf, m);
-    let Reached::There { end, place, leader } = r else {
-        return Version::Refused(store::gate::reached_answer(r));
-    };
+    let Reached { end, place, leader } = store::gate::reach_both(mst, xrf, m)?;
     settled_of(end, place, leader)
 }
 
-fn refused_view(answer: Answer, occurrences: u32) -> Shown
-    ensures { result ≡ refused_view answer occurrences }
-{
-    Shown {
-        answer,
-        start: 0,
-        len: 0,
-        occurrences,
-    }
-}
-
 // Where the field of a tag and occurrence lies in a version.
-fn show_field(mst: &[u8], v: Version, tag: Tag, occurrence: u32) -> Shown
-    requires { Legible mst.now v }
-    ensures is { result ≡ shown_in mst.now tag.0 occurrence v }
-    ensures within { result.start + result.len ≤ length mst.now }
+fn show_field(mst: &[u8], version: Version, tag: Tag, occurrence: u32) -> Result<Span, Refusal>
+    requires { ReadableAt mst.now version.at version.end }
+    ensures is { result ≡ shown_in mst.now tag.0 occurrence version }
+    ensures within { IfOk result (λ s. s.start + s.len ≤ length mst.now) }
 {
-    let Version::Begins { at, end } = v else {
-        return refused_view(version_answer(v), 0);
-    };
-    let f = record::fields::find_field(&mst[at..end], tag, occurrence);
-    match f {
-        Found::Span { start, len } => Shown {
-            answer: Answer::Done,
+    let Version { at, end } = version;
+    match record::fields::find_field(&mst[at..end], tag, occurrence) {
+        Ok(Span { start, len }) => Ok(Span {
             start: at + start,
             len,
-            occurrences: 0,
-        },
-        Found::Fewer { occurrences } => refused_view(Answer::FewerFields, occurrences),
-        Found::Missing => refused_view(Answer::NoField, 0),
+        }),
+        Err(NotFound::Fewer { occurrences }) => Err(Refusal::FewerFields { occurrences }),
+        Err(NotFound::Missing) => Err(Refusal::NoField),
     }
 }
 
 // Where the field of a tag and occurrence lies in the current version of MFN `m`.
-pub fn view(mst: &[u8], xrf: &[u8], m: Mfn, tag: Tag, occurrence: u32) -> Shown
-    ensures is { result ≡ view_of (store mst.now xrf.now) m.0 tag.0 occurrence }
-    ensures within { result.start + result.len ≤ length mst.now }
+pub fn view(mst: &[u8], xrf: &[u8], m: Mfn, tag: Tag, occurrence: u32) -> Result<Span, Refusal>
+    ensures is { shown result ≡ view_of (store mst.now xrf.now) m.0 tag.0 occurrence }
+    ensures within { IfOk result (λ s. s.start + s.len ≤ length mst.now) }
 {
-    let v = current_version(mst, xrf, m);
-    show_field(mst, v, tag, occurrence)
+    let version = current_version(mst, xrf, m)?;
+    show_field(mst, version, tag, occurrence)
 }
 
 // Where the field of a tag and occurrence lies in the settled version of MFN `m`.
-pub fn view_settled(mst: &[u8], xrf: &[u8], m: Mfn, tag: Tag, occurrence: u32) -> Shown
-    ensures is { result ≡ settled_view_of (store mst.now xrf.now) m.0 tag.0 occurrence }
-    ensures within { result.start + result.len ≤ length mst.now }
+pub fn view_settled(
+    mst: &[u8],
+    xrf: &[u8],
+    m: Mfn,
+    tag: Tag,
+    occurrence: u32,
+) -> Result<Span, Refusal>
+    ensures is { shown result ≡ settled_view_of (store mst.now xrf.now) m.0 tag.0 occurrence }
+    ensures within { IfOk result (λ s. s.start + s.len ≤ length mst.now) }
 {
-    let v = settled_version(mst, xrf, m);
-    show_field(mst, v, tag, occurrence)
+    let version = settled_version(mst, xrf, m)?;
+    show_field(mst, version, tag, occurrence)
+}
+
+// How often the tag occurs, where a view is refused since it occurs fewer times than asked; else 0.
+pub fn occurrences_told(refusal: Refusal) -> u32
+    ensures { result ≡ occurrences_told refusal }
+{
+    match refusal {
+        Refusal::FewerFields { occurrences } => occurrences,
+        _ => 0,
+    }
 }
 
 // What a view found, handed out: its field as a part of the MST, the answer's number and the number of occurrences.
-fn hand_out_shown<'a>(
+#[tactic(auto, unfolding(store::specs::Answer::number_of))]
+fn hand_out_found<'a>(
     mst: &'a [u8],
-    shown: Shown,
+    found: Result<Span, Refusal>,
     answer: &mut u32,
     occurrences: &mut u32,
 ) -> &'a [u8]
-    requires { shown.start + shown.len ≤ length mst.now }
-    ensures number { answer.new ≡ number_of shown.answer }
-    ensures counted { occurrences.new ≡ shown.occurrences }
-    ensures part { result.now ≡ shown_bytes mst.now shown }
+    requires { IfOk found (λ s. s.start + s.len ≤ length mst.now) }
+    ensures number { answer.new ≡ number_of (shown found).answer }
+    ensures counted { occurrences.new ≡ (shown found).occurrences }
+    ensures part { result.now ≡ shown_bytes mst.now (shown found) }
 {
-    let a = shown.answer;
-    *answer = store::answer::number(a);
-    *occurrences = shown.occurrences;
-    let start = shown.start;
-    let end = start + shown.len;
-    &mst[start..end]
+    match found {
+        Ok(Span { start, len }) => {
+            *answer = 0;
+            *occurrences = 0;
+            &mst[start..start + len]
+        }
+        Err(refusal) => {
+            *answer = u32::from(refusal);
+            *occurrences = occurrences_told(refusal);
+            &mst[..0]
+        }
+    }
 }
 
 // The field that a view shows, as a part of the MST, empty where it is refused; the answer's number goes to `answer`, and the number of occurrences
@@ -185,8 +154,8 @@ pub fn view_field<'a>(
     ensures counted { occurrences.new ≡ (view_of (store mst.now xrf.now) m.0 tag.0 occurrence).occurrences }
     ensures shown { result.now ≡ shown_bytes mst.now (view_of (store mst.now xrf.now) m.0 tag.0 occurrence) }
 {
-    let shown = view(mst, xrf, m, tag, occurrence);
-    hand_out_shown(mst, shown, answer, occurrences)
+    let found = view(mst, xrf, m, tag, occurrence);
+    hand_out_found(mst, found, answer, occurrences)
 }
 
 // The same for the settled version.
@@ -203,6 +172,6 @@ pub fn view_settled_field<'a>(
     ensures counted { occurrences.new ≡ (settled_view_of (store mst.now xrf.now) m.0 tag.0 occurrence).occurrences }
     ensures shown { result.now ≡ shown_bytes mst.now (settled_view_of (store mst.now xrf.now) m.0 tag.0 occurrence) }
 {
-    let shown = view_settled(mst, xrf, m, tag, occurrence);
-    hand_out_shown(mst, shown, answer, occurrences)
+    let found = view_settled(mst, xrf, m, tag, occurrence);
+    hand_out_found(mst, found, answer, occurrences)
 }

@@ -3,10 +3,10 @@
 use Rattle.std.specs.Prelude.{Result, Ok, Err}
 use Prim.Native.Nat.{ℕ, ◌+◌, ◌≤◌, ◌<◌}
 use native.Mathlib.Omega.{arith}
-use mathlib.Core.Path.{◌≡◌, sym, ◌∙◌}
+use mathlib.Core.Path.{ap, ◌≡◌, sym, ◌∙◌}
 use mathlib.Core.Bool.{Bool, true, false, not, cond}
 use mathlib.Core.List.{List, [], ◌∷◌}
-use lib.ListN.{length, take}
+use lib.ListN.{length}
 use borrow.Author.Tests.{lt-ltb, le-ltb, eq-eqb, ne_eqb, not-true, not-false}
 use Rattle.layout.specs.Sizes.{capacity_of}
 use Rattle.files.specs.Control.{end_of, count_full}
@@ -29,8 +29,8 @@ use Rattle.store.specs.declared.gate.Record.{Record}
 use Rattle.store.specs.declared.gate.Reached.{Reached}
 use Rattle.store.proofs.Marks.{mark_settled, mark_pending}
 use Rattle.versions.proofs.Told.{draft_fits}
-use Rattle.store.proofs.Gates.{refused_is, done_is, gate_shut, opened, Planned, both_refused, BothFacts, both_facts}
-use Rattle.store.proofs.Reaching.{reach_refused, reached_facts, whole_length, lent_open, lent_as}
+use Rattle.store.proofs.Gates.{refused_is, done_is, gate_shut, gate_open, opened, OpenFacts, Planned, both_refused, BothFacts, both_facts}
+use Rattle.store.proofs.Reaching.{reach_refused, reached_facts}
 use Rattle.store.specs.Store.{Store, store}
 
 -- the gate's refusal is the answer of a call, whatever follows
@@ -160,58 +160,66 @@ module _ (mst xrf : List ℕ) (m : ℕ) (y : Result Reached Refusal) (p : y ≡ 
         let f = settling.1.found in
         done_is _ _ t (settle_answer_lem ∙ rw x) (rw (f.place_is, ← f.leader_is, ← settling.0))
 
-module _ (mst xrf : List ℕ) (m : ℕ) (g : Result Control Refusal) (p : g ≡ gate_of (store mst xrf)) where
+module _ (mst xrf : List ℕ) (m : ℕ) where
   counted : revert_answer (store mst xrf) m ≡ lowest (gated (store mst xrf) (refuse BadControl (count_full mst) ∷ revert_rows (store mst xrf) m))
   counted = revert_asks_count (store mst xrf) m
 
-  pub revert_shut : (r : Refusal) → g ≡ Err r → Err r ≡ revert_plan (store mst xrf) m
+  pub revert_shut : (r : Refusal) → gate_of (store mst xrf) ≡ Err r → Err r ≡ revert_plan (store mst xrf) m
   unfolding revert_plan reached_if
-  revert_shut r q = refused_is _ _ r (counted ∙ shut_answer mst xrf r _ (sym p ∙ q))
+  revert_shut r q = refused_is _ _ r (counted ∙ shut_answer mst xrf r _ q)
 
-  module _ (k : Control) (q : g ≡ Ok k) (full : Bool) (w : full ≡ count_full mst) where
-    pub revert_full : full ≡ true → Err BadControl ≡ revert_plan (store mst xrf) m
-    unfolding revert_plan reached_if
-    revert_full h =
-        let o = opened mst xrf g p k q in
-        refused_is _ _ BadControl (counted ∙ rw (o.lengths, o.control, ← w, h))
+  module _ (s : Store) (same : (s.mst ≡ mst) × (s.xrf ≡ xrf)) (k : Control) (g : gate_of s ≡ Ok k) where
+    is : s ≡ store mst xrf
+    is = rw (same.0, same.1)
 
-    module _ (clear : full ≡ false) (y : Result Record Refusal) (u : y ≡ known_both (store (take (length mst) mst) (take (length xrf) xrf)) m) where
-      known : y ≡ known_both (store mst xrf) m
-      known = lent_as (λ (s : Store). known_both s m) mst xrf y u
+    opened_is : OpenFacts mst xrf k.next k.end
+    opened_is = gate_open mst xrf k (ap gate_of (sym is) ∙ g)
 
-      -- where 1 and 2 do not apply
-      behind : (x : Answer) → lowest (revert_rows (store mst xrf) m) ≡ x → revert_answer (store mst xrf) m ≡ x
-      behind x h = let o = opened mst xrf g p k q in counted ∙ rw (o.lengths, o.control, ← w, clear) h
+    pub revert_counts : 64 ≤ length mst
+    revert_counts = let o = opened_is in omega arith
 
-      pub revert_unknown : (r : Refusal) → y ≡ Err r → Err r ≡ revert_plan (store mst xrf) m
+    module _ (full : Bool) (w : full ≡ count_full mst) where
+      pub revert_full : full ≡ true → Err BadControl ≡ revert_plan (store mst xrf) m
       unfolding revert_plan reached_if
-      revert_unknown r v =
-          let f = both_refused mst xrf m r (sym known ∙ v) in
-          let rest : List Row = refuse NotPending (is_settled (place_for (store mst xrf) m).mark) ∷ refuse NeverSettled (is_new (place_for (store mst xrf) m).mark) ∷ [] in
-          refused_is _ _ r (behind (Err r) (f.answers rest))
+      revert_full h = let o = opened_is in refused_is _ _ BadControl (counted ∙ rw (o.lengths, o.control, ← w, h))
 
-      module _ (x : Record) (v : y ≡ Ok x) where
-        found : BothFacts mst xrf m x.place x.leader
-        found = both_facts mst xrf m x.place x.leader (sym known ∙ v)
+      module _ (clear : full ≡ false) (y : Result Record Refusal) (u : y ≡ known_both s m) where
+        known : y ≡ known_both (store mst xrf) m
+        known = u ∙ ap (λ (t : Store). known_both t m) is
 
-        revert_answer_lem : revert_answer (store mst xrf) m ≡ cond (is_settled x.place.mark) (Err NotPending) (cond (is_new x.place.mark) (Err NeverSettled) (Ok tt))
-        revert_answer_lem = let f = found.current in behind _ (rw (f.known, f.entry, f.record_fine_lem, found.version_fine_lem))
+        -- where 1 and 2 do not apply
+        behind : (x : Answer) → lowest (revert_rows (store mst xrf) m) ≡ x → revert_answer (store mst xrf) m ≡ x
+        behind x h = let o = opened_is in counted ∙ rw (o.lengths, o.control, ← w, clear) h
 
-        pub revert_settled : x.place.mark ≡ Settled → Err NotPending ≡ revert_plan (store mst xrf) m
+        pub revert_unknown : (r : Refusal) → y ≡ Err r → Err r ≡ revert_plan (store mst xrf) m
         unfolding revert_plan reached_if
-        revert_settled h = refused_is _ _ NotPending (revert_answer_lem ∙ rw h)
+        revert_unknown r v =
+            let f = both_refused mst xrf m r (sym known ∙ v) in
+            let rest : List Row = refuse NotPending (is_settled (place_for (store mst xrf) m).mark) ∷ refuse NeverSettled (is_new (place_for (store mst xrf) m).mark) ∷ [] in
+            refused_is _ _ r (behind (Err r) (f.answers rest))
 
-        pub revert_new : x.place.mark ≡ New → Err NeverSettled ≡ revert_plan (store mst xrf) m
-        unfolding revert_plan reached_if
-        revert_new h = refused_is _ _ NeverSettled (revert_answer_lem ∙ rw h)
+        module _ (x : Record) (v : y ≡ Ok x) where
+          found : BothFacts mst xrf m x.place x.leader
+          found = both_facts mst xrf m x.place x.leader (sym known ∙ v)
 
-        pub revert_planned : x.place.mark ≡ Changed → Ok (reached_at k.end x.place x.leader) ≡ revert_plan (store mst xrf) m
-        unfolding revert_plan reached_if
-        revert_planned h =
-            let o = opened mst xrf g p k q in
-            let f = found.current in
-            done_is _ _ _ (revert_answer_lem ∙ rw h) (rw (o.end_is, f.place_is, ← f.leader_is))
+          revert_answer_lem : revert_answer (store mst xrf) m ≡ cond (is_settled x.place.mark) (Err NotPending) (cond (is_new x.place.mark) (Err NeverSettled) (Ok tt))
+          revert_answer_lem = let f = found.current in behind _ (rw (f.known, f.entry, f.record_fine_lem, found.version_fine_lem))
+
+          pub revert_settled : x.place.mark ≡ Settled → Err NotPending ≡ revert_plan (store mst xrf) m
+          unfolding revert_plan reached_if
+          revert_settled h = refused_is _ _ NotPending (revert_answer_lem ∙ rw h)
+
+          pub revert_new : x.place.mark ≡ New → Err NeverSettled ≡ revert_plan (store mst xrf) m
+          unfolding revert_plan reached_if
+          revert_new h = refused_is _ _ NeverSettled (revert_answer_lem ∙ rw h)
+
+          pub revert_planned : x.place.mark ≡ Changed → Ok (reached_at k.end x.place x.leader) ≡ revert_plan (store mst xrf) m
+          unfolding revert_plan reached_if
+          revert_planned h =
+              let o = opened_is in
+              let f = found.current in
+              done_is _ _ _ (revert_answer_lem ∙ rw h) (rw (o.end_is, f.place_is, ← f.leader_is))
 
 pub ruleset settle_plans = (settle_unreached, settle_settled, settle_planned, mark_settled, mark_pending)
 
-pub ruleset revert_plans = (count_in, whole_length, lent_open, revert_shut, revert_full, revert_unknown, revert_settled, revert_new, revert_planned)
+pub ruleset revert_plans = (revert_counts, revert_shut, revert_full, revert_unknown, revert_settled, revert_new, revert_planned)

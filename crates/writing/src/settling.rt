@@ -8,7 +8,7 @@ ghost use Rattle.store.specs.Store.{store};
 use layout::entry::{Mark, Place};
 use layout::sizes::Mfn;
 use store::answer::Refusal;
-use store::gate::{Reached, Record};
+use store::gate::{OpenStore, Reached, Record};
 
 fn plan_settle(mst: &[u8], xrf: &[u8], m: Mfn) -> Result<Reached, Refusal>
     ensures { result ≡ settle_plan (store mst.now xrf.now) m.0 }
@@ -32,23 +32,15 @@ pub fn settle(mst: &mut [u8], xrf: &mut [u8], m: Mfn) -> Result<(), Refusal>
 fn plan_revert(mst: &[u8], xrf: &[u8], m: Mfn) -> Result<Reached, Refusal>
     ensures { result ≡ revert_plan (store mst.now xrf.now) m.0 }
 {
-    let control = store::gate::open_gate(mst, xrf)?;
+    let store = OpenStore::open(mst, xrf)?;
     if files::control::count_full(mst) {
         return Err(Refusal::BadControl);
     }
-    // lent as parts that are made here, as `store::gate::reach_both` does
-    let mst_len = mst.len();
-    let xrf_len = xrf.len();
-    let Record { place, leader } = store::gate::find_both(
-        &mst[..mst_len],
-        &xrf[..xrf_len],
-        control,
-        m,
-    )?;
+    let Record { place, leader } = store.find_both(m)?;
     match place.mark {
         Mark::Settled => Err(Refusal::NotPending),
         Mark::Changed => Ok(Reached {
-            end: control.end,
+            end: store.control.end,
             place,
             leader,
         }),

@@ -1,9 +1,6 @@
--- `replay_lists`: the next list starts within the text.
-use Rattle.std.proofs.Common.{length, ◌-◌, ◌≤◌}
+-- `replay_lists`: each turn reads a number or more.
+use Rattle.std.proofs.Common.{length}
 use Rattle.replay_run.proofs.replay_lists.Given as goal
 
-abbrev pub invariant-loop-at : goal.invariant-loop-at
-invariant-loop-at g l = l.at ≤ length l.text
-
-abbrev pub decreases-loop-at : goal.decreases-loop-at
-decreases-loop-at g l = length l.text - l.at
+abbrev pub decreases-loop-first : goal.decreases-loop-first
+decreases-loop-first g l = length l.numbers.text.now

@@ -1,13 +1,8 @@
-use Prim.Native.Nat.{◌≤◌}
+-- What all entries give is what those below i do.
 use mathlib.Core.Path.{◌≡◌}
-use Rattle.word.specs.Overwrite.{part}
-use Rattle.index.specs.Layout.{ock_at}
-use Rattle.index.specs.Lookup.{last_punt}
+use Rattle.index.specs.Lookup.{punt_for, last_punt}
 use Rattle.index.proofs.lookup.last_punt.Given as goal
 
 abbrev pub invariant-loop-i : goal.invariant-loop-i
 invariant-loop-i l =
-    (l.i ≤ ock_at l.file l.s l.n) × (last_punt l.file l.s (part l.key 0 l.s.width) l.n (ock_at l.file l.s l.n) ≡ last_punt l.file l.s (part l.key 0 l.s.width) l.n l.i)
-
-abbrev pub decreases-loop-i : goal.decreases-loop-i
-decreases-loop-i l = l.i
+    punt_for l.nodes.file.now l.nodes.shape l.key l.n ≡ last_punt l.nodes.file.now l.nodes.shape l.key l.n l.i

@@ -1,20 +1,13 @@
-use Rattle.posting.proofs.Writing.{write_wide, write_full, write_asked, write_done}
+use mathlib.Core.Path.{sym, ap, ◌∙◌}
+use Rattle.std.specs.Int.{w64, to_be_bytes}
+use Rattle.posting.proofs.Writing.{narrow_facts, written}
 use Rattle.posting.proofs.codec.write.Goals as goal
 
-pub returns-then-not-fits : goal.returns-then-not-fits
-returns-then-not-fits c =
-    let p = write_wide _ _ _ _ c.args.out.now _ c.fits.ensures c.if-not-fits.true in
-    record { answers = p.0; writes = p.1 }
+pub bits-requires : goal.bits-requires
+bits-requires c = narrow_facts _ _ _ _ (sym c.fits.ensures ∙ c.if-not-fits.false)
 
-pub returns-then-out-lt8 : goal.returns-then-out-lt8
-returns-then-out-lt8 c =
-    let p = write_full _ _ _ _ _ _ c.fits.ensures c.if-not-fits.false c.if-out-lt8.true in
-    record { answers = p.0; writes = p.1 }
-
-pub joined_posting-requires : goal.joined_posting-requires
-joined_posting-requires c = write_asked _ _ _ _ c.args.out.now _ c.fits.ensures c.if-not-fits.false
-
-pub returns : goal.returns
-returns c =
-    let p = write_done _ _ _ _ _ _ c.fits.ensures c.if-not-fits.false _ _ c.if-out-lt8.false c.joined_posting.ensures c.put_posting.ensures in
-    record { answers = p.0; writes = p.1 }
+pub returns-clause-writes : goal.returns-clause-writes
+returns-clause-writes c =
+    let p = c.args.p in
+    written p.mfn p.tag p.occurrence p.sequence c.args.out.now _ (sym c.fits.ensures ∙ c.if-not-fits.false) c.if-out-lt8.false
+    (c.copy_from_slice.ensures.after ∙ c.to_be_bytes.ensures ∙ ap (to_be_bytes w64) c.bits.ensures)

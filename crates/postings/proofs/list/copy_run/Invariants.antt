@@ -1,13 +1,8 @@
 -- After k turns the first k postings are written.
 use mathlib.Core.Path.{◌≡◌}
-use Prim.Native.Nat.{◌≤◌, ◌-◌}
-use lib.ListN.{length}
 use Rattle.word.specs.Overwrite.{overwrite}
 use Rattle.postings.specs.Cursor.{row}
 use Rattle.postings.proofs.list.copy_run.Given as goal
 
 abbrev pub invariant-loop-k : goal.invariant-loop-k
-invariant-loop-k l = (l.k ≤ l.n) × (length l.out ≡ length l.initial.out) × (l.out ≡ overwrite l.initial.out l.i (row l.ifp l.k l.at))
-
-abbrev pub decreases-loop-k : goal.decreases-loop-k
-decreases-loop-k l = l.n - l.k
+invariant-loop-k l = l.out ≡ overwrite l.initial.out l.i (row l.ifp l.k l.at)

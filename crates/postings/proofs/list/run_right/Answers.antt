@@ -1,19 +1,14 @@
 use Rattle.postings.specs.Cursor.{floor_of}
-use Rattle.postings.proofs.Ascent.{ask_outside, ask_falls, ask_climbs}
+use Rattle.postings.proofs.Ascent.{ask_falls, ask_climbs}
 use Rattle.postings.proofs.list.run_right.Goals as goal
-
-pub returns-then-ifp-at : goal.returns-then-ifp-at
-returns-then-ifp-at c =
-    let a = c.args in
-    ask_outside a.ifp.now a.at a.n (floor_of a.any a.last) c.requires.0 c.if-ifp-at.true
 
 pub returns-then-not-rises : goal.returns-then-not-rises
 returns-then-not-rises c =
     let a = c.args in
-    ask_falls a.ifp.now a.at a.n (floor_of a.any a.last) c.requires.0 _ c.posting_at-p.ensures _ c.rises.ensures c.if-not-rises.true
+    ask_falls a.ifp.now a.at a.n (floor_of a.last) c.requires.0 _ c.posting_at-p.ensures _ c.rises.ensures c.if-not-rises.true
 
 pub returns : goal.returns
 returns c =
     let a = c.args in
-    ask_climbs a.ifp.now a.at a.n (floor_of a.any a.last) c.requires.0 _ c.posting_at-p.ensures _ c.rises.ensures c.if-not-rises.false c.if-ifp-at.false _
+    ask_climbs a.ifp.now a.at a.n (floor_of a.last) c.requires.0 _ c.posting_at-p.ensures _ c.rises.ensures c.if-not-rises.false c.if-ifp-at.false _
     c.climbs.ensures

@@ -1,5 +1,4 @@
 use Rattle.replay.proofs.Telling.{replays}
-use borrow.Author.Rules.{rules}
 use Rattle.replay.proofs.run.replay.Goals as goal
 
 pub returns-in_default : goal.returns-in_default

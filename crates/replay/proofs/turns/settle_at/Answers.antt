@@ -1,10 +1,8 @@
 use Rattle.replay.proofs.Turning.{list_reported}
-use native.Mathlib.Omega.{arith}
-use borrow.Author.Rules.{rules}
 use Rattle.replay.proofs.turns.settle_at.Goals as goal
 
 pub returns : goal.returns
 returns c =
-    let numbered = c in
-    let settled = numbered.settle_list-a.ensures in
-    list_reported _ _ _ _ _ _ _ _ _ _ numbered.requires settled.answers settled.left settled.told numbered.number.ensures numbered.put_numbers.ensures
+    let settled = c.settle_list-a.ensures in
+    let zero = c.default.ensures in
+    list_reported _ _ _ _ _ _ _ _ _ _ _ _ _ c.requires settled.answers settled.left settled.told c.number.ensures zero.1.0 zero.1.1.0 zero.1.1.1.0 c.put.ensures

@@ -1,41 +1,15 @@
-use Rattle.replay.proofs.Turning.{settled_turns}
-use borrow.Author.Rules.{rules}
+use Rattle.replay.proofs.Turning.{list_refused, settled_turns}
 use Rattle.replay.proofs.turns.settle_turn.Goals as goal
 
-pub returns-then-room-lt-OUTCOME_SIZE : goal.returns-then-room-lt-OUTCOME_SIZE
-returns-then-room-lt-OUTCOME_SIZE c = λ shown. search settled_turns
-
-pub move_cursor-next-requires : goal.move_cursor-next-requires
-move_cursor-next-requires c =
-    let taken = c.only_mfns.ensures in
-    record {
-      calls_fit = search rules;
-      mfns_fit = rw taken (search rules);
-      tags_fit = rw taken (search rules);
-      lens_fit = rw taken (search rules);
-      bytes_fit = rw taken (search rules);
-      numbers_fit = search rules;
-      shown_fit = search rules;
-    }
-
 pub returns-then-not-lists_right : goal.returns-then-not-lists_right
-returns-then-not-lists_right c = search settled_turns
+returns-then-not-lists_right c =
+    let zero = c.default-then-not-lists_right.ensures in
+    let none = c.default.ensures in
+    list_refused _ _ _ _ _ _ c.requires.n_in_bounds _ _ _ _ _ _ _ _ _ _ _ c.lists_right.ensures c.if-not-lists_right.true c.if-room-lt-OUTCOME_SIZE.false
+    c.number.ensures zero.1.0 zero.1.1.0 zero.1.1.1.0 zero.1.1.1.1 c.put.ensures none.1.0 none.1.1.0 none.1.1.1 c.moved-next.ensures
 
 pub returns-then-room-n : goal.returns-then-room-n
 returns-then-room-n c = search settled_turns
-
-pub move_cursor-next-requires-2 : goal.move_cursor-next-requires-2
-move_cursor-next-requires-2 c =
-    let taken = c.only_mfns-2.ensures in
-    record {
-      calls_fit = search rules;
-      mfns_fit = rw taken (search rules);
-      tags_fit = rw taken (search rules);
-      lens_fit = rw taken (search rules);
-      bytes_fit = rw taken (search rules);
-      numbers_fit = search rules;
-      shown_fit = search rules;
-    }
 
 pub settle_at-requires : goal.settle_at-requires
 settle_at-requires c = search settled_turns

@@ -1,5 +1,4 @@
 use Rattle.replay.proofs.Turning.{written_answers}
-use borrow.Author.Rules.{rules}
 use Rattle.replay.proofs.turns.write.Goals as goal
 
 pub returns-in-Format : goal.returns-in-Format

@@ -1,5 +1,4 @@
 use Rattle.replay.proofs.Turning.{written_at}
-use borrow.Author.Rules.{rules}
 use Rattle.replay.proofs.turns.write_at.Goals as goal
 
 pub returns : goal.returns

@@ -1,26 +1,11 @@
-use Rattle.soundness.proofs.CheckAnswers.{counted_answers, counted_unsound, counted_live}
+use Rattle.std.proofs.lemmas.Result.{err_from_is_err_and}
+use Rattle.soundness.proofs.CheckAnswers.{counted_answers}
 use Rattle.soundness.proofs.check.count_live.Goals as goal
 
-pub returns-in_default : goal.returns-in_default
-returns-in_default c = search counted_answers
-
-pub slice_bounds-sound_apart-end : goal.slice_bounds-sound_apart-end
-slice_bounds-sound_apart-end c = search counted_answers
-
-pub slice_bounds-sound_apart-end-2 : goal.slice_bounds-sound_apart-end-2
-slice_bounds-sound_apart-end-2 c = search counted_answers
-
-pub sound_apart-a-requires : goal.sound_apart-a-requires
-sound_apart-a-requires c = search counted_answers
-
-pub returns-in_default-a : goal.returns-in_default-a
-returns-in_default-a c =
-    let open-gate = c.open_gate-g in
-    let the-g = c.in-Open in
-    counted_unsound _ _ _ open-gate.ensures _ _ the-g.is _ c.sound_apart-a.ensures c.in_default-a.is
+pub returns-in_err-control : goal.returns-in_err-control
+returns-in_err-control c =
+    let p = err_from_is_err_and c.from_residual.result c.from_residual.ensures.1 in
+    rw (p.1, p.2) (search (counted_answers, c.in_err-control.was))
 
 pub returns : goal.returns
-returns c =
-    let open-gate = c.open_gate-g in
-    let the-g = c.in-Open in
-    counted_live _ _ _ open-gate.ensures _ _ the-g.is _ c.sound_apart-a.ensures _ c.in-Sound.is
+returns c = rw c.ok_or.ensures.value (search (counted_answers, c.in_ok-control.was))

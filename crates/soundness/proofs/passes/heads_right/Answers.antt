@@ -2,7 +2,7 @@
 use native.Mathlib.Omega.{arith}
 use Rattle.soundness.specs.Sound.{heads_right}
 use Rattle.soundness.proofs.Counting.{passed_none, passed_done}
-use Rattle.soundness.proofs.PassAnswers.{one_more, one_fails}
+use Rattle.soundness.proofs.PassAnswers.{one_more, one_last, one_fails}
 use Rattle.soundness.proofs.passes.heads_right.Goals as goal
 
 pub loop-k-init : goal.loop-k-init
@@ -18,3 +18,7 @@ loop-k-preserved c = search (one_more, arith)
 pub returns : goal.returns
 unfolding heads_right
 returns c = search (passed_done, arith)
+
+pub returns-else-not-head_right : goal.returns-else-not-head_right
+unfolding heads_right
+returns-else-not-head_right c = search (one_last, arith)

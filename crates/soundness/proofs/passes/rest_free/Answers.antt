@@ -13,3 +13,6 @@ loop-m-preserved c = search free_answers
 
 pub returns : goal.returns
 returns c = search free_answers
+
+pub returns-else-not-slot_free : goal.returns-else-not-slot_free
+returns-else-not-slot_free c = search free_answers

@@ -5,13 +5,10 @@ pub slice_bounds-read_leader-end : goal.slice_bounds-read_leader-end
 slice_bounds-read_leader-end c = search hit_answers
 
 pub returns-then-m-lt1 : goal.returns-then-m-lt1
-returns-then-m-lt1 c = search hit_answers
+returns-then-m-lt1 c = search (hit_answers, c.then-m-lt1.either)
 
-pub returns-then-next-m : goal.returns-then-next-m
-returns-then-next-m c = search hit_answers
-
-pub entry_at-e-requires : goal.entry_at-e-requires
-entry_at-e-requires c = search hit_answers
+pub entry_at-requires : goal.entry_at-requires
+entry_at-requires c = search hit_answers
 
 pub returns-in_default : goal.returns-in_default
 returns-in_default c = search hit_answers

@@ -6,17 +6,17 @@ use Rattle.soundness.proofs.passes.tally_entries.Goals as goal
 pub loop-m-init : goal.loop-m-init
 loop-m-init c = search tally_answers
 
-pub returns-in_default : goal.returns-in_default
-returns-in_default c = search tally_answers
+pub returns-in_err-one : goal.returns-in_err-one
+returns-in_err-one c = rw c.from_residual.ensures (search (tally_answers, c.in_err-one.was))
 
 pub overflow_add-named : goal.overflow_add-named
-overflow_add-named c = omega (arith, open_few, tally_few _ _ _ _ c.tally_entry-t.ensures _ _ c.in-Named.is)
+overflow_add-named c = omega (arith, open_few, tally_few _ _ _ _ c.tally_entry.ensures _ c.in_ok-one.was)
 
 pub overflow_add-live : goal.overflow_add-live
-overflow_add-live c = omega (arith, open_few, live_few _ _ _ _ c.tally_entry-t.ensures _ _ c.in-Named.is)
+overflow_add-live c = omega (arith, open_few, live_few _ _ _ _ c.tally_entry.ensures _ c.in_ok-one.was)
 
 pub loop-m-preserved : goal.loop-m-preserved
-loop-m-preserved c = search tally_answers
+loop-m-preserved c = search (tally_answers, c.in_ok-one.was)
 
 pub returns : goal.returns
 returns c = search tally_answers

@@ -1,10 +1,7 @@
 -- `tally_entries`: the entries before m are fine, the places that they name are counted, and so are those that are live.
-use Prim.Native.Nat.{◌-◌, ◌≤◌}
+use Prim.Native.Nat.{◌≤◌}
 use Rattle.soundness.proofs.PassAnswers.{Tallied}
 use Rattle.soundness.proofs.passes.tally_entries.Given as goal
 
 abbrev pub invariant-loop-m : goal.invariant-loop-m
-invariant-loop-m l = (1 ≤ l.m) × (l.m ≤ l.next.0) × Tallied l.mst l.xrf l.m l.named l.live
-
-abbrev pub decreases-loop-m : goal.decreases-loop-m
-decreases-loop-m l = l.next.0 - l.m
+invariant-loop-m l = (1 ≤ l.m) × Tallied l.mst l.xrf l.m l.named l.live

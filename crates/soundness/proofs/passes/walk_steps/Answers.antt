@@ -1,6 +1,6 @@
 -- `walk_steps`: the steps before the address are walked, and the hits among them are counted.
 use native.Mathlib.Omega.{arith}
-use Rattle.soundness.proofs.PassAnswers.{walk_rises, walk_answers, bit_small, open_mst}
+use Rattle.soundness.proofs.PassAnswers.{walk_rises, walk_answers, open_mst}
 use Rattle.store.proofs.Gates.{open_end_in}
 use Rattle.soundness.proofs.passes.walk_steps.Goals as goal
 
@@ -10,21 +10,21 @@ loop-at-init c = search walk_answers
 pub overflow_add-at : goal.overflow_add-at
 overflow_add-at c = omega (arith, open_end_in, open_mst)
 
-pub overflow_add-hits : goal.overflow_add-hits
-overflow_add-hits c = omega (arith, open_end_in, open_mst, bit_small _ _ c.step_hit-hits.ensures)
+pub next_step-requires : goal.next_step-requires
+next_step-requires c = search walk_answers
 
-pub next_step-at-requires : goal.next_step-at-requires
-next_step-at-requires c = search walk_answers
+pub returns-in_default : goal.returns-in_default
+returns-in_default c = search walk_answers
 
 pub loop-at-smaller : goal.loop-at-smaller
 loop-at-smaller c =
-    omega (arith, walk_rises _ _ _ _ _ c.loop-at.invariant c.loop-at-test.true _ c.next_step-at.ensures)
+    omega (arith, walk_rises _ _ _ _ _ c.loop-at.invariant c.loop-at-test.true _ c.next_step.ensures _ c.in-Some.is)
 
 pub loop-at-preserved : goal.loop-at-preserved
 loop-at-preserved c = search walk_answers
 
-pub returns-then-at-end : goal.returns-then-at-end
-returns-then-at-end c = search walk_answers
+pub returns-then-at-control : goal.returns-then-at-control
+returns-then-at-control c = search walk_answers
 
-pub returns : goal.returns
-returns c = search walk_answers
+pub returns-else-at-control : goal.returns-else-at-control
+returns-else-at-control c = search walk_answers

@@ -1,14 +1,11 @@
 use Rattle.views.proofs.VersionAnswers.{version_answers}
 use Rattle.views.proofs.views.settled_of.Goals as goal
 
-pub returns-then-place : goal.returns-then-place
-returns-then-place c = search version_answers
+pub returns-in-Settled : goal.returns-in-Settled
+returns-in-Settled c = search version_answers
 
-pub address-requires : goal.address-requires
-address-requires c = search version_answers
-
-pub returns-else-place : goal.returns-else-place
-returns-else-place c = search version_answers
+pub returns-in-Settled-2 : goal.returns-in-Settled-2
+returns-in-Settled-2 c = search version_answers
 
 pub returns-in-Changed : goal.returns-in-Changed
 returns-in-Changed c = search version_answers

@@ -1,8 +1,14 @@
+use Rattle.std.proofs.lemmas.Result.{err_from_is_err_and}
 use Rattle.views.proofs.ViewAnswers.{view_answers}
 use Rattle.views.proofs.views.view.Goals as goal
 
-pub show_field-requires : goal.show_field-requires
-show_field-requires c = search view_answers
+pub returns-in_err-version-clause-is : goal.returns-in_err-version-clause-is
+returns-in_err-version-clause-is c =
+    let p = err_from_is_err_and c.from_residual.result c.from_residual.ensures.1 in
+    rw (p.1, p.2) (search (view_answers, c.in_err-version.was))
 
-pub returns : goal.returns
-returns c = search view_answers
+pub show_field-requires : goal.show_field-requires
+show_field-requires c = search (view_answers, c.in_ok-version.was)
+
+pub returns-clause-is : goal.returns-clause-is
+returns-clause-is c = search (view_answers, c.in_ok-version.was)

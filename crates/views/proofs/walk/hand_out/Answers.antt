@@ -1,26 +1,17 @@
+use Rattle.std.proofs.lemmas.Result.{err_from_is_err_and}
 use Rattle.views.proofs.WalkAnswers.{walk_answers}
 use Rattle.views.proofs.walk.hand_out.Goals as goal
 
-pub slice_bounds-field_span-start : goal.slice_bounds-field_span-start
-slice_bounds-field_span-start c = search walk_answers
-
-pub slice_bounds-field_span-end : goal.slice_bounds-field_span-end
-slice_bounds-field_span-end c = search walk_answers
-
-pub returns-in_default : goal.returns-in_default
-returns-in_default c = search walk_answers
-
-pub slice_bounds-field_span-count : goal.slice_bounds-field_span-count
-slice_bounds-field_span-count c = search walk_answers
-
-pub field_span-w-requires : goal.field_span-w-requires
-field_span-w-requires c = search walk_answers
-
-pub returns-in_default-w : goal.returns-in_default-w
-returns-in_default-w c = search walk_answers
+pub returns-in_err-spot-clause-is : goal.returns-in_err-spot-clause-is
+returns-in_err-spot-clause-is c =
+    let p = err_from_is_err_and c.from_residual.result c.from_residual.ensures.1 in
+    rw (p.1, p.2) (search (walk_answers, c.in_err-spot.was))
 
 pub overflow_add-result : goal.overflow_add-result
-overflow_add-result c = search walk_answers
+overflow_add-result c = search (walk_answers, c.in_ok-spot.was)
 
-pub returns : goal.returns
-returns c = search walk_answers
+pub returns-clause-is : goal.returns-clause-is
+returns-clause-is c = search (walk_answers, c.in_ok-spot.was)
+
+pub returns-clause-within : goal.returns-clause-within
+returns-clause-within c = search (walk_answers, c.in_ok-spot.was)

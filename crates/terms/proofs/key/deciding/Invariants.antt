@@ -1,0 +1,7 @@
+-- After i turns the first 8 * i bytes agree.
+use Prim.Native.Nat.{◌*◌}
+use Rattle.terms.proofs.Chunks.{Agree}
+use Rattle.terms.proofs.key.deciding.Given as goal
+
+abbrev pub invariant-loop-i : goal.invariant-loop-i
+invariant-loop-i l = Agree l.a l.b (8 * l.i)
