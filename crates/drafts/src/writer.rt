@@ -45,14 +45,12 @@ fn put_directory(out: &mut [u8], tags: &[u16], lens: &[u16], data: &[u8])
     requires tags_in_bounds { 18 + 6 * length tags.now ≤ length out.old }
     ensures { out.new ≡ overwrite out.old 18 (directory_bytes 0 (draft_fields tags.now lens.now «data».now)) }
 {
-    let mut i = 0;
-    let mut pos: u16 = 0;
-    while i < tags.len() {
+    let mut pos = 0;
+    for (i, &tag) in tags.iter().enumerate() {
         let len = lens[i];
-        let tag = Tag(tags[i]);
+        let tag = Tag(tag);
         put_directory_entry(out, 18 + 6 * i, DirectoryEntry { tag, pos, len });
         pos += len;
-        i += 1;
     }
 }
 
@@ -61,9 +59,8 @@ pub fn frame_record(out: &mut [u8], used: usize, l: Leader)
     requires { (18 ≤ used) × (used ≤ l.mfrl) × (l.mfrl ≤ length out.old) }
     ensures { out.new ≡ framed out.old used l }
 {
-    let mfrl = l.mfrl as usize;
     layout::leader::put_leader(out, l);
-    word::bytes::fill(out, used, mfrl - used, 0);
+    word::bytes::fill(out, used, usize::from(l.mfrl) - used, 0);
 }
 
 // Writes a draft's record under the leader `l`, MFRL bytes.
@@ -83,7 +80,7 @@ pub fn used_by(rec: &[u8]) -> usize
     requires { Readable rec.now }
     ensures { (result ≡ used_by (fields_of rec.now)) × (18 ≤ result) × (result ≤ (leader_of rec.now).mfrl) }
 {
-    word::integer::u16_at(rec, 12) as usize + record::fields::data_length(rec)
+    usize::from(word::integer::u16_at(rec, 12)) + record::fields::data_length(rec)
 }
 
 // Writes one byte of a record.
