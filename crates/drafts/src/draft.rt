@@ -1,8 +1,9 @@
-// The draft of a record: three lent slices, tags, lengths and data.
+// The draft of a record, and its rules.
 ghost use Rattle.std.specs.Prelude.{◌≡◌, ◌≤◌, length};
 ghost use Rattle.std.specs.List.{list_all};
 ghost use Rattle.layout.specs.Sizes.{fields_most, tag_permitted};
-ghost use Rattle.drafts.specs.Draft.{sum, need_of, draft_right};
+ghost use Rattle.drafts.specs.Draft.{sum, need_of, is_right};
+ghost use Rattle.drafts.specs.Lent.{lent};
 
 use layout::sizes::{FIELDS_MOST, RECORD_MOST, Tag};
 
@@ -32,15 +33,33 @@ pub fn need(fields: usize, size: usize) -> usize
     (18 + 6 * fields + size).next_multiple_of(2)
 }
 
-// Whether a draft is right.
-#[tactic(auto, using(crate::proofs::DraftFields::draft_answers), unfolding(crate::specs::Draft::draft_right))]
-pub fn draft_right(tags: &[u16], lens: &[u16], data: &[u8]) -> bool
-    ensures { result ≡ draft_right tags.now lens.now «data».now }
-{
-    tags.len() == lens.len()
-        && tags.len() <= FIELDS_MOST
-        && data.len() <= RECORD_MOST
-        && need(tags.len(), data.len()) <= RECORD_MOST
-        && tags_permitted(tags)
-        && total(lens) == data.len()
+// The draft of a record: the tags and the lengths of its fields, and their data one after the other, all lent.
+#[derive(Clone, Copy)]
+pub struct Draft<'a> {
+    pub tags: &'a [u16],
+    pub lens: &'a [u16],
+    pub data: &'a [u8],
+}
+
+impl<'a> Draft<'a> {
+    // The bytes that its record needs.
+    pub fn need(self) -> usize
+        requires { (length self.tags.now ≤ 65535) × (length self.data.now ≤ 65535) }
+        ensures { result ≡ need_of (length self.entry.tags.now) (length self.entry.data.now) }
+    {
+        need(self.tags.len(), self.data.len())
+    }
+
+    // Whether it is right.
+    #[tactic(auto, using(crate::proofs::DraftFields::draft_answers), unfolding(crate::specs::Draft::draft_right))]
+    pub fn is_right(self) -> bool
+        ensures { result ≡ is_right (lent self.entry) }
+    {
+        self.tags.len() == self.lens.len()
+            && self.tags.len() <= FIELDS_MOST
+            && self.data.len() <= RECORD_MOST
+            && self.need() <= RECORD_MOST
+            && tags_permitted(self.tags)
+            && total(self.lens) == self.data.len()
+    }
 }

@@ -8,5 +8,5 @@ use Rattle.drafts.proofs.writer.put_directory.Given as goal
 abbrev pub invariant-loop-i : goal.invariant-loop-i
 invariant-loop-i l =
     (length l.out ≡ length l.initial.out)
-    × (l.pos ≡ sum (take l.i l.lens))
-    × (l.out ≡ overwrite l.initial.out 18 (directory_bytes 0 (take l.i (draft_fields l.tags l.lens l.«data»))))
+    × (l.pos ≡ sum (take l.i l.draft.lens.now))
+    × (l.out ≡ overwrite l.initial.out 18 (directory_bytes 0 (take l.i (draft_fields l.draft.tags.now l.draft.lens.now l.draft.data.now))))

@@ -13,7 +13,7 @@ overflow_add-base c = omega arith
 
 pub put_directory-requires : goal.put_directory-requires
 unfolding need_of
-put_directory-requires c = record { data_value = c.requires.data_value; tags_in_bounds = omega arith }
+put_directory-requires c = record { right = c.requires.right; room = omega arith }
 
 pub copy_to-requires : goal.copy_to-requires
 unfolding need_of
@@ -30,4 +30,4 @@ frame_record-requires c = omega arith
 pub returns : goal.returns
 unfolding need_of
 returns c =
-    record_written _ c.args.l _ _ _ c.requires.data_value c.put_directory.ensures c.copy_to.ensures c.frame_record.ensures (omega arith) c.requires.data_bound.1
+    record_written _ c.args.l _ _ _ c.requires.right c.put_directory.ensures c.copy_to.ensures c.frame_record.ensures (omega arith) c.requires.room.1
