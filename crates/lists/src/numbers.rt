@@ -1,5 +1,5 @@
 // Decimal numbers read from a text. What stands between them does not count; a number that is too high is the highest.
-ghost use Rattle.std.specs.Prelude.{◌<◌, ◌≤◌, length, IfSome, IfNone};
+ghost use Rattle.std.specs.Prelude.{◌≡◌, ◌<◌, ◌≤◌, ℕ, length, min, IfSome, IfNone};
 
 use crate::parts::front;
 
@@ -35,22 +35,39 @@ impl<'a> Numbers<'a> {
 
 // A number of a list: one that is too high is the highest.
 pub trait FromNumber {
-    fn from_number(n: u32) -> Self;
+    ghost value: { Self → ℕ };
+
+    ghost highest: { ℕ };
+
+    fn from_number(n: u32) -> Self
+        ensures { value result ≡ min n highest };
 }
 
 impl FromNumber for u32 {
+    ghost value = { λ x. x };
+
+    ghost highest = { 4294967295 };
+
     fn from_number(n: u32) -> u32 {
         n
     }
 }
 
 impl FromNumber for u16 {
+    ghost value = { λ x. x };
+
+    ghost highest = { 65535 };
+
     fn from_number(n: u32) -> u16 {
         u16::try_from(n).unwrap_or(u16::MAX)
     }
 }
 
 impl FromNumber for u8 {
+    ghost value = { λ x. x };
+
+    ghost highest = { 255 };
+
     fn from_number(n: u32) -> u8 {
         u8::try_from(n).unwrap_or(u8::MAX)
     }
