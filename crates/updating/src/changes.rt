@@ -11,7 +11,7 @@ ghost use Rattle.layout.specs.Sizes.{mst_most};
 use layout::entry::Mark;
 use layout::sizes::Mfn;
 use store::answer::Refusal;
-use store::gate::{Reached, Record};
+use store::gate::{OpenStore, Reached, Record};
 
 // A new version of the record that was reached: at the end if `appends`, else in place.
 #[derive(Clone, Copy, Debug, PartialEq, Eq)]
@@ -50,16 +50,16 @@ fn plan_update(
 ) -> Result<NewVersion, Refusal>
     ensures { result ≡ update_plan (store mst.now xrf.now) m.0 (draft tags.now lens.now «data».now) }
 {
-    let control = store::gate::open_gate(mst, xrf)?;
+    let store = OpenStore::open(mst, xrf)?;
     if !drafts::draft::draft_right(tags, lens, data) {
         return Err(Refusal::BadDraft);
     }
-    let Record { place, leader } = store::gate::find_record(mst, xrf, control, m)?;
+    let Record { place, leader } = store.find_record(m)?;
     if place.deleted {
         return Err(Refusal::Deleted);
     }
     let was = Reached {
-        end: control.end,
+        end: store.control.end,
         place,
         leader,
     };
