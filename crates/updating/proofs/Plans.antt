@@ -1,6 +1,6 @@
 -- What update and delete decide before they write, one law for each way that the deciding functions return.
 use Rattle.std.specs.Prelude.{Result, Ok, Err}
-use Prim.Native.Nat.{ℕ, ◌+◌, ◌≤◌}
+use Prim.Native.Nat.{ℕ, ◌≤◌}
 use native.Mathlib.Omega.{arith}
 use mathlib.Core.Path.{◌≡◌, refl, sym, ap, ◌∙◌}
 use mathlib.Core.Logic.{◌⊎◌, ⊎_elim}
@@ -8,7 +8,7 @@ use mathlib.Core.Bool.{Bool, true, false, not, ◌&&◌, cond}
 use mathlib.Core.List.{List, [], ◌∷◌}
 use lib.ListN.{length}
 use borrow.Author.Tests.{not-false}
-use Rattle.layout.specs.Sizes.{mst_most, record_most}
+use Rattle.layout.specs.Sizes.{mst_most}
 use Rattle.files.specs.Control.{end_of, count_none}
 use Rattle.files.specs.declared.control.Control.{Control}
 use Rattle.layout.specs.declared.entry.Mark.TheVariants.{Settled, Changed, New}
@@ -29,7 +29,7 @@ use Rattle.store.specs.declared.gate.Record.{Record}
 use Rattle.store.specs.declared.gate.Reached.{Reached}
 use Rattle.updating.specs.declared.changes.NewVersion.{NewVersion}
 use Rattle.versions.proofs.Told.{draft_fits, read_known}
-use Rattle.store.proofs.Gates.{refused_is, done_is, gate_shut, gate_is, known_refused, KnownFacts, known_facts, opened, Planned, gate_open, OpenFacts}
+use Rattle.store.proofs.Gates.{refused_is, done_is, OpenFacts, gate_open, known_refused, KnownFacts, known_facts, Planned}
 use Rattle.store.proofs.Reaching.{reach_refused, reached_facts}
 use Rattle.store.specs.Store.{Store, store}
 use Rattle.writing.proofs.Plans.{shut_answer}
@@ -59,10 +59,6 @@ pub draft_small : (tags lens bytes : List ℕ) (d : Bool) (need : ℕ) → d ≡
     → need ≤ 65536
 draft_small tags lens bytes d need e h n = let f = draft_fits tags lens bytes (sym e ∙ not-false d h) in omega arith
 
--- the end of an open store
-pub open_end_small : (s : Store) (k : Control) → gate_of s ≡ Ok k → k.end ≤ mst_most
-open_end_small s k g = let o = gate_open s.mst s.xrf k g in omega arith
-
 module _ (mst xrf : List ℕ) (m : ℕ) (tags lens bytes : List ℕ) where
   update_refused : (r : Refusal) → update_answer (store mst xrf) m (draft tags lens bytes) ≡ Err r → Err r ≡ update_plan (store mst xrf) m (draft tags lens bytes)
   unfolding update_plan plan_if
@@ -72,18 +68,23 @@ module _ (mst xrf : List ℕ) (m : ℕ) (tags lens bytes : List ℕ) where
   unfolding update_answer
   update_shut r q = update_refused r (shut_answer mst xrf r _ q)
 
-  module _ (s : Store) (same : (s.mst ≡ mst) × (s.xrf ≡ xrf)) (k : Control) (g : gate_of s ≡ Ok k) (d : Bool) (e : d ≡ draft_right tags lens bytes) where
-    is : s ≡ store mst xrf
-    is = rw (same.0, same.1)
+-- the store as it was opened is the one that was lent
+module _ (mst xrf : List ℕ) (s : Store) (same : (s.mst ≡ mst) × (s.xrf ≡ xrf)) (k : Control) (g : gate_of s ≡ Ok k) where
+  is : s ≡ store mst xrf
+  is = rw (same.0, same.1)
 
-    opened_is : OpenFacts mst xrf k.next k.end
-    opened_is = gate_open mst xrf k (ap gate_of (sym is) ∙ g)
+  opened_is : OpenFacts mst xrf k.next k.end
+  opened_is = gate_open mst xrf k (ap gate_of (sym is) ∙ g)
 
+  pub open_end_small : k.end ≤ mst_most
+  open_end_small = let o = opened_is in omega arith
+
+  module _ (m : ℕ) (tags lens bytes : List ℕ) (d : Bool) (e : d ≡ draft_right tags lens bytes) where
     pub update_no_draft : not d ≡ true → Err BadDraft ≡ update_plan (store mst xrf) m (draft tags lens bytes)
     unfolding update_answer
     update_no_draft h =
         let o = opened_is in
-        update_refused BadDraft (rw (o.lengths, o.control, ← e, h))
+        update_refused mst xrf m tags lens bytes BadDraft (rw (o.lengths, o.control, ← e, h))
 
     module _ (h : not d ≡ false) (y : Result Record Refusal) (u : y ≡ known_of s m) where
       known_is : y ≡ known_of (store mst xrf) m
@@ -95,7 +96,7 @@ module _ (mst xrf : List ℕ) (m : ℕ) (tags lens bytes : List ℕ) where
           let o = opened_is in
           let f = known_refused mst xrf m r (sym known_is ∙ v) in
           let rest : (x : Answer) → named_answer mst xrf m (fine (store mst xrf) m) x ≡ Err r = λ x. f.answers (record { answer = x; applies = true } ∷ []) in
-          update_refused r (rw (o.lengths, o.control, ← e, h) (rest _))
+          update_refused mst xrf m tags lens bytes r (rw (o.lengths, o.control, ← e, h) (rest _))
 
       module _ (x : Record) (v : y ≡ Ok x) where
         known : KnownFacts mst xrf m x.place x.leader
@@ -106,24 +107,24 @@ module _ (mst xrf : List ℕ) (m : ℕ) (tags lens bytes : List ℕ) where
         update_deleted w =
             let o = opened_is in
             let f = known in
-            update_refused Deleted (rw (o.lengths, o.control, ← e, h, f.known, f.entry, f.record_fine_lem, w))
+            update_refused mst xrf m tags lens bytes Deleted (rw (o.lengths, o.control, ← e, h, f.known, f.entry, f.record_fine_lem, w))
 
-        module _ (need : ℕ) (n : need ≡ need_of (length tags) (length bytes)) where
-          pub update_planned : (appends : Bool) (r : Result NewVersion Refusal) → x.place.deleted ≡ false → appends ≡ update_appends x.place x.leader need
-              → r ≡ room_plan (length mst) need (reached_at k.end x.place x.leader) appends → r ≡ update_plan (store mst xrf) m (draft tags lens bytes)
-          unfolding update_plan update_answer
-          update_planned appends r w i z =
-              let o = opened_is in
-              let f = known in
-              let own : need_for (draft_fields tags lens bytes) ≡ need = draft_need tags lens bytes (sym e ∙ not-false d h) ∙ sym n in
-              let j : update_appends (place_for (store mst xrf) m) (leader_at mst (place_for (store mst xrf) m)) (need_for (draft_fields tags lens bytes)) ≡ appends =
-              rw (own, f.place_is, ← f.leader_is) (sym i) in
-              let a : update_answer (store mst xrf) m (draft tags lens bytes) ≡ cond (appends && exceeds mst need) (Err NoRoom) (Ok tt) =
-              rw (o.lengths, o.control, ← e, h, f.known, j, own, f.entry, f.record_fine_lem, w) in
-              z ∙ room_planned mst xrf m need (reached_at k.end x.place x.leader) f.place_is f.leader_is o.end_is (update_answer (store mst xrf) m (draft tags lens bytes)) appends (exceeds mst need) refl a
-              ∙ ap (λ (b : Bool). plan_if (update_answer (store mst xrf) m (draft tags lens bytes)) b (store mst xrf) m) (sym j)
+        pub update_planned : (need : ℕ) (appends : Bool) (r : Result NewVersion Refusal) → x.place.deleted ≡ false → need ≡ need_of (length tags) (length bytes)
+            → appends ≡ update_appends x.place x.leader need → r ≡ room_plan (length mst) need (reached_at k.end x.place x.leader) appends
+            → r ≡ update_plan (store mst xrf) m (draft tags lens bytes)
+        unfolding update_plan update_answer
+        update_planned need appends r w n i z =
+            let o = opened_is in
+            let f = known in
+            let own : need_for (draft_fields tags lens bytes) ≡ need = draft_need tags lens bytes (sym e ∙ not-false d h) ∙ sym n in
+            let j : update_appends (place_for (store mst xrf) m) (leader_at mst (place_for (store mst xrf) m)) (need_for (draft_fields tags lens bytes)) ≡ appends =
+            rw (own, f.place_is, ← f.leader_is) (sym i) in
+            let a : update_answer (store mst xrf) m (draft tags lens bytes) ≡ cond (appends && exceeds mst need) (Err NoRoom) (Ok tt) =
+            rw (o.lengths, o.control, ← e, h, f.known, j, own, f.entry, f.record_fine_lem, w) in
+            z ∙ room_planned mst xrf m need (reached_at k.end x.place x.leader) f.place_is f.leader_is o.end_is (update_answer (store mst xrf) m (draft tags lens bytes)) appends (exceeds mst need) refl a
+            ∙ ap (λ (b : Bool). plan_if (update_answer (store mst xrf) m (draft tags lens bytes)) b (store mst xrf) m) (sym j)
 
-pub ruleset update_plans = (update_shut, update_no_draft, update_unknown, update_deleted, draft_small, open_end_small, update_planned)
+pub ruleset update_plans = (update_shut, update_no_draft, update_unknown, update_deleted, update_planned)
 
 -- ---- delete
 

@@ -2,7 +2,7 @@ use Rattle.std.proofs.lemmas.Result.{err_from_is_err_and}
 use mathlib.Core.Path.{ap}
 use mathlib.Core.Bool.{not}
 use Rattle.versions.proofs.Told.{draft_counted}
-use Rattle.updating.proofs.Plans.{update_plans}
+use Rattle.updating.proofs.Plans.{open_end_small, draft_small, update_plans}
 use Rattle.updating.proofs.changes.plan_update.Goals as goal
 
 pub returns-in_err-store : goal.returns-in_err-store
@@ -25,7 +25,7 @@ pub need-need-requires : goal.need-need-requires
 need-need-requires c = draft_counted _ _ _ _ c.draft_right.ensures (ap not c.if-not-draft_right.false)
 
 pub plan_room-requires : goal.plan_room-requires
-plan_room-requires c = search update_plans
+plan_room-requires c = (open_end_small _ _ _ c.in_ok-store.ensures.lent _ c.in_ok-store.store.open, search draft_small)
 
 pub returns : goal.returns
 returns c = search (update_plans, c.in_ok-store.ensures.lent, c.in_ok-place.was)
