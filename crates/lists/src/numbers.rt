@@ -31,6 +31,17 @@ impl<'a> Numbers<'a> {
     {
         self.next_number().unwrap_or(0)
     }
+
+    // Reads the next `count` numbers, or as many as `out` holds, and gives them.
+    pub fn read<'b, T: FromNumber + Drop>(&mut self, count: u32, out: &'b mut [T]) -> &'b [T]
+        ensures { length self.new.text.now ≤ length self.old.text.now }
+    {
+        let out = front(out, count);
+        for x in out.iter_mut() {
+            *x = T::from_number(self.next_or_zero());
+        }
+        out
+    }
 }
 
 // A number of a list: one that is too high is the highest.
@@ -71,19 +82,4 @@ impl FromNumber for u8 {
     fn from_number(n: u32) -> u8 {
         u8::try_from(n).unwrap_or(u8::MAX)
     }
-}
-
-// Reads so many numbers, or as many as `out` holds, and gives them.
-pub fn read<'a, T: FromNumber + Drop>(
-    numbers: &mut Numbers,
-    count: u32,
-    out: &'a mut [T],
-) -> &'a [T]
-    ensures { length numbers.new.text.now ≤ length numbers.old.text.now }
-{
-    let out = front(out, count);
-    for x in out.iter_mut() {
-        *x = T::from_number(numbers.next_or_zero());
-    }
-    out
 }

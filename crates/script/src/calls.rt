@@ -77,7 +77,7 @@ impl Op {
         match self {
             Op::Asks(_) => Counts::default(),
             Op::Writes(_, n) => n,
-            Op::Settles { mfns, lent: _ } => Counts {
+            Op::Settles { mfns, .. } => Counts {
                 mfns,
                 ..Counts::default()
             },
