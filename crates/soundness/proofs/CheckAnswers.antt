@@ -8,7 +8,7 @@ use mathlib.Core.Path.{◌≡◌, refl, sym, ap, ◌∙◌}
 use mathlib.Core.Bool.{Bool, true, false, not, ◌&&◌, cond, and-false}
 use mathlib.Core.List.{List, [], ◌∷◌}
 use lib.IntN.{pos}
-use lib.ListN.{length, take}
+use lib.ListN.{length}
 use borrow.Author.Tests.{not-true, not-false}
 use Rattle.layout.specs.Sizes.{capacity_of}
 use Rattle.files.specs.Control.{next_of, end_of, count_is, count_most, with_count}
@@ -18,8 +18,7 @@ use Rattle.store.specs.Reading.{lengths_permitted, control_fine, entry_for}
 use Rattle.store.specs.Gate.{gate_of}
 use Rattle.store.specs.declared.answer.Refusal.TheVariants.{BadLength, BadControl, NotSound}
 use Rattle.store.specs.declared.answer.Refusal.{Refusal}
-use Rattle.store.proofs.Gates.{Refusing, refusing, done_number, after_done, after_refused, refused_is, done_is, given_refused, given_done, holds, gate_done, gate_shut, open_from, gate_open, opened, open_xrf}
-use Rattle.store.proofs.Reaching.{whole_length, lent_open, lent_as}
+use Rattle.store.proofs.Gates.{Refusing, refusing, done_number, after_done, after_refused, refused_is, done_is, given_refused, given_done, holds, gate_done, gate_shut, open_from, gate_open, open_xrf}
 use Rattle.soundness.specs.Sound.{bit, heads_right, rest_free, steps, is_live, live_count, count_right, body_apart, body_sound, check_answer}
 use Rattle.soundness.specs.Recount.{recount_answer, recounted_mst, recount_leaves}
 use Rattle.soundness.specs.Passes.{entries_fine, named_total, tally_of, walk_of, apart_of, counted_of}
@@ -28,7 +27,7 @@ use Rattle.soundness.proofs.Sums.{sum_few}
 use Rattle.soundness.proofs.Counting.{bit_le}
 use Rattle.soundness.proofs.Deciding.{entries_wrong, walk_decides}
 use Rattle.soundness.proofs.PassAnswers.{open_next, open_low, named_parts, wrong_part}
-use Rattle.store.specs.Store.{store}
+use Rattle.store.specs.Store.{Store, store}
 
 module _ (mst xrf : List ℕ) (t : Option Tally) (e : t ≡ tally_of (store mst xrf)) where
   not_fine : t ≡ None → entries_fine (store mst xrf) ≡ false
@@ -96,20 +95,24 @@ pub ruleset body_answers = (open_xrf, open_low, body_next, body_heads, body_rest
 
 -- ---- what the check and the recount ask alike
 
-module _ (mst xrf : List ℕ) (g : Result Control Refusal) (e : g ≡ gate_of (store mst xrf)) where
-  pub counted_shut : (r : Refusal) → g ≡ Err r → Err r ≡ counted_of (store mst xrf)
+module _ (mst xrf : List ℕ) where
+  pub counted_shut : (r : Refusal) → gate_of (store mst xrf) ≡ Err r → Err r ≡ counted_of (store mst xrf)
   unfolding counted_of recount_answer
   counted_shut r h =
-      let f = gate_shut mst xrf r (sym e ∙ h) in
+      let f = gate_shut mst xrf r h in
       refused_is (recount_answer (store mst xrf)) _ r (f.answers (refuse NotSound (not (body_apart (store mst xrf))) ∷ []))
 
-  module _ (k : Control) (h : g ≡ Ok k) (a : Option ℕ) (lent : a ≡ apart_of (store (take (length mst) mst) (take (length xrf) xrf))) where
+  -- the store as it was opened is the one that was lent
+  module _ (s : Store) (same : (s.mst ≡ mst) × (s.xrf ≡ xrf)) (k : Control) (g : gate_of s ≡ Ok k) (a : Option ℕ) (e : a ≡ apart_of s) where
+    is : s ≡ store mst xrf
+    is = rw (same.0, same.1)
+
     q : a ≡ apart_of (store mst xrf)
-    q = lent_as apart_of mst xrf a lent
+    q = e ∙ ap apart_of is
 
     recount_is : recount_answer (store mst xrf) ≡ cond (not (body_apart (store mst xrf))) (Err NotSound) (Ok tt)
     unfolding recount_answer
-    recount_is = let f = opened mst xrf g e k h in rw (f.lengths, f.control)
+    recount_is = let f = gate_open mst xrf k (ap gate_of (sym is) ∙ g) in rw (f.lengths, f.control)
 
     by_body : (b : Bool) (n : ℕ) → ok_or (cond b (Some n) None) NotSound ≡ give (cond (not b) (Err NotSound) (Ok tt)) n
     unfolding give
@@ -120,7 +123,7 @@ module _ (mst xrf : List ℕ) (g : Result Control Refusal) (e : g ≡ gate_of (s
     unfolding counted_of apart_of
     counted_live = rw (q, recount_is) (by_body (body_apart (store mst xrf)) (live_count (store mst xrf)))
 
-pub ruleset counted_answers = (whole_length, lent_open, counted_shut, counted_live)
+pub ruleset counted_answers = (counted_shut, counted_live)
 
 -- ---- the check and the recount
 

@@ -1,20 +1,18 @@
 // The passes of the whole-store check. Two over the XRF look at the first integers and at the free slots. Then the first over the MFNs tests
 // each entry but for the steps, and counts the steps that the entries name and the entries that are live; the second walks the steps, and counts
 // those that the entry of the MFN written there names. Each entry names steps only exactly if the two counts agree.
-ghost use Rattle.std.specs.Prelude.{◌≡◌, true, ◌+◌, ◌≤◌, ◌<◌, Ok, length};
+ghost use Rattle.std.specs.Prelude.{◌≡◌, true, ◌+◌, ◌≤◌, ◌<◌, length};
 ghost use Rattle.layout.specs.Sizes.{xrf_most, capacity_of};
 ghost use Rattle.layout.specs.declared.entry.Entry.TheVariants.{At};
 ghost use Rattle.store.specs.Reading.{entry_for};
-ghost use Rattle.store.specs.Gate.{gate_of};
 ghost use Rattle.soundness.specs.Sound.{elem, heads_right, rest_free};
 ghost use Rattle.soundness.specs.Passes.{names_of, named_under, entry_tally, entries_fine, tally_of, hit, walk_of, Names};
 ghost use Rattle.store.specs.Store.{store};
 
-use files::control::Control;
 use layout::entry::{Entry, Mark, Place};
 use layout::sizes::Mfn;
 use store::answer::Refusal;
-use store::gate::Record;
+use store::gate::{OpenStore, Record};
 
 // What the first pass finds: how many steps the entries name and how many of them are live.
 #[derive(Clone, Copy, Debug, PartialEq, Eq)]
@@ -58,12 +56,11 @@ fn named_under(mark: Mark) -> u32
 }
 
 // The tally of one entry, where it is right: of those with no record only 7, physically deleted.
-fn tally_entry(mst: &[u8], xrf: &[u8], control: Control, m: Mfn) -> Option<Tally>
-    requires xrf_value { gate_of (store mst.now xrf.now) ≡ Ok control }
-    requires le_m { (1 ≤ m.0) × (m.0 < control.next.0) }
-    ensures { result ≡ entry_tally mst.now m.0 (entry_for (store mst.now xrf.now) m.0) }
+fn tally_entry(open: &OpenStore, m: Mfn) -> Option<Tally>
+    requires { (1 ≤ m.0) × (m.0 < open.now.control.next.0) }
+    ensures { result ≡ entry_tally open.now.mst.now m.0 (entry_for (store open.now.mst.now open.now.xrf.now) m.0) }
 {
-    match store::gate::find_both(mst, xrf, control, m) {
+    match open.find_both(m) {
         Ok(Record { place, leader: _ }) => Some(Tally {
             named: named_under(place.mark),
             live: u32::from(!place.deleted),
@@ -74,14 +71,13 @@ fn tally_entry(mst: &[u8], xrf: &[u8], control: Control, m: Mfn) -> Option<Tally
 }
 
 // The first pass: every entry below NXTMFN.
-pub(crate) fn tally_entries(mst: &[u8], xrf: &[u8], control: Control) -> Option<Tally>
-    requires { gate_of (store mst.now xrf.now) ≡ Ok control }
-    ensures { result ≡ tally_of (store mst.now xrf.now) }
+pub(crate) fn tally_entries(open: &OpenStore) -> Option<Tally>
+    ensures { result ≡ tally_of (store open.now.mst.now open.now.xrf.now) }
 {
     let mut named: u32 = 0;
     let mut live: u32 = 0;
-    for m in 1..control.next.0 {
-        let one = tally_entry(mst, xrf, control, Mfn(m))?;
+    for m in 1..open.control.next.0 {
+        let one = tally_entry(open, Mfn(m))?;
         named += one.named;
         live += one.live;
     }
@@ -105,35 +101,33 @@ fn place_hit(mst: &[u8], end: usize, p: Place, s: usize) -> bool
 }
 
 // Whether the entry of the MFN written at the step `s` names this step.
-fn step_hit(mst: &[u8], xrf: &[u8], control: Control, s: usize) -> bool
-    requires xrf_value { gate_of (store mst.now xrf.now) ≡ Ok control }
-    requires xrf_value_2 { (entries_fine (store mst.now xrf.now) ≡ true) × (s + 18 ≤ control.end) }
-    ensures { result ≡ hit (store mst.now xrf.now) s }
+fn step_hit(open: &OpenStore, s: usize) -> bool
+    requires { (entries_fine (store open.now.mst.now open.now.xrf.now) ≡ true) × (s + 18 ≤ open.now.control.end) }
+    ensures { result ≡ hit (store open.now.mst.now open.now.xrf.now) s }
 {
-    let m = layout::leader::read_leader(&mst[s..control.end]).mfn;
-    if m.0 < 1 || control.next.0 <= m.0 {
+    let m = layout::leader::read_leader(&open.mst[s..open.control.end]).mfn;
+    if m.0 < 1 || open.control.next.0 <= m.0 {
         return false;
     }
-    let Entry::At(p) = files::cross_reference::entry_at(xrf, control.end, m) else {
+    let Entry::At(p) = files::cross_reference::entry_at(open.xrf, open.control.end, m) else {
         return false;
     };
-    place_hit(mst, control.end, p, s)
+    place_hit(open.mst, open.control.end, p, s)
 }
 
 // The second pass: whether stepping from address 64 on one arrives at the end, and meets all that the entries name.
-pub(crate) fn walk_steps(mst: &[u8], xrf: &[u8], control: Control, named: usize) -> bool
-    requires xrf_value { gate_of (store mst.now xrf.now) ≡ Ok control }
-    requires xrf_value_2 { entries_fine (store mst.now xrf.now) ≡ true }
-    ensures { result ≡ walk_of (store mst.now xrf.now) named }
+pub(crate) fn walk_steps(open: &OpenStore, named: usize) -> bool
+    requires { entries_fine (store open.now.mst.now open.now.xrf.now) ≡ true }
+    ensures { result ≡ walk_of (store open.now.mst.now open.now.xrf.now) named }
 {
     let mut hits: usize = 0;
     let mut at: usize = 64;
-    while at + 18 <= control.end {
-        hits += usize::from(step_hit(mst, xrf, control, at));
-        let Some(next) = crate::steps::next_step(mst, control.end, at) else {
+    while at + 18 <= open.control.end {
+        hits += usize::from(step_hit(open, at));
+        let Some(next) = crate::steps::next_step(open.mst, open.control.end, at) else {
             return false;
         };
         at = next;
     }
-    at == control.end && hits == named
+    at == open.control.end && hits == named
 }

@@ -11,15 +11,15 @@ rest_free-requires c = search body_answers
 pub returns-then-not-heads_right : goal.returns-then-not-heads_right
 returns-then-not-heads_right c =
     elim c.then-not-heads_right.branch [
-    | then-not-heads_right-via-then-not-heads_right w ↦ search body_answers
-    | then-not-heads_right-via-else-not-heads_right+then-not-rest_free w ↦ search body_answers
+      | then-not-heads_right-via-then-not-heads_right w ↦ search body_answers
+      | then-not-heads_right-via-else-not-heads_right+then-not-rest_free w ↦ search body_answers
     ]
 
 pub returns-in_err-named : goal.returns-in_err-named
 returns-in_err-named c = rw c.from_residual.ensures (search (body_answers, c.in_err-named.was))
 
-pub walk_steps-requires-clause-xrf_value_2 : goal.walk_steps-requires-clause-xrf_value_2
-walk_steps-requires-clause-xrf_value_2 c = search (body_answers, c.in_ok-named.was)
+pub walk_steps-requires : goal.walk_steps-requires
+walk_steps-requires c = search (body_answers, c.in_ok-named.was)
 
 pub returns-then-not-walk_steps : goal.returns-then-not-walk_steps
 returns-then-not-walk_steps c = search (body_answers, c.in_ok-named.was)

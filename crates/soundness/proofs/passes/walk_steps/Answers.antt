@@ -23,8 +23,8 @@ loop-at-smaller c =
 pub loop-at-preserved : goal.loop-at-preserved
 loop-at-preserved c = search walk_answers
 
-pub returns-then-at-control : goal.returns-then-at-control
-returns-then-at-control c = search walk_answers
+pub returns-then-at-open : goal.returns-then-at-open
+returns-then-at-open c = search walk_answers
 
-pub returns-else-at-control : goal.returns-else-at-control
-returns-else-at-control c = search walk_answers
+pub returns-else-at-open : goal.returns-else-at-open
+returns-else-at-open c = search walk_answers
