@@ -10,16 +10,16 @@ use store::answer::Refusal;
 use store::gate::OpenStore;
 
 // How many entries are live, where the store is sound apart from RECCNT.
-fn sound_apart(open: &OpenStore) -> Option<u32>
-    ensures { result ≡ apart_of (store open.now.mst.now open.now.xrf.now) }
+fn sound_apart(opened: &OpenStore) -> Option<u32>
+    ensures { result ≡ apart_of (store opened.now.mst.now opened.now.xrf.now) }
 {
-    if !crate::passes::heads_right(open.xrf)
-        || !crate::passes::rest_free(open.xrf, open.control.next)
+    if !crate::passes::heads_right(opened.xrf)
+        || !crate::passes::rest_free(opened.xrf, opened.control.next)
     {
         return None;
     }
-    let Tally { named, live } = crate::passes::tally_entries(open)?;
-    if !crate::passes::walk_steps(open, named as usize) {
+    let Tally { named, live } = crate::passes::tally_entries(opened)?;
+    if !crate::passes::walk_steps(opened, named as usize) {
         return None;
     }
     Some(live)
@@ -29,8 +29,8 @@ fn sound_apart(open: &OpenStore) -> Option<u32>
 fn count_live(mst: &[u8], xrf: &[u8]) -> Result<u32, Refusal>
     ensures { result ≡ counted_of (store mst.now xrf.now) }
 {
-    let open = OpenStore::open(mst, xrf)?;
-    sound_apart(&open).ok_or(Refusal::NotSound)
+    let opened = OpenStore::open(mst, xrf)?;
+    sound_apart(&opened).ok_or(Refusal::NotSound)
 }
 
 // 1, 2, 14 or 0: passes exactly the sound stores.

@@ -56,11 +56,11 @@ fn named_under(mark: Mark) -> u32
 }
 
 // The tally of one entry, where it is right: of those with no record only 7, physically deleted.
-fn tally_entry(open: &OpenStore, m: Mfn) -> Option<Tally>
-    requires { (1 ≤ m.0) × (m.0 < open.now.control.next.0) }
-    ensures { result ≡ entry_tally open.now.mst.now m.0 (entry_for (store open.now.mst.now open.now.xrf.now) m.0) }
+fn tally_entry(opened: &OpenStore, m: Mfn) -> Option<Tally>
+    requires { (1 ≤ m.0) × (m.0 < opened.now.control.next.0) }
+    ensures { result ≡ entry_tally opened.now.mst.now m.0 (entry_for (store opened.now.mst.now opened.now.xrf.now) m.0) }
 {
-    match open.find_both(m) {
+    match opened.find_both(m) {
         Ok(Record { place, leader: _ }) => Some(Tally {
             named: named_under(place.mark),
             live: u32::from(!place.deleted),
@@ -71,13 +71,13 @@ fn tally_entry(open: &OpenStore, m: Mfn) -> Option<Tally>
 }
 
 // The first pass: every entry below NXTMFN.
-pub(crate) fn tally_entries(open: &OpenStore) -> Option<Tally>
-    ensures { result ≡ tally_of (store open.now.mst.now open.now.xrf.now) }
+pub(crate) fn tally_entries(opened: &OpenStore) -> Option<Tally>
+    ensures { result ≡ tally_of (store opened.now.mst.now opened.now.xrf.now) }
 {
     let mut named: u32 = 0;
     let mut live: u32 = 0;
-    for m in 1..open.control.next.0 {
-        let one = tally_entry(open, Mfn(m))?;
+    for m in 1..opened.control.next.0 {
+        let one = tally_entry(opened, Mfn(m))?;
         named += one.named;
         live += one.live;
     }
@@ -101,33 +101,33 @@ fn place_hit(mst: &[u8], end: usize, p: Place, s: usize) -> bool
 }
 
 // Whether the entry of the MFN written at the step `s` names this step.
-fn step_hit(open: &OpenStore, s: usize) -> bool
-    requires { (entries_fine (store open.now.mst.now open.now.xrf.now) ≡ true) × (s + 18 ≤ open.now.control.end) }
-    ensures { result ≡ hit (store open.now.mst.now open.now.xrf.now) s }
+fn step_hit(opened: &OpenStore, s: usize) -> bool
+    requires { (entries_fine (store opened.now.mst.now opened.now.xrf.now) ≡ true) × (s + 18 ≤ opened.now.control.end) }
+    ensures { result ≡ hit (store opened.now.mst.now opened.now.xrf.now) s }
 {
-    let m = layout::leader::read_leader(&open.mst[s..open.control.end]).mfn;
-    if m.0 < 1 || open.control.next.0 <= m.0 {
+    let m = layout::leader::read_leader(&opened.mst[s..opened.control.end]).mfn;
+    if m.0 < 1 || opened.control.next.0 <= m.0 {
         return false;
     }
-    let Entry::At(p) = files::cross_reference::entry_at(open.xrf, open.control.end, m) else {
+    let Entry::At(p) = files::cross_reference::entry_at(opened.xrf, opened.control.end, m) else {
         return false;
     };
-    place_hit(open.mst, open.control.end, p, s)
+    place_hit(opened.mst, opened.control.end, p, s)
 }
 
 // The second pass: whether stepping from address 64 on one arrives at the end, and meets all that the entries name.
-pub(crate) fn walk_steps(open: &OpenStore, named: usize) -> bool
-    requires { entries_fine (store open.now.mst.now open.now.xrf.now) ≡ true }
-    ensures { result ≡ walk_of (store open.now.mst.now open.now.xrf.now) named }
+pub(crate) fn walk_steps(opened: &OpenStore, named: usize) -> bool
+    requires { entries_fine (store opened.now.mst.now opened.now.xrf.now) ≡ true }
+    ensures { result ≡ walk_of (store opened.now.mst.now opened.now.xrf.now) named }
 {
     let mut hits: usize = 0;
     let mut at: usize = 64;
-    while at + 18 <= open.control.end {
-        hits += usize::from(step_hit(open, at));
-        let Some(next) = crate::steps::next_step(open.mst, open.control.end, at) else {
+    while at + 18 <= opened.control.end {
+        hits += usize::from(step_hit(opened, at));
+        let Some(next) = crate::steps::next_step(opened.mst, opened.control.end, at) else {
             return false;
         };
         at = next;
     }
-    at == open.control.end && hits == named
+    at == opened.control.end && hits == named
 }

@@ -23,8 +23,8 @@ loop-at-smaller c =
 pub loop-at-preserved : goal.loop-at-preserved
 loop-at-preserved c = search walk_answers
 
-pub returns-then-at-open : goal.returns-then-at-open
-returns-then-at-open c = search walk_answers
+pub returns-then-at-opened : goal.returns-then-at-opened
+returns-then-at-opened c = search walk_answers
 
-pub returns-else-at-open : goal.returns-else-at-open
-returns-else-at-open c = search walk_answers
+pub returns-else-at-opened : goal.returns-else-at-opened
+returns-else-at-opened c = search walk_answers
