@@ -433,10 +433,18 @@ pub extern "C" fn isis_lookup(
     ensures blocks { block.new ≡ block_of (lookup_of (index cnt.now n01.now l01.now n02.now l02.now) term.now) }
     ensures words { word.new ≡ word_of (lookup_of (index cnt.now n01.now l01.now n02.now l02.now) term.now) }
 {
-    let found = index::lookup::lookup(cnt, n01, l01, n02, l02, term);
-    *block = index::lookup::block(found);
-    *word = index::lookup::word(found);
-    index::lookup::answer(found)
+    match index::lookup::lookup(&Index { cnt, n01, l01, n02, l02 }, term) {
+        Ok(place) => {
+            *block = place.block.cast_signed();
+            *word = place.word.cast_signed();
+            0
+        }
+        Err(refusal) => {
+            *block = 0;
+            *word = 0;
+            u32::from(refusal)
+        }
+    }
 }
 
 // Checks a whole index.
@@ -450,7 +458,10 @@ pub extern "C" fn isis_check_index(
 ) -> u32
     ensures { result ≡ index_answer (index cnt.now n01.now l01.now n02.now l02.now) }
 {
-    index_check::check::check_index(cnt, n01, l01, n02, l02)
+    match index_check::check::check_index(&Index { cnt, n01, l01, n02, l02 }) {
+        Ok(()) => 0,
+        Err(broken) => u32::from(broken),
+    }
 }
 
 // The four numbers of a posting of eight bytes.
