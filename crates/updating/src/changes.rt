@@ -41,12 +41,7 @@ fn update_appends(was: Reached, need: usize) -> bool
     matches!(was.place.mark, Mark::Settled) || (was.leader.mfrl as usize) < need
 }
 
-fn plan_update(
-    mst: &[u8],
-    xrf: &[u8],
-    m: Mfn,
-    draft: Draft<'_>,
-) -> Result<NewVersion, Refusal>
+fn plan_update(mst: &[u8], xrf: &[u8], m: Mfn, draft: Draft<'_>) -> Result<NewVersion, Refusal>
     ensures { result ≡ update_plan (store mst.now xrf.now) m.0 (lent draft.entry) }
 {
     let store = OpenStore::open(mst, xrf)?;
@@ -89,12 +84,7 @@ fn plan_delete(mst: &[u8], xrf: &[u8], m: Mfn) -> Result<NewVersion, Refusal>
     }
 }
 
-pub fn update(
-    mst: &mut [u8],
-    xrf: &mut [u8],
-    m: Mfn,
-    draft: Draft<'_>,
-) -> Result<(), Refusal>
+pub fn update(mst: &mut [u8], xrf: &mut [u8], m: Mfn, draft: Draft<'_>) -> Result<(), Refusal>
     ensures answers { result ≡ update_answer (store mst.old xrf.old) m.0 (lent draft.entry) }
     ensures left { store mst.new xrf.new ≡ update_leaves (store mst.old xrf.old) m.0 (lent draft.entry) }
 {
