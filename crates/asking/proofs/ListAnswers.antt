@@ -26,7 +26,7 @@ use Rattle.asking.specs.Listing.{Lists, lists, all_at_least, short_for, listed, 
 use Rattle.views.specs.Versions.{current_version, settled_version, ReadableAt}
 use Rattle.asking.specs.Inner.{listed_in, left_in}
 use Rattle.views.specs.declared.views.Version.{Version}
-use Rattle.views.proofs.VersionAnswers.{settled_from, NoVersion, FoundVersion, current_none, current_there, current_legible, settled_none, settled_there, settled_legible}
+use Rattle.views.proofs.VersionAnswers.{settled_from, NoVersion, FoundVersion, current_none, current_there, settled_none, settled_there}
 
 -- ---- the fields of a version
 
@@ -161,4 +161,4 @@ module _ (mst xrf : List ℕ) (m : ℕ) (l : Lists) (x : Result Version Refusal)
     settled_fields_left k s = s ∙ settled_done.1
 
 pub ruleset list_answers =
-    (list_short, left_short, list_done, left_done, list_able, current_legible, settled_legible, fields_refused, fields_kept, fields_are, fields_left, settled_fields_refused, settled_fields_kept, settled_fields_are, settled_fields_left)
+    (list_short, left_short, list_done, left_done, list_able, fields_refused, fields_kept, fields_are, fields_left, settled_fields_refused, settled_fields_kept, settled_fields_are, settled_fields_left)

@@ -29,4 +29,4 @@ module _ (mst xrf : List ℕ) (m : ℕ) (r : Result Reached Refusal) (p : r ≡ 
       let f = (reached_facts mst xrf m t (sym p ∙ q)).1 in
       rw (f.gate.lengths, f.gate.control, f.found.known, f.found.entry, f.found.record_fine_lem)
 
-pub ruleset state_answers = (next_is, state_refused, state_found)
+pub ruleset state_answers = (state_refused, state_found)

@@ -11,7 +11,8 @@ use store::answer::Refusal;
 use views::views::Version;
 
 // Lists the fields of a version, and gives how many they are.
-// three parameters and no struct: a struct of `&mut` that is handed on leaves `fields::returns-clause-left` open
+// three parameters, not a struct of three `&mut`: handed on whole, such a struct leaves the goal `fields::returns-clause-left` open
+#[tactic(auto, using(crate::proofs::ListAnswers::list_answers))]
 fn list_version(
     mst: &[u8],
     version: Version,
@@ -33,6 +34,7 @@ fn list_version(
 }
 
 // Lists the fields of the current version of MFN `m`, and gives how many they are.
+#[tactic(auto, using(crate::proofs::ListAnswers::list_answers))]
 pub fn fields(
     mst: &[u8],
     xrf: &[u8],
@@ -49,6 +51,7 @@ pub fn fields(
 }
 
 // Lists the fields of the settled version of MFN `m`, and gives how many they are.
+#[tactic(auto, using(crate::proofs::ListAnswers::list_answers))]
 pub fn fields_settled(
     mst: &[u8],
     xrf: &[u8],

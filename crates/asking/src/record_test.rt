@@ -7,6 +7,7 @@ use layout::sizes::Mfn;
 use record::test::Broken;
 
 // Tests the record at the front of `rec`, which stops at the store's end, for MFN `m`, all but its back pointer.
+#[tactic(auto, using(crate::proofs::RecordTestAnswers::test_passes, crate::proofs::RecordTestAnswers::test_fails))]
 pub fn test(rec: &[u8], m: Mfn, deleted: bool) -> Result<(), Broken>
     ensures { tested result ≡ record_test_of rec.now m.0 deleted }
 {
@@ -15,6 +16,7 @@ pub fn test(rec: &[u8], m: Mfn, deleted: bool) -> Result<(), Broken>
 }
 
 // The number of the first entry that breaks a rule, counted from 1; 0 where the leader already fails.
+// a function, not `From`: neither type is declared in this crate
 pub fn entry_number(broken: Broken) -> u32
     ensures { result ≡ number_told broken }
 {

@@ -7,7 +7,6 @@ use files::control::Control;
 use layout::entry::Mark;
 use layout::sizes::Mfn;
 use store::answer::Refusal;
-use store::gate::Reached;
 
 // How a record stands.
 #[derive(Clone, Copy, Debug, PartialEq, Eq)]
@@ -17,6 +16,7 @@ pub struct Standing {
 }
 
 // The next MFN, and where the next record would begin.
+#[tactic(auto, using(crate::proofs::StateAnswers::next_is))]
 pub fn next_free(mst: &[u8], xrf: &[u8]) -> Result<Control, Refusal>
     ensures { next_told result ≡ next_free_of (store mst.now xrf.now) }
 {
@@ -27,7 +27,7 @@ pub fn next_free(mst: &[u8], xrf: &[u8]) -> Result<Control, Refusal>
 pub fn state(mst: &[u8], xrf: &[u8], m: Mfn) -> Result<Standing, Refusal>
     ensures { state_told result ≡ state_of (store mst.now xrf.now) m.0 }
 {
-    let Reached { place, .. } = store::gate::reach(mst, xrf, m)?;
+    let place = store::gate::reach(mst, xrf, m)?.place;
     Ok(Standing {
         mark: place.mark,
         deleted: place.deleted,

@@ -1,3 +1,4 @@
 pub mod Draft
+pub mod Lent
 pub mod Bytes
 pub mod Inner

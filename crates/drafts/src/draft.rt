@@ -1,69 +1,65 @@
-// The draft of a record: three lent slices, tags, lengths and data.
-ghost use Rattle.std.specs.Prelude.{◌≡◌, true, ◌+◌, ◌*◌, ◌≤◌};
-ghost use Rattle.layout.specs.Sizes.{record_most};
-ghost use Rattle.drafts.specs.Inner.{up_to};
-ghost use Rattle.drafts.specs.Draft.{sum, tags_permitted, need_of, draft_right};
+// The draft of a record, and its rules.
+ghost use Rattle.std.specs.Prelude.{◌≡◌, ◌≤◌, length};
+ghost use Rattle.std.specs.List.{list_all};
+ghost use Rattle.layout.specs.Sizes.{fields_most, tag_permitted};
+ghost use Rattle.drafts.specs.Draft.{sum, need_of, is_right};
+ghost use Rattle.drafts.specs.Lent.{lent};
 
 use layout::sizes::{FIELDS_MOST, RECORD_MOST, Tag};
 
-// The sum of the lengths, or one more than a record has bytes where it is more.
+// The sum of the lengths.
+#[tactic(auto, using(crate::proofs::DraftFields::sum_is))]
 fn total(lens: &[u16]) -> usize
-    ensures { result ≡ up_to record_most (sum lens.now) }
+    requires { length lens.now ≤ fields_most }
+    ensures { result ≡ sum lens.now }
 {
-    let mut s: usize = 0;
-    let mut i = 0;
-    while i < lens.len() {
-        s += lens[i] as usize;
-        if RECORD_MOST < s {
-            return RECORD_MOST + 1;
-        }
-        i += 1;
-    }
-    s
+    lens.iter().map(|&len| usize::from(len)).sum()
 }
 
 // Whether every tag is in range.
 fn tags_permitted(tags: &[u16]) -> bool
-    ensures { result ≡ tags_permitted tags.now }
+    ensures { result ≡ list_all tag_permitted tags.now }
 {
-    let mut i = 0;
-    while i < tags.len() {
-        if !layout::sizes::tag_permitted(Tag(tags[i])) {
-            return false;
-        }
-        i += 1;
-    }
-    true
+    tags.iter()
+        .all(|&tag| layout::sizes::tag_permitted(Tag(tag)))
 }
 
 // The bytes that a record of so many fields and so much data needs.
+#[tactic(auto, unfolding(crate::specs::Draft::need_of))]
 pub fn need(fields: usize, size: usize) -> usize
     requires { (fields ≤ 65535) × (size ≤ 65535) }
     ensures { result ≡ need_of fields size }
 {
-    (18 + 6 * fields + size + 1) / 2 * 2
+    (18 + 6 * fields + size).next_multiple_of(2)
 }
 
-// Whether a draft is right.
-pub fn draft_right(tags: &[u16], lens: &[u16], data: &[u8]) -> bool
-    ensures { result ≡ draft_right tags.now lens.now «data».now }
-{
-    let n = tags.len();
-    let size = data.len();
-    if n != lens.len() {
-        return false;
+// The draft of a record: the tags and the lengths of its fields, and their data one after the other, all lent.
+#[derive(Clone, Copy)]
+pub struct Draft<'a> {
+    pub tags: &'a [u16],
+    pub lens: &'a [u16],
+    pub data: &'a [u8],
+}
+
+impl<'a> Draft<'a> {
+    // The bytes that its record needs.
+    pub fn need(self) -> usize
+        requires { (length self.tags.now ≤ 65535) × (length self.data.now ≤ 65535) }
+        ensures { result ≡ need_of (length self.entry.tags.now) (length self.entry.data.now) }
+    {
+        need(self.tags.len(), self.data.len())
     }
-    if FIELDS_MOST < n {
-        return false;
+
+    // Whether it is right.
+    #[tactic(auto, using(crate::proofs::DraftFields::draft_answers), unfolding(crate::specs::Draft::draft_right))]
+    pub fn is_right(self) -> bool
+        ensures { result ≡ is_right (lent self.entry) }
+    {
+        self.tags.len() == self.lens.len()
+            && self.tags.len() <= FIELDS_MOST
+            && self.data.len() <= RECORD_MOST
+            && self.need() <= RECORD_MOST
+            && tags_permitted(self.tags)
+            && total(self.lens) == self.data.len()
     }
-    if RECORD_MOST < size {
-        return false;
-    }
-    if RECORD_MOST < need(n, size) {
-        return false;
-    }
-    if !tags_permitted(tags) {
-        return false;
-    }
-    total(lens) == size
 }

@@ -5,10 +5,12 @@ ghost use Rattle.layout.specs.Sizes.{fields_most};
 ghost use Rattle.layout.specs.Leader.{leader_of};
 ghost use Rattle.record.specs.Fields.{fields_of};
 ghost use Rattle.record.specs.Record.{Readable};
-ghost use Rattle.drafts.specs.Draft.{need_of, draft_right, draft_fields};
+ghost use Rattle.drafts.specs.Draft.{need_of, is_right, fields_in};
+ghost use Rattle.drafts.specs.Lent.{lent};
 ghost use Rattle.drafts.specs.Bytes.{entry_bytes, directory_bytes, used_by, record_bytes, leader_for};
 ghost use Rattle.drafts.specs.Inner.{framed};
 
+use crate::draft::Draft;
 use layout::leader::Leader;
 use layout::sizes::{Block, Mfn, Tag};
 use record::directory::DirectoryEntry;
@@ -40,19 +42,17 @@ fn put_directory_entry(out: &mut [u8], at: usize, e: DirectoryEntry)
 }
 
 // Writes the directory of a draft from byte 18 on. Each POS is the sum of the lengths before it.
-fn put_directory(out: &mut [u8], tags: &[u16], lens: &[u16], data: &[u8])
-    requires data_value { draft_right tags.now lens.now «data».now ≡ true }
-    requires tags_in_bounds { 18 + 6 * length tags.now ≤ length out.old }
-    ensures { out.new ≡ overwrite out.old 18 (directory_bytes 0 (draft_fields tags.now lens.now «data».now)) }
+fn put_directory(out: &mut [u8], draft: Draft<'_>)
+    requires right { is_right (lent draft) ≡ true }
+    requires room { 18 + 6 * length draft.tags.now ≤ length out.old }
+    ensures { out.new ≡ overwrite out.old 18 (directory_bytes 0 (fields_in (lent draft.entry))) }
 {
-    let mut i = 0;
-    let mut pos: u16 = 0;
-    while i < tags.len() {
-        let len = lens[i];
-        let tag = Tag(tags[i]);
+    let mut pos = 0;
+    for (i, &tag) in draft.tags.iter().enumerate() {
+        let len = draft.lens[i];
+        let tag = Tag(tag);
         put_directory_entry(out, 18 + 6 * i, DirectoryEntry { tag, pos, len });
         pos += len;
-        i += 1;
     }
 }
 
@@ -61,21 +61,20 @@ pub fn frame_record(out: &mut [u8], used: usize, l: Leader)
     requires { (18 ≤ used) × (used ≤ l.mfrl) × (l.mfrl ≤ length out.old) }
     ensures { out.new ≡ framed out.old used l }
 {
-    let mfrl = l.mfrl as usize;
     layout::leader::put_leader(out, l);
-    word::bytes::fill(out, used, mfrl - used, 0);
+    word::bytes::fill(out, used, usize::from(l.mfrl) - used, 0);
 }
 
 // Writes a draft's record under the leader `l`, MFRL bytes.
-pub fn write_record(out: &mut [u8], l: Leader, tags: &[u16], lens: &[u16], data: &[u8])
-    requires data_value { draft_right tags.now lens.now «data».now ≡ true }
-    requires data_bound { (need_of (length tags.now) (length «data».now) ≤ l.mfrl) × (l.mfrl ≤ length out.old) }
-    ensures { out.new ≡ overwrite out.old 0 (record_bytes l (draft_fields tags.now lens.now «data».now)) }
+pub fn write_record(out: &mut [u8], l: Leader, draft: Draft<'_>)
+    requires right { is_right (lent draft) ≡ true }
+    requires room { (need_of (length draft.tags.now) (length draft.data.now) ≤ l.mfrl) × (l.mfrl ≤ length out.old) }
+    ensures { out.new ≡ overwrite out.old 0 (record_bytes l (fields_in (lent draft.entry))) }
 {
-    let base = 18 + 6 * tags.len();
-    put_directory(out, tags, lens, data);
-    word::bytes::copy_to(out, base, data);
-    frame_record(out, base + data.len(), l);
+    let base = 18 + 6 * draft.tags.len();
+    put_directory(out, draft);
+    word::bytes::copy_to(out, base, draft.data);
+    frame_record(out, base + draft.data.len(), l);
 }
 
 // The bytes of the record at the front of `rec` up to the end of its data.
@@ -83,7 +82,7 @@ pub fn used_by(rec: &[u8]) -> usize
     requires { Readable rec.now }
     ensures { (result ≡ used_by (fields_of rec.now)) × (18 ≤ result) × (result ≤ (leader_of rec.now).mfrl) }
 {
-    word::integer::u16_at(rec, 12) as usize + record::fields::data_length(rec)
+    usize::from(word::integer::u16_at(rec, 12)) + record::fields::data_length(rec)
 }
 
 // Writes one byte of a record.

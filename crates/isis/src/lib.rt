@@ -6,9 +6,9 @@ ghost use Rattle.std.specs.Prelude.{◌≡◌, true, false, length};
 ghost use Rattle.store.specs.Answer.{number_of};
 ghost use Rattle.writing.specs.Refusals.{format_answer, update_answer, delete_answer, settle_answer, revert_answer};
 ghost use Rattle.writing.specs.Calls.{format_leaves, create_of, create_leaves, update_leaves, delete_leaves, settle_leaves, revert_leaves};
-ghost use Rattle.views.specs.Views.{view_of, settled_view_of};
-ghost use Rattle.views.specs.Fields.{field_of, settled_field_of};
-ghost use Rattle.asking.specs.Listing.{lists, all_fields_of, all_fields_leaves, settled_all_fields_of, settled_all_fields_leaves};
+ghost use Rattle.views.specs.Views.{shown, view_of, settled_view_of};
+ghost use Rattle.views.specs.Fields.{shown_field, field_of, settled_field_of};
+ghost use Rattle.asking.specs.Listing.{lists, listed, all_fields_of, all_fields_leaves, settled_all_fields_of, settled_all_fields_leaves};
 ghost use Rattle.asking.specs.State.{next_free_of, state_of, mark_number, deleted_number};
 ghost use Rattle.asking.specs.RecordTest.{is_deleted, record_test_of};
 ghost use Rattle.soundness.specs.Sound.{check_answer};
@@ -26,9 +26,89 @@ ghost use Rattle.merging.specs.Calls.{mfns_given, mfns_out};
 ghost use Rattle.store.specs.Store.{store};
 ghost use Rattle.drafts.specs.Draft.{draft};
 
+use drafts::draft::Draft;
 use layout::sizes::{Mfn, Tag};
-use store::answer::number;
+use record::fields::Span;
+use store::answer::{Refusal, number};
+use views::views::occurrences_told;
+use walking::walker::Spot;
 use word::signed::to_bits;
+
+// Hands out where a field lies, nowhere where it is refused, and how often its tag occurs, which only answer 15 tells.
+#[tactic(auto, unfolding(store::specs::Answer::number_of))]
+fn hand_out_span(
+    found: Result<Span, Refusal>,
+    start: &mut usize,
+    len: &mut usize,
+    occurrences: &mut u32,
+) -> u32
+    ensures answers { result ≡ number_of (shown found).answer }
+    ensures first { start.new ≡ (shown found).start }
+    ensures size { len.new ≡ (shown found).len }
+    ensures counted { occurrences.new ≡ (shown found).occurrences }
+{
+    match found {
+        Ok(span) => {
+            *start = span.start;
+            *len = span.len;
+            *occurrences = 0;
+            0
+        }
+        Err(refusal) => {
+            *start = 0;
+            *len = 0;
+            *occurrences = occurrences_told(refusal);
+            u32::from(refusal)
+        }
+    }
+}
+
+// Hands out a field's tag, and where it lies; 0 and nowhere where it is refused.
+#[tactic(auto, unfolding(store::specs::Answer::number_of))]
+fn hand_out_spot(
+    found: Result<Spot, Refusal>,
+    tag: &mut u16,
+    start: &mut usize,
+    len: &mut usize,
+) -> u32
+    ensures answers { result ≡ number_of (shown_field found).answer }
+    ensures tagged { tag.new ≡ (shown_field found).tag.0 }
+    ensures first { start.new ≡ (shown_field found).start }
+    ensures size { len.new ≡ (shown_field found).len }
+{
+    match found {
+        Ok(spot) => {
+            *tag = spot.tag.0;
+            *start = spot.start;
+            *len = spot.len;
+            0
+        }
+        Err(refusal) => {
+            *tag = 0;
+            *start = 0;
+            *len = 0;
+            u32::from(refusal)
+        }
+    }
+}
+
+// Hands out how many fields were listed, 0 where that is refused.
+#[tactic(auto, unfolding(store::specs::Answer::number_of))]
+fn hand_out_count(counted: Result<usize, Refusal>, count: &mut usize) -> u32
+    ensures answers { result ≡ number_of (listed counted).answer }
+    ensures counts { count.new ≡ (listed counted).count }
+{
+    match counted {
+        Ok(n) => {
+            *count = n;
+            0
+        }
+        Err(refusal) => {
+            *count = 0;
+            u32::from(refusal)
+        }
+    }
+}
 
 // Empties both buffers.
 #[unsafe(no_mangle)]
@@ -56,12 +136,8 @@ pub extern "C" fn isis_view(
     ensures size { len.new ≡ (view_of (store mst.now xrf.now) mfn tag occurrence).len }
     ensures counted { occurrences.new ≡ (view_of (store mst.now xrf.now) mfn tag occurrence).occurrences }
 {
-    let shown = views::views::view(mst, xrf, Mfn(mfn), Tag(tag), occurrence);
-    *start = shown.start;
-    *len = shown.len;
-    *occurrences = shown.occurrences;
-    let a = shown.answer;
-    number(a)
+    let found = views::views::view(mst, xrf, Mfn(mfn), Tag(tag), occurrence);
+    hand_out_span(found, start, len, occurrences)
 }
 
 // The same for the settled version.
@@ -81,12 +157,8 @@ pub extern "C" fn isis_view_settled(
     ensures size { len.new ≡ (settled_view_of (store mst.now xrf.now) mfn tag occurrence).len }
     ensures counted { occurrences.new ≡ (settled_view_of (store mst.now xrf.now) mfn tag occurrence).occurrences }
 {
-    let shown = views::views::view_settled(mst, xrf, Mfn(mfn), Tag(tag), occurrence);
-    *start = shown.start;
-    *len = shown.len;
-    *occurrences = shown.occurrences;
-    let a = shown.answer;
-    number(a)
+    let found = views::views::view_settled(mst, xrf, Mfn(mfn), Tag(tag), occurrence);
+    hand_out_span(found, start, len, occurrences)
 }
 
 // The field at an index of the current version: its tag, and where it lies in the MST.
@@ -105,12 +177,8 @@ pub extern "C" fn isis_field(
     ensures first { start.new ≡ (field_of (store mst.now xrf.now) mfn index).start }
     ensures size { len.new ≡ (field_of (store mst.now xrf.now) mfn index).len }
 {
-    let shown = views::walk::field_at(mst, xrf, Mfn(mfn), index);
-    *tag = shown.tag.0;
-    *start = shown.start;
-    *len = shown.len;
-    let a = shown.answer;
-    number(a)
+    let found = views::walk::field_at(mst, xrf, Mfn(mfn), index);
+    hand_out_spot(found, tag, start, len)
 }
 
 // The same for the settled version.
@@ -129,12 +197,8 @@ pub extern "C" fn isis_field_settled(
     ensures first { start.new ≡ (settled_field_of (store mst.now xrf.now) mfn index).start }
     ensures size { len.new ≡ (settled_field_of (store mst.now xrf.now) mfn index).len }
 {
-    let shown = views::walk::settled_field_at(mst, xrf, Mfn(mfn), index);
-    *tag = shown.tag.0;
-    *start = shown.start;
-    *len = shown.len;
-    let a = shown.answer;
-    number(a)
+    let found = views::walk::settled_field_at(mst, xrf, Mfn(mfn), index);
+    hand_out_spot(found, tag, start, len)
 }
 
 // All fields of the current version: their tags, and where they lie in the MST, in three lists; how many they are goes to `count`.
@@ -153,9 +217,7 @@ pub extern "C" fn isis_fields(
     ensures left { lists tags.new starts.new lens.new ≡ all_fields_leaves (store mst.now xrf.now) mfn (lists tags.old starts.old lens.old) }
 {
     let listed = asking::listing::fields(mst, xrf, Mfn(mfn), tags, starts, lens);
-    *count = listed.count;
-    let a = listed.answer;
-    number(a)
+    hand_out_count(listed, count)
 }
 
 // The same for the settled version.
@@ -174,9 +236,7 @@ pub extern "C" fn isis_fields_settled(
     ensures left { lists tags.new starts.new lens.new ≡ settled_all_fields_leaves (store mst.now xrf.now) mfn (lists tags.old starts.old lens.old) }
 {
     let listed = asking::listing::fields_settled(mst, xrf, Mfn(mfn), tags, starts, lens);
-    *count = listed.count;
-    let a = listed.answer;
-    number(a)
+    hand_out_count(listed, count)
 }
 
 // The next MFN, and the address of the end.
@@ -186,11 +246,18 @@ pub extern "C" fn isis_next(mst: &[u8], xrf: &[u8], next: &mut u32, end: &mut us
     ensures number { next.new ≡ (next_free_of (store mst.now xrf.now)).next.0 }
     ensures address { end.new ≡ (next_free_of (store mst.now xrf.now)).end }
 {
-    let shown = asking::state::next_free(mst, xrf);
-    *next = shown.next.0;
-    *end = shown.end;
-    let a = shown.answer;
-    number(a)
+    match asking::state::next_free(mst, xrf) {
+        Ok(control) => {
+            *next = control.next.0;
+            *end = control.end;
+            0
+        }
+        Err(refusal) => {
+            *next = 0;
+            *end = 0;
+            u32::from(refusal)
+        }
+    }
 }
 
 // The mark of a record, 0 settled, 1 changed, 2 new, and whether it is deleted, 0 or 1.
@@ -206,12 +273,18 @@ pub extern "C" fn isis_state(
     ensures marked { mark.new ≡ mark_number (state_of (store mst.now xrf.now) mfn).mark }
     ensures dead { deleted.new ≡ deleted_number (state_of (store mst.now xrf.now) mfn).deleted }
 {
-    let shown = asking::state::state(mst, xrf, Mfn(mfn));
-    let k = shown.mark;
-    *mark = asking::state::mark_number(k);
-    *deleted = asking::state::deleted_number(shown.deleted);
-    let a = shown.answer;
-    number(a)
+    match asking::state::state(mst, xrf, Mfn(mfn)) {
+        Ok(standing) => {
+            *mark = asking::state::mark_number(standing.mark);
+            *deleted = u32::from(standing.deleted);
+            0
+        }
+        Err(refusal) => {
+            *mark = 0;
+            *deleted = 0;
+            u32::from(refusal)
+        }
+    }
 }
 
 // Writes a new record; its MFN goes to `mfn`.
@@ -228,10 +301,16 @@ pub extern "C" fn isis_create(
     ensures returned { mfn.new ≡ (create_of (store mst.old xrf.old) (draft tags.now lens.now «data».now)).mfn.0 }
     ensures left { store mst.new xrf.new ≡ create_leaves (store mst.old xrf.old) (draft tags.now lens.now «data».now) }
 {
-    let made = writing::create::create(mst, xrf, tags, lens, data);
-    *mfn = made.mfn.0;
-    let a = made.answer;
-    number(a)
+    match writing::create::create(mst, xrf, Draft { tags, lens, data }) {
+        Ok(made) => {
+            *mfn = made.0;
+            0
+        }
+        Err(refusal) => {
+            *mfn = 0;
+            u32::from(refusal)
+        }
+    }
 }
 
 // Writes a new version of a record.
@@ -247,7 +326,8 @@ pub extern "C" fn isis_update(
     ensures answers { result ≡ number_of (update_answer (store mst.old xrf.old) mfn (draft tags.now lens.now «data».now)) }
     ensures left { store mst.new xrf.new ≡ update_leaves (store mst.old xrf.old) mfn (draft tags.now lens.now «data».now) }
 {
-    number(updating::changes::update(mst, xrf, Mfn(mfn), tags, lens, data))
+    let draft = Draft { tags, lens, data };
+    number(updating::changes::update(mst, xrf, Mfn(mfn), draft))
 }
 
 // Deletes a record.
@@ -317,10 +397,16 @@ pub extern "C" fn isis_record_test(rec: &[u8], mfn: u32, deleted: u32, entry: &m
     ensures answers { result ≡ number_of (record_test_of rec.now mfn (is_deleted deleted)).answer }
     ensures entries { entry.new ≡ (record_test_of rec.now mfn (is_deleted deleted)).entry }
 {
-    let tested = asking::record_test::test(rec, Mfn(mfn), deleted != 0);
-    *entry = tested.entry;
-    let a = tested.answer;
-    number(a)
+    match asking::record_test::test(rec, Mfn(mfn), deleted != 0) {
+        Ok(()) => {
+            *entry = 0;
+            0
+        }
+        Err(broken) => {
+            *entry = asking::record_test::entry_number(broken);
+            u32::from(Refusal::BadRecord)
+        }
+    }
 }
 
 // Checks the whole store.
@@ -347,10 +433,18 @@ pub extern "C" fn isis_lookup(
     ensures blocks { block.new ≡ block_of (lookup_of (index cnt.now n01.now l01.now n02.now l02.now) term.now) }
     ensures words { word.new ≡ word_of (lookup_of (index cnt.now n01.now l01.now n02.now l02.now) term.now) }
 {
-    let found = index::lookup::lookup(cnt, n01, l01, n02, l02, term);
-    *block = index::lookup::block(found);
-    *word = index::lookup::word(found);
-    index::lookup::answer(found)
+    match index::lookup::lookup(&Index { cnt, n01, l01, n02, l02 }, term) {
+        Ok(place) => {
+            *block = place.block.cast_signed();
+            *word = place.word.cast_signed();
+            0
+        }
+        Err(refusal) => {
+            *block = 0;
+            *word = 0;
+            u32::from(refusal)
+        }
+    }
 }
 
 // Checks a whole index.
@@ -364,7 +458,10 @@ pub extern "C" fn isis_check_index(
 ) -> u32
     ensures { result ≡ index_answer (index cnt.now n01.now l01.now n02.now l02.now) }
 {
-    index_check::check::check_index(cnt, n01, l01, n02, l02)
+    match index_check::check::check_index(&Index { cnt, n01, l01, n02, l02 }) {
+        Ok(()) => 0,
+        Err(broken) => u32::from(broken),
+    }
 }
 
 // The four numbers of a posting of eight bytes.

@@ -17,19 +17,21 @@ pub struct Lengths {
     pub bytes: u32,
 }
 
-// The nine lengths at the head of a list, of which the first was read.
-pub fn read_lengths(mst: u32, numbers: &mut Numbers) -> Lengths
-    ensures { length numbers.new.text.now ≤ length numbers.old.text.now }
-{
-    Lengths {
-        mst,
-        xrf: numbers.next_or_zero(),
-        answers: numbers.next_or_zero(),
-        shown: numbers.next_or_zero(),
-        ops: numbers.next_or_zero(),
-        mfns: numbers.next_or_zero(),
-        tags: numbers.next_or_zero(),
-        lens: numbers.next_or_zero(),
-        bytes: numbers.next_or_zero(),
+impl Lengths {
+    // The nine lengths at the head of a list, of which the first was read.
+    pub fn read(mst: u32, numbers: &mut Numbers) -> Lengths
+        ensures { length numbers.new.text.now ≤ length numbers.old.text.now }
+    {
+        Lengths {
+            mst,
+            xrf: numbers.next_or_zero(),
+            answers: numbers.next_or_zero(),
+            shown: numbers.next_or_zero(),
+            ops: numbers.next_or_zero(),
+            mfns: numbers.next_or_zero(),
+            tags: numbers.next_or_zero(),
+            lens: numbers.next_or_zero(),
+            bytes: numbers.next_or_zero(),
+        }
     }
 }

@@ -1,5 +1,5 @@
 // Decimal numbers read from a text. What stands between them does not count; a number that is too high is the highest.
-ghost use Rattle.std.specs.Prelude.{◌<◌, ◌≤◌, length, IfSome, IfNone};
+ghost use Rattle.std.specs.Prelude.{◌≡◌, ◌<◌, ◌≤◌, ℕ, length, min, IfSome, IfNone};
 
 use crate::parts::front;
 
@@ -31,42 +31,55 @@ impl<'a> Numbers<'a> {
     {
         self.next_number().unwrap_or(0)
     }
+
+    // Reads the next `count` numbers, or as many as `out` holds, and gives them.
+    pub fn read<'b, T: FromNumber + Drop>(&mut self, count: u32, out: &'b mut [T]) -> &'b [T]
+        ensures { length self.new.text.now ≤ length self.old.text.now }
+    {
+        let out = front(out, count);
+        for x in out.iter_mut() {
+            *x = T::from_number(self.next_or_zero());
+        }
+        out
+    }
 }
 
 // A number of a list: one that is too high is the highest.
 pub trait FromNumber {
-    fn from_number(n: u32) -> Self;
+    ghost value: { Self → ℕ };
+
+    ghost highest: { ℕ };
+
+    fn from_number(n: u32) -> Self
+        ensures { value result ≡ min n highest };
 }
 
 impl FromNumber for u32 {
+    ghost value = { λ x. x };
+
+    ghost highest = { 4294967295 };
+
     fn from_number(n: u32) -> u32 {
         n
     }
 }
 
 impl FromNumber for u16 {
+    ghost value = { λ x. x };
+
+    ghost highest = { 65535 };
+
     fn from_number(n: u32) -> u16 {
         u16::try_from(n).unwrap_or(u16::MAX)
     }
 }
 
 impl FromNumber for u8 {
+    ghost value = { λ x. x };
+
+    ghost highest = { 255 };
+
     fn from_number(n: u32) -> u8 {
         u8::try_from(n).unwrap_or(u8::MAX)
     }
-}
-
-// Reads so many numbers, or as many as `out` holds, and gives them.
-pub fn read<'a, T: FromNumber + Drop>(
-    numbers: &mut Numbers,
-    count: u32,
-    out: &'a mut [T],
-) -> &'a [T]
-    ensures { length numbers.new.text.now ≤ length numbers.old.text.now }
-{
-    let out = front(out, count);
-    for x in out.iter_mut() {
-        *x = T::from_number(numbers.next_or_zero());
-    }
-    out
 }

@@ -20,14 +20,10 @@ use Rattle.store.specs.Answer.{Row, refuse, lowest, Answer}
 use Rattle.store.specs.Reading.{lengths_permitted, mfn_in_range, place_in, is_malformed, is_gone}
 use Rattle.store.specs.declared.answer.Refusal.TheVariants.{BadLength, BadControl, NoMfn, BadEntry, Gone as GoneAnswer, BadRecord, Deleted, NeverSettled, NoField, NoRoomInList}
 use Rattle.walking.specs.Walker.{at_end}
-use Rattle.views.specs.Views.{among_fields, shown_at}
-use Rattle.views.specs.Fields.{handed_out}
-use Rattle.views.specs.declared.views.Shown.{Shown}
-use Rattle.views.specs.declared.walk.ShownField.{ShownField}
-use Rattle.asking.specs.State.{state_shown}
-use Rattle.asking.specs.Listing.{Lists, short_for, counted, leaves}
-use Rattle.asking.specs.declared.state.RecordState.{RecordState}
-use Rattle.asking.specs.declared.listing.Listed.{Listed}
+use Rattle.views.specs.Views.{Shown, among_fields, shown_at}
+use Rattle.views.specs.Fields.{ShownField, handed_out}
+use Rattle.asking.specs.State.{RecordState, state_shown}
+use Rattle.asking.specs.Listing.{Lists, Listed, short_for, counted, leaves}
 use Rattle.soundness.specs.Sound.{bit, sum_to, is_live, all_to, elem, implies, heads_right, rest_free}
 
 -- ---- entries and records

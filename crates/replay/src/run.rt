@@ -21,6 +21,7 @@ pub fn run(
     ensures { Runs (store mst.old xrf.old) (script_of list.now) answers.old shown.old result (store mst.new xrf.new) answers.new shown.new }
 {
     let mut at = Cursor::default();
+    // A loop, as what a turn needs is what the turn before it left: the cursor, the buffers and the rooms; how many turns there are, it tells.
     loop {
         match turns::one_turn(mst, xrf, list, answers, shown, at) {
             Ok(next) => at = next,

@@ -7,8 +7,8 @@
 
 ghost use Rattle.std.specs.Prelude.{◌≤◌, IfOk, length};
 
-use lists::list::{Lengths, read_lengths};
-use lists::numbers::{Numbers, read};
+use lists::list::Lengths;
+use lists::numbers::Numbers;
 use lists::parts::front;
 use script::lists::Script;
 use std::io;
@@ -37,13 +37,13 @@ fn replay_list(rt: &impl Print, first: u32, numbers: &mut Numbers) -> io::Result
     let mut tags = [0u16; 2048];
     let mut lens = [0u16; 2048];
     let mut bytes = [0u8; 16384];
-    let n = read_lengths(first, numbers);
+    let n = Lengths::read(first, numbers);
     let list = Script {
-        ops: read(numbers, n.ops, &mut ops),
-        mfns: read(numbers, n.mfns, &mut mfns),
-        tags: read(numbers, n.tags, &mut tags),
-        lens: read(numbers, n.lens, &mut lens),
-        bytes: read(numbers, n.bytes, &mut bytes),
+        ops: numbers.read(n.ops, &mut ops),
+        mfns: numbers.read(n.mfns, &mut mfns),
+        tags: numbers.read(n.tags, &mut tags),
+        lens: numbers.read(n.lens, &mut lens),
+        bytes: numbers.read(n.bytes, &mut bytes),
     };
     replay_calls(rt, &n, &list)
 }
@@ -62,6 +62,7 @@ fn read_full<R: Read>(input: &mut R, buf: &mut [u8]) -> io::Result<usize>
     ensures { IfOk result (λ got. got ≤ length buf.new) }
 {
     let mut got = 0;
+    // No heap: what std has for reading up to an end fills a buffer that grows.
     while got < buf.len() {
         let n = input.read(&mut buf[got..])?;
         if n == 0 {

@@ -1,6 +1,6 @@
 -- The five numbers of an outcome are copied into a part of the room; where it lists answers, these were written right behind them before.
-use Prim.Native.Nat.{ℕ, ◌+◌, ◌≤◌}
-use native.Mathlib.Nat.{add_assoc}
+use Prim.Native.Nat.{ℕ, ◌+◌, ◌-◌, ◌≤◌}
+use native.Mathlib.Nat.{add_assoc, add-sub_cancel_left}
 use native.Mathlib.Omega.{arith}
 use mathlib.Core.Path.{◌≡◌, sym, ap, ◌∙◌}
 use mathlib.Core.List.{List, ◌++◌, append_assoc}
@@ -14,6 +14,10 @@ use Rattle.word.proofs.Overwrite.{overwrite_runs, overwrite_take, overwrite_drop
 pub place_part : (d ys : List ℕ) (i k : ℕ) → length ys ≡ k → put_mid i k d ys ≡ overwrite d i ys
 place_part d ys i k l =
     ap (λ (r : List ℕ). take i d ++ (ys ++ r)) (drop-drop k i d ∙ ap (λ (n : ℕ). drop (i + n) d) (sym l)) ∙ sym (overwrite_runs d i ys)
+
+-- a part that begins at i and has k numbers, in which ys came to stand
+pub copied_part : (d xs ys : List ℕ) (i k : ℕ) → ys ≡ xs → length xs ≡ k → put_mid i (i + k - i) d ys ≡ overwrite d i xs
+copied_part d xs ys i k e l = rw (e, add-sub_cancel_left i k) (place_part d xs i k l)
 
 -- and xs are written before it
 pub before_part : (d xs ys : List ℕ) (i k : ℕ) → i + length xs ≤ length d → length ys ≡ k

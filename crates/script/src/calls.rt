@@ -1,6 +1,7 @@
 // A call read from five numbers of a list.
-ghost use Rattle.std.specs.Prelude.{◌≡◌};
-ghost use Rattle.script.specs.Ops.{counts_fit, view_op, op_named, taken_by, op_in};
+ghost use Rattle.std.specs.Prelude.{◌≡◌, leb};
+ghost use Rattle.std.specs.Bool.{then_some};
+ghost use Rattle.script.specs.Ops.{counts_fit, tag_of, op_named, taken_by, op_in};
 
 use layout::sizes::{Mfn, Tag};
 
@@ -76,7 +77,7 @@ impl Op {
         match self {
             Op::Asks(_) => Counts::default(),
             Op::Writes(_, n) => n,
-            Op::Settles { mfns, lent: _ } => Counts {
+            Op::Settles { mfns, .. } => Counts {
                 mfns,
                 ..Counts::default()
             },
@@ -84,29 +85,15 @@ impl Op {
     }
 }
 
-// A view, whose tag is to be a number of 16 bits.
-fn view_op(settled: bool, m: u32, tag: u32, occurrence: u32) -> Option<Op>
-    ensures { result ≡ view_op settled m tag occurrence }
+// A tag, which is to be a number of 16 bits.
+fn tag_of(n: u32) -> Option<Tag>
+    ensures { result ≡ then_some (leb n 65535) (tag_of n) }
 {
-    let mfn = Mfn(m);
-    let tag = Tag(u16::try_from(tag).ok()?);
-    Some(Op::Asks(if settled {
-        Reading::Settled {
-            mfn,
-            tag,
-            occurrence,
-        }
-    } else {
-        Reading::View {
-            mfn,
-            tag,
-            occurrence,
-        }
-    }))
+    Some(Tag(u16::try_from(n).ok()?))
 }
 
 // The call that five numbers stand for.
-#[tactic(auto, using(crate::proofs::Decoding::op_none), unfolding(crate::specs::Ops::op_named))]
+#[tactic(auto, unfolding(crate::specs::Ops::op_named))]
 fn op_named(call: u32, m: u32, x: u32, y: u32, z: u32) -> Option<Op>
     ensures { result ≡ op_named call m x y z }
 {
@@ -119,8 +106,16 @@ fn op_named(call: u32, m: u32, x: u32, y: u32, z: u32) -> Option<Op>
     };
     Some(match call {
         0 => Op::Writes(Writing::Format, none),
-        1 => return view_op(false, m, x, y),
-        2 => return view_op(true, m, x, y),
+        1 => Op::Asks(Reading::View {
+            mfn: Mfn(m),
+            tag: tag_of(x)?,
+            occurrence: y,
+        }),
+        2 => Op::Asks(Reading::Settled {
+            mfn: Mfn(m),
+            tag: tag_of(x)?,
+            occurrence: y,
+        }),
         3 => Op::Writes(Writing::Create, draft),
         4 => Op::Writes(Writing::Update(Mfn(m)), draft),
         5 => Op::Writes(Writing::Delete(Mfn(m)), none),

@@ -20,6 +20,7 @@ pub struct Outcome {
 
 impl Outcome {
     // Writes the five numbers at `i`.
+    #[tactic(auto, using(crate::proofs::Numbers::copied_part))]
     pub fn put(self, answers: &mut [u32], i: usize)
         requires { i + outcome_size ≤ length answers.old }
         ensures { answers.new ≡ overwrite answers.old i (five_of self) }

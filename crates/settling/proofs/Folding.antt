@@ -8,10 +8,9 @@ use native.Mathlib.Omega.{arith}
 use mathlib.Core.Path.{◌≡◌, refl, sym, ap, ◌∙◌}
 use mathlib.Core.Bool.{Bool, true, false, not}
 use mathlib.Core.List.{List, [], ◌∷◌, ◌++◌, map, map-append}
-use lib.Dec.{leb}
 use lib.ListN.{length, get_or, take, set, length-map, length-set}
 use lib.Seq.{take-suc, take_all, length-take-le}
-use borrow.Author.Tests.{not-false, eq-eqb, ne_eqb, eqb-true}
+use borrow.Author.Tests.{not-false, eqb-true}
 use Rattle.word.specs.Overwrite.{overwrite}
 use Rattle.word.proofs.Tests.{tests, and_left}
 use Rattle.word.proofs.Overwrite.{overwrite_none, overwrite_whole, overwrite_more}
@@ -56,14 +55,6 @@ module _ (s : Store) (ms : List ℕ) (i : ℕ) (h : i < length ms) where
 -- ---- two lists of these lengths
 
 module _ (mfns answers : ℕ) where
-  pub lists_unequal : (mfns ≡ answers → ⊥) → false ≡ lists_right mfns answers
-  unfolding lists_right
-  lists_unequal h = rw (ne_eqb mfns answers h)
-
-  pub lists_equal : mfns ≡ answers → leb mfns list_most ≡ lists_right mfns answers
-  unfolding lists_right
-  lists_equal h = rw (eq-eqb mfns answers h)
-
   pub lists_same : lists_right mfns answers ≡ true → mfns ≡ answers
   unfolding lists_right
   lists_same e = eqb-true mfns answers (and_left _ _ e)

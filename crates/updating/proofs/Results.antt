@@ -1,9 +1,8 @@
 -- What update and delete return and leave, one law for each way that they return: its premises are the plan and the promise of the write.
-use Rattle.std.specs.Prelude.{Ok, Err}
+use Rattle.std.specs.Prelude.{Result, Ok, Err}
 use Prim.Native.Nat.{ℕ, ◌+◌, ◌≤◌}
 use native.Mathlib.Omega.{arith}
-use mathlib.Core.Path.{◌≡◌, sym, ◌∙◌}
-use mathlib.Core.Logic.{⊎_elim}
+use mathlib.Core.Path.{◌≡◌, sym, ap, ◌∙◌}
 use mathlib.Core.Bool.{Bool, true, false, not, ◌&&◌}
 use mathlib.Core.List.{List}
 use lib.ListN.{length}
@@ -25,13 +24,13 @@ use Rattle.store.specs.Refusals.{fine}
 use Rattle.writing.specs.Refusals.{exceeds, update_answer, delete_answer}
 use Rattle.versions.specs.Written.{update_appends, place_at_end, pending_mark, version_appended, version_in_place, updated_mst, updated_xrf, deleted_mst, deleted_xrf}
 use Rattle.writing.specs.Calls.{update_leaves, delete_leaves}
-use Rattle.updating.specs.Plans.{plan_if, plan_answer, update_plan, delete_plan}
+use Rattle.updating.specs.Plans.{plan_if, update_plan, delete_plan}
 use Rattle.versions.specs.Asked.{HasSlot, AtEnd, DraftFits, RecordRead}
 use Rattle.store.specs.declared.answer.Refusal.TheVariants.{BadControl, BadDraft, Deleted, NoRoom}
-use Rattle.updating.specs.declared.changes.Plan.{Plan}
-use Rattle.updating.specs.declared.changes.Plan.TheVariants.{NewVersion, Refuse}
+use Rattle.updating.specs.declared.changes.NewVersion.{NewVersion}
+use Rattle.store.specs.declared.answer.Refusal.{Refusal}
 use Rattle.writing.proofs.Counted.{delete_late}
-use Rattle.store.proofs.Gates.{Refusing, after_refused, after_cases, passed, gate_done, named_done, Planned, planned_at}
+use Rattle.store.proofs.Gates.{given_refused, given_done, passed, gate_done, named_done, Planned, planned_at}
 use Rattle.versions.proofs.Told.{need_low, draft_fits, is_at_end, slot_known, read_known}
 use Rattle.store.specs.Store.{store}
 
@@ -42,25 +41,22 @@ and_true_false false b e h = absurd (false_true h)
 -- ---- plans of a new version
 
 module _ (a : Answer) (appends : Bool) (mst xrf : List ℕ) (m : ℕ) where
-  plan_new : Plan
-  plan_new = NewVersion (end_of mst) (place_for (store mst xrf) m) (leader_at mst (place_for (store mst xrf) m)) appends
+  plan_writes : (v : NewVersion) → plan_if a appends (store mst xrf) m ≡ Ok v
+      → (a ≡ Ok tt) × (appends ≡ v.appends) × (v.was.end ≡ end_of mst) × (place_for (store mst xrf) m ≡ v.was.place)
+      × (leader_at mst (place_for (store mst xrf) m) ≡ v.was.leader)
+  unfolding plan_if
+  plan_writes v e =
+      let h = given_done a _ v e in (
+        h.0,
+        ap (λ (x : NewVersion). x.appends) h.1,
+        ap (λ (x : NewVersion). x.was.end) (sym h.1),
+        ap (λ (x : NewVersion). x.was.place) h.1,
+        ap (λ (x : NewVersion). x.was.leader) h.1,
+      )
 
-  plan_writes : (end : ℕ) (p : Place) (l : Leader) (b : Bool) → plan_if a appends (store mst xrf) m ≡ NewVersion end p l b
-      → (a ≡ Ok tt) × (appends ≡ b) × (end ≡ end_of mst) × (place_for (store mst xrf) m ≡ p) × (leader_at mst (place_for (store mst xrf) m) ≡ l)
-  unfolding plan_if plan_new
-  plan_writes end p l b e =
-      ⊎_elim
-      (λ d. let q : plan_new ≡ NewVersion end p l b = sym d.1 ∙ e in (d.0, (cc), (cc), (cc), (cc)))
-      (λ h. let q : Refuse a ≡ NewVersion end p l b = sym h.1 ∙ e in let z : ◌≡◌ {A = ℕ} 0 1 = cc in absurd (omega arith))
-      (after_cases a plan_new (Refuse a))
-
-  plan_refuses : (r : Answer) → plan_if a appends (store mst xrf) m ≡ Refuse r → Refusing a × (r ≡ a)
-  unfolding plan_if plan_new
-  plan_refuses r e =
-      ⊎_elim
-      (λ d. let q : plan_new ≡ Refuse r = sym d.1 ∙ e in let z : ◌≡◌ {A = ℕ} 0 1 = cc in absurd (omega arith))
-      (λ h. let q : Refuse a ≡ Refuse r = sym h.1 ∙ e in (h.0, (cc)))
-      (after_cases a plan_new (Refuse a))
+  plan_refuses : (r : Refusal) → plan_if a appends (store mst xrf) m ≡ Err r → a ≡ Err r
+  unfolding plan_if
+  plan_refuses r e = given_refused a _ r e
 
 -- ---- update
 
@@ -82,59 +78,57 @@ module _ (mst xrf : List ℕ) (m : ℕ) (tags lens bytes : List ℕ) where
       (λ z. omega arith) x.1 in
       (planned_at mst xrf m p l g.0 g.1 k.0 k.1 k.2 f h, not-false _ d.0, y.0)
 
-  module _ (plan : Plan) (u : plan ≡ update_plan (store mst xrf) m (draft tags lens bytes)) where
-    pub update_refused : (a r : Answer) → plan ≡ Refuse a → r ≡ plan_answer plan
-        → (r ≡ update_answer (store mst xrf) m (draft tags lens bytes)) × (store mst xrf ≡ update_leaves (store mst xrf) m (draft tags lens bytes))
-    unfolding update_plan update_leaves
-    update_refused a r q s =
-        let h = plan_refuses (update_answer (store mst xrf) m (draft tags lens bytes)) _ mst xrf m a (sym u ∙ q) in
-        let t : r ≡ a = rw q at s in
-        (t ∙ h.1, sym (after_refused (update_answer (store mst xrf) m (draft tags lens bytes)) _ (store mst xrf) h.0))
+  module _ (plan : Result NewVersion Refusal) (u : plan ≡ update_plan (store mst xrf) m (draft tags lens bytes)) where
+    pub update_refused : (r : Refusal) → plan ≡ Err r → (Err r ≡ update_answer (store mst xrf) m (draft tags lens bytes)) × (store mst xrf ≡ update_leaves (store mst xrf) m (draft tags lens bytes))
+    unfolding update_plan update_leaves after
+    update_refused r q =
+        let h = plan_refuses (update_answer (store mst xrf) m (draft tags lens bytes)) _ mst xrf m r (sym u ∙ q) in
+        (sym h, rw h)
 
-    module _ (end : ℕ) (p : Place) (l : Leader) (b : Bool) (q : plan ≡ NewVersion end p l b) where
+    module _ (v : NewVersion) (q : plan ≡ Ok v) where
       versioning : (update_answer (store mst xrf) m (draft tags lens bytes) ≡ Ok tt)
-          × (update_appends (place_for (store mst xrf) m) (leader_at mst (place_for (store mst xrf) m)) (need_for drafted) ≡ b)
-          × (end ≡ end_of mst) × (place_for (store mst xrf) m ≡ p) × (leader_at mst (place_for (store mst xrf) m) ≡ l)
+          × (update_appends (place_for (store mst xrf) m) (leader_at mst (place_for (store mst xrf) m)) (need_for drafted) ≡ v.appends)
+          × (v.was.end ≡ end_of mst) × (place_for (store mst xrf) m ≡ v.was.place) × (leader_at mst (place_for (store mst xrf) m) ≡ v.was.leader)
       unfolding update_plan
       versioning =
           plan_writes (update_answer (store mst xrf) m (draft tags lens bytes))
-          (update_appends (place_for (store mst xrf) m) (leader_at mst (place_for (store mst xrf) m)) (need_for drafted)) mst xrf m end p l b (sym u ∙ q)
+          (update_appends (place_for (store mst xrf) m) (leader_at mst (place_for (store mst xrf) m)) (need_for drafted)) mst xrf m v (sym u ∙ q)
 
-      update_planned : Planned mst xrf m p l × (draft_right tags lens bytes ≡ true)
+      update_planned : Planned mst xrf m v.was.place v.was.leader × (draft_right tags lens bytes ≡ true)
           × (update_appends (place_for (store mst xrf) m) (leader_at mst (place_for (store mst xrf) m)) (need_for drafted) && exceeds mst (need_for drafted) ≡ false)
-      update_planned = let v = versioning in update_passed p l v.0 v.3 v.4
+      update_planned = let w = versioning in update_passed v.was.place v.was.leader w.0 w.3 w.4
 
-      module _ (h : b ≡ true) where
-        pub update_append_asks : HasSlot xrf m × (DraftFits tags lens bytes × AtEnd mst end (need_of (length tags) (length bytes)))
+      module _ (h : v.appends ≡ true) where
+        pub update_append_asks : HasSlot xrf m × (DraftFits tags lens bytes × AtEnd mst v.was.end (need_of (length tags) (length bytes)))
         unfolding exceeds
         update_append_asks =
-            let v = versioning in
+            let w = versioning in
             let c = update_planned in
             let o = c.0.gate in
             let k = c.0.found in
             let room : end_of mst + need_for drafted ≤ length mst =
-            ltb-false (length mst) (end_of mst + need_for drafted) (and_true_false _ _ c.2 (v.1 ∙ h)) in
+            ltb-false (length mst) (end_of mst + need_for drafted) (and_true_false _ _ c.2 (w.1 ∙ h)) in
             let size : ℕ = need_of (length tags) (length bytes) in (
-              slot_known mst xrf m _ (end_of mst) o p l k,
+              slot_known mst xrf m _ (end_of mst) o v.was.place v.was.leader k,
               (
                 draft_fits tags lens bytes c.1,
-                rw v.2
+                rw w.2
                     (is_at_end mst xrf m _ (end_of mst) o size (need_low (length tags) (length bytes)) (rw (draft_need tags lens bytes c.1) at room)),
               ),
             )
 
-        pub update_appended : (last lastX : List ℕ) → last ≡ version_appended mst m p l false (draft_fields tags lens bytes)
-            → lastX ≡ with_entry xrf m (place_at_end mst false (pending_mark p.mark))
+        pub update_appended : (last lastX : List ℕ) → last ≡ version_appended mst m v.was.place v.was.leader false (draft_fields tags lens bytes)
+            → lastX ≡ with_entry xrf m (place_at_end mst false (pending_mark v.was.place.mark))
             → ((Ok tt) ≡ update_answer (store mst xrf) m (draft tags lens bytes)) × (store last lastX ≡ update_leaves (store mst xrf) m (draft tags lens bytes))
         unfolding update_leaves updated_mst updated_xrf after number_of
-        update_appended last lastX s t = let v = versioning in (sym v.0, rw (v.0, v.1, h, v.4, v.3, s, t))
+        update_appended last lastX s t = let w = versioning in (sym w.0, rw (w.0, w.1, h, w.4, w.3, s, t))
 
-      module _ (h : b ≡ false) where
-        pub update_in_place_asks : ((1 ≤ p.block.0) × (place_address p + l.mfrl ≤ length mst))
-            × (DraftFits tags lens bytes × (need_of (length tags) (length bytes) ≤ l.mfrl))
+      module _ (h : v.appends ≡ false) where
+        pub update_in_place_asks : ((1 ≤ v.was.place.block.0) × (place_address v.was.place + v.was.leader.mfrl ≤ length mst))
+            × (DraftFits tags lens bytes × (need_of (length tags) (length bytes) ≤ v.was.leader.mfrl))
         unfolding update_appends
         update_in_place_asks =
-            let v = versioning in
+            let w = versioning in
             let c = update_planned in
             let o = c.0.gate in
             let k = c.0.found in
@@ -142,14 +136,14 @@ module _ (mst xrf : List ℕ) (m : ℕ) (tags lens bytes : List ℕ) where
               (k.place.block, omega arith),
               (
                 draft_fits tags lens bytes c.1,
-                rw (← n, ← v.4) (ltb-false _ _ (or_false (is_settled (place_for (store mst xrf) m).mark) _ (v.1 ∙ h)).1),
+                rw (← n, ← w.4) (ltb-false _ _ (or_false (is_settled (place_for (store mst xrf) m).mark) _ (w.1 ∙ h)).1),
               ),
             )
 
-        pub update_replaced : (last : List ℕ) → last ≡ version_in_place mst m p l false (draft_fields tags lens bytes)
+        pub update_replaced : (last : List ℕ) → last ≡ version_in_place mst m v.was.place v.was.leader false (draft_fields tags lens bytes)
             → ((Ok tt) ≡ update_answer (store mst xrf) m (draft tags lens bytes)) × (store last xrf ≡ update_leaves (store mst xrf) m (draft tags lens bytes))
         unfolding update_leaves updated_mst updated_xrf after number_of
-        update_replaced last s = let v = versioning in (sym v.0, rw (v.0, v.1, h, v.4, v.3, s))
+        update_replaced last s = let w = versioning in (sym w.0, rw (w.0, w.1, h, w.4, w.3, s))
 
 -- ---- delete
 
@@ -167,58 +161,56 @@ module _ (mst xrf : List ℕ) (m : ℕ) where
       passed (is_settled (place_for (store mst xrf) m).mark && exceeds mst (need_for (current_fields mst (place_for (store mst xrf) m)))) (Err NoRoom) (Ok tt) (λ z. omega arith) c.1 in
       (planned_at mst xrf m p l g.0 g.1 k.0 k.1 k.2 f h, y.0)
 
-  module _ (plan : Plan) (u : plan ≡ delete_plan (store mst xrf) m) where
-    pub delete_refused : (a r : Answer) → plan ≡ Refuse a → r ≡ plan_answer plan
-        → (r ≡ delete_answer (store mst xrf) m) × (store mst xrf ≡ delete_leaves (store mst xrf) m)
-    unfolding delete_plan delete_leaves
-    delete_refused a r q s =
-        let h = plan_refuses (delete_answer (store mst xrf) m) _ mst xrf m a (sym u ∙ q) in
-        let t : r ≡ a = rw q at s in
-        (t ∙ h.1, sym (after_refused (delete_answer (store mst xrf) m) _ (store mst xrf) h.0))
+  module _ (plan : Result NewVersion Refusal) (u : plan ≡ delete_plan (store mst xrf) m) where
+    pub delete_refused : (r : Refusal) → plan ≡ Err r → (Err r ≡ delete_answer (store mst xrf) m) × (store mst xrf ≡ delete_leaves (store mst xrf) m)
+    unfolding delete_plan delete_leaves after
+    delete_refused r q =
+        let h = plan_refuses (delete_answer (store mst xrf) m) _ mst xrf m r (sym u ∙ q) in
+        (sym h, rw h)
 
-    module _ (end : ℕ) (p : Place) (l : Leader) (b : Bool) (q : plan ≡ NewVersion end p l b) where
-      deleting : (delete_answer (store mst xrf) m ≡ Ok tt) × (is_settled (place_for (store mst xrf) m).mark ≡ b) × (end ≡ end_of mst)
-          × (place_for (store mst xrf) m ≡ p) × (leader_at mst (place_for (store mst xrf) m) ≡ l)
+    module _ (v : NewVersion) (q : plan ≡ Ok v) where
+      deleting : (delete_answer (store mst xrf) m ≡ Ok tt) × (is_settled (place_for (store mst xrf) m).mark ≡ v.appends) × (v.was.end ≡ end_of mst)
+          × (place_for (store mst xrf) m ≡ v.was.place) × (leader_at mst (place_for (store mst xrf) m) ≡ v.was.leader)
       unfolding delete_plan
-      deleting = plan_writes (delete_answer (store mst xrf) m) (is_settled (place_for (store mst xrf) m).mark) mst xrf m end p l b (sym u ∙ q)
+      deleting = plan_writes (delete_answer (store mst xrf) m) (is_settled (place_for (store mst xrf) m).mark) mst xrf m v (sym u ∙ q)
 
-      delete_planned : Planned mst xrf m p l
+      delete_planned : Planned mst xrf m v.was.place v.was.leader
           × (is_settled (place_for (store mst xrf) m).mark && exceeds mst (need_for (current_fields mst (place_for (store mst xrf) m))) ≡ false)
-      delete_planned = let v = deleting in delete_passed p l v.0 v.3 v.4
+      delete_planned = let w = deleting in delete_passed v.was.place v.was.leader w.0 w.3 w.4
 
-      module _ (h : b ≡ true) where
-        pub delete_append_asks : HasSlot xrf m × (RecordRead mst end p l × AtEnd mst end (need_for (current_fields mst p)))
+      module _ (h : v.appends ≡ true) where
+        pub delete_append_asks : HasSlot xrf m × (RecordRead mst v.was.end v.was.place v.was.leader × AtEnd mst v.was.end (need_for (current_fields mst v.was.place)))
         unfolding exceeds
         delete_append_asks =
-            let v = deleting in
+            let w = deleting in
             let c = delete_planned in
             let o = c.0.gate in
             let k = c.0.found in
             let own : ℕ = need_for (current_fields mst (place_for (store mst xrf) m)) in
-            let room : end_of mst + own ≤ length mst = ltb-false (length mst) (end_of mst + own) (and_true_false _ _ c.1 (v.1 ∙ h)) in (
-              slot_known mst xrf m _ (end_of mst) o p l k,
-              rw v.2 (
-                read_known mst xrf m _ (end_of mst) o p l k,
-                is_at_end mst xrf m _ (end_of mst) o (need_for (current_fields mst p)) (need_low _ _) (rw v.3 at room),
+            let room : end_of mst + own ≤ length mst = ltb-false (length mst) (end_of mst + own) (and_true_false _ _ c.1 (w.1 ∙ h)) in (
+              slot_known mst xrf m _ (end_of mst) o v.was.place v.was.leader k,
+              rw w.2 (
+                read_known mst xrf m _ (end_of mst) o v.was.place v.was.leader k,
+                is_at_end mst xrf m _ (end_of mst) o (need_for (current_fields mst v.was.place)) (need_low _ _) (rw w.3 at room),
               ),
             )
 
-        pub delete_copied : (last lastX : List ℕ) → last ≡ counted_less (version_appended mst m p l true (current_fields mst p))
+        pub delete_copied : (last lastX : List ℕ) → last ≡ counted_less (version_appended mst m v.was.place v.was.leader true (current_fields mst v.was.place))
             → lastX ≡ with_entry xrf m (place_at_end mst true Changed)
             → ((Ok tt) ≡ delete_answer (store mst xrf) m) × (store last lastX ≡ delete_leaves (store mst xrf) m)
         unfolding delete_leaves deleted_mst deleted_xrf after number_of
-        delete_copied last lastX s t = let v = deleting in (sym v.0, rw (v.0, v.1, h, v.4, v.3, s, t))
+        delete_copied last lastX s t = let w = deleting in (sym w.0, rw (w.0, w.1, h, w.4, w.3, s, t))
 
-      module _ (h : b ≡ false) where
-        pub delete_in_place_asks : HasSlot xrf m × RecordRead mst (end_of mst) p l
+      module _ (h : v.appends ≡ false) where
+        pub delete_in_place_asks : HasSlot xrf m × RecordRead mst (end_of mst) v.was.place v.was.leader
         delete_in_place_asks =
             let c = delete_planned in
             let o = c.0.gate in
             let k = c.0.found in
-            (slot_known mst xrf m _ (end_of mst) o p l k, read_known mst xrf m _ (end_of mst) o p l k)
+            (slot_known mst xrf m _ (end_of mst) o v.was.place v.was.leader k, read_known mst xrf m _ (end_of mst) o v.was.place v.was.leader k)
 
-        pub delete_marked : (last lastX : List ℕ) → last ≡ counted_less (version_in_place mst m p l true (current_fields mst p))
-            → lastX ≡ with_entry xrf m (placed p.block.0 p.offset true p.mark)
+        pub delete_marked : (last lastX : List ℕ) → last ≡ counted_less (version_in_place mst m v.was.place v.was.leader true (current_fields mst v.was.place))
+            → lastX ≡ with_entry xrf m (placed v.was.place.block.0 v.was.place.offset true v.was.place.mark)
             → ((Ok tt) ≡ delete_answer (store mst xrf) m) × (store last lastX ≡ delete_leaves (store mst xrf) m)
         unfolding delete_leaves deleted_mst deleted_xrf after number_of
-        delete_marked last lastX s t = let v = deleting in (sym v.0, rw (v.0, v.1, h, v.4, v.3, s, t))
+        delete_marked last lastX s t = let w = deleting in (sym w.0, rw (w.0, w.1, h, w.4, w.3, s, t))

@@ -1,7 +1,7 @@
 -- Which version a call shows, by what its steps found, and what a caller knows of one: that a version which was found can be read, and which
 -- answer the rows of a call behind it have. Each law's premises are what is known at one place of the code, so that
 -- `search version_answers` finds them there; a callee's result is a variable with what the callee ensures of it.
-use Rattle.std.specs.Prelude.{Result, Ok, Err}
+use Rattle.std.specs.Prelude.{Result, Ok, Err, IfOk}
 use Prim.Native.Nat.{ℕ, ◌+◌, ◌-◌, ◌≤◌, ◌<◌}
 use native.Mathlib.Omega.{arith}
 use mathlib.Core.Path.{◌≡◌, refl, sym, ◌∙◌}
@@ -224,8 +224,9 @@ module _ (mst xrf : List ℕ) (m : ℕ) (x : Result Version Refusal) (p : x ≡ 
       found_version mst (on_current (store mst xrf) m) (place_address (place_for (store mst xrf) m)) (current_then mst xrf m) x p
       (current_readable mst xrf m) v q
 
-  pub current_legible : (v : Version) → x ≡ Ok v → ReadableAt mst v.at v.end
-  current_legible v q = (current_there v q).readable
+pub current_legible : (mst xrf : List ℕ) (m : ℕ) (x : Result Version Refusal) → x ≡ current_version (store mst xrf) m → IfOk x (λ v. ReadableAt mst v.at v.end)
+current_legible mst xrf m (Ok v) p = (current_there mst xrf m (Ok v) p v refl).readable
+current_legible mst xrf m (Err e) p = tt
 
 module _ (mst xrf : List ℕ) (m : ℕ) (x : Result Version Refusal) (p : x ≡ settled_version (store mst xrf) m) where
   pub settled_none : (e : Refusal) → x ≡ Err e → NoVersion (on_settled (store mst xrf) m) e
@@ -240,5 +241,6 @@ module _ (mst xrf : List ℕ) (m : ℕ) (x : Result Version Refusal) (p : x ≡ 
       found_version mst (on_settled (store mst xrf) m) (settled_address mst (place_for (store mst xrf) m)) (settled_then mst xrf m) x p
       (settled_readable mst xrf m) v q
 
-  pub settled_legible : (v : Version) → x ≡ Ok v → ReadableAt mst v.at v.end
-  settled_legible v q = (settled_there v q).readable
+pub settled_legible : (mst xrf : List ℕ) (m : ℕ) (x : Result Version Refusal) → x ≡ settled_version (store mst xrf) m → IfOk x (λ v. ReadableAt mst v.at v.end)
+settled_legible mst xrf m (Ok v) p = (settled_there mst xrf m (Ok v) p v refl).readable
+settled_legible mst xrf m (Err e) p = tt

@@ -23,7 +23,7 @@ use Rattle.views.specs.Versions.{current_version, settled_version, ReadableAt, s
 use Rattle.store.specs.declared.answer.Refusal.{Refusal}
 use Rattle.store.specs.declared.answer.Refusal.TheVariants.{BadLength, BadControl, BadDraft, NoMfn, NoSlot, BadEntry, Gone, BadRecord, Deleted, NotPending, NeverSettled, NoField, NoRoom, NotSound, FewerFields, NoRoomInList}
 use Rattle.views.specs.declared.views.Version.{Version}
-use Rattle.views.proofs.VersionAnswers.{settled_from, NoVersion, FoundVersion, current_none, current_there, current_legible, settled_none, settled_there, settled_legible, version_within}
+use Rattle.views.proofs.VersionAnswers.{settled_from, NoVersion, FoundVersion, current_none, current_there, settled_none, settled_there, version_within}
 use Rattle.store.specs.Store.{store}
 
 -- ---- what is shown
@@ -136,7 +136,7 @@ module _ (mst xrf : List ℕ) (m tag occ : ℕ) (x : Result Version Refusal) (p 
       (versioned mst (on_settled (store mst xrf) m) (settled_address mst (place_for (store mst xrf) m)) tag occ v r (settled_there mst xrf m x p v q) s)
 
 pub ruleset view_answers =
-    (show_missing, show_fewer, show_found, show_within, show_sum, current_legible, settled_legible, view_refused, view_shown, settled_view_refused, settled_view_shown, arith)
+    (show_missing, show_fewer, show_found, show_within, show_sum, view_refused, view_shown, settled_view_refused, settled_view_shown, arith)
 
 -- ---- the field itself
 

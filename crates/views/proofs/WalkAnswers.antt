@@ -31,7 +31,7 @@ use Rattle.views.specs.Versions.{current_version, settled_version, shown_walked,
 use Rattle.store.specs.declared.answer.Refusal.{Refusal}
 use Rattle.store.specs.declared.answer.Refusal.TheVariants.{NoField}
 use Rattle.views.specs.declared.views.Version.{Version}
-use Rattle.views.proofs.VersionAnswers.{current_then, settled_then, settled_from, current_readable, settled_readable, NoVersion, FoundVersion, current_none, current_there, current_legible, settled_none, settled_there, settled_legible, version_within}
+use Rattle.views.proofs.VersionAnswers.{current_then, settled_then, settled_from, current_readable, settled_readable, NoVersion, FoundVersion, current_none, current_there, settled_none, settled_there, version_within}
 use Rattle.store.specs.Store.{store}
 
 -- ---- what is handed out
@@ -124,7 +124,7 @@ module _ (mst xrf : List ℕ) (m i : ℕ) (x : Result Version Refusal) (p : x �
       (versioned mst (on_settled (store mst xrf) m) (settled_address mst (place_for (store mst xrf) m)) i v r (settled_there mst xrf m x p v q) s)
 
 pub ruleset walk_answers =
-    (walk_ended, walk_found, walk_within, walk_sum, current_legible, settled_legible, field_refused, field_handed, settled_field_refused, settled_field_handed, arith)
+    (walk_ended, walk_found, walk_within, walk_sum, field_refused, field_handed, settled_field_refused, settled_field_handed, arith)
 
 -- ---- every field is handed out, and no more
 

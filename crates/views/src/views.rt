@@ -21,8 +21,10 @@ pub struct Version {
 }
 
 // Where the current version of MFN `m` begins.
+#[tactic(auto, using(crate::proofs::VersionAnswers::version_answers))]
 pub fn current_version(mst: &[u8], xrf: &[u8], m: Mfn) -> Result<Version, Refusal>
-    ensures { result ≡ current_version (store mst.now xrf.now) m.0 }
+    ensures is { result ≡ current_version (store mst.now xrf.now) m.0 }
+    ensures readable { IfOk result (λ v. ReadableAt mst.now v.at v.end) }
 {
     let Reached { end, place, .. } = store::gate::reach(mst, xrf, m)?;
     if place.deleted {
@@ -35,6 +37,7 @@ pub fn current_version(mst: &[u8], xrf: &[u8], m: Mfn) -> Result<Version, Refusa
 }
 
 // Where the settled version of a record begins, by its mark.
+#[tactic(auto, using(crate::proofs::VersionAnswers::version_answers))]
 fn settled_of(end: usize, place: Place, leader: Leader) -> Result<Version, Refusal>
     requires { Located place leader }
     ensures { result ≡ settled_of end place leader }
@@ -54,14 +57,17 @@ fn settled_of(end: usize, place: Place, leader: Leader) -> Result<Version, Refus
 }
 
 // Where the settled version of MFN `m` begins.
+#[tactic(auto, using(crate::proofs::VersionAnswers::version_answers))]
 pub fn settled_version(mst: &[u8], xrf: &[u8], m: Mfn) -> Result<Version, Refusal>
-    ensures { result ≡ settled_version (store mst.now xrf.now) m.0 }
+    ensures is { result ≡ settled_version (store mst.now xrf.now) m.0 }
+    ensures readable { IfOk result (λ v. ReadableAt mst.now v.at v.end) }
 {
     let Reached { end, place, leader } = store::gate::reach_both(mst, xrf, m)?;
     settled_of(end, place, leader)
 }
 
 // Where the field of a tag and occurrence lies in a version.
+#[tactic(auto, using(crate::proofs::ViewAnswers::view_answers))]
 fn show_field(mst: &[u8], version: Version, tag: Tag, occurrence: u32) -> Result<Span, Refusal>
     requires { ReadableAt mst.now version.at version.end }
     ensures is { result ≡ shown_in mst.now tag.0 occurrence version }
@@ -79,6 +85,7 @@ fn show_field(mst: &[u8], version: Version, tag: Tag, occurrence: u32) -> Result
 }
 
 // Where the field of a tag and occurrence lies in the current version of MFN `m`.
+#[tactic(auto, using(crate::proofs::ViewAnswers::view_answers))]
 pub fn view(mst: &[u8], xrf: &[u8], m: Mfn, tag: Tag, occurrence: u32) -> Result<Span, Refusal>
     ensures is { shown result ≡ view_of (store mst.now xrf.now) m.0 tag.0 occurrence }
     ensures within { IfOk result (λ s. s.start + s.len ≤ length mst.now) }
@@ -88,6 +95,7 @@ pub fn view(mst: &[u8], xrf: &[u8], m: Mfn, tag: Tag, occurrence: u32) -> Result
 }
 
 // Where the field of a tag and occurrence lies in the settled version of MFN `m`.
+#[tactic(auto, using(crate::proofs::ViewAnswers::view_answers))]
 pub fn view_settled(
     mst: &[u8],
     xrf: &[u8],
@@ -141,6 +149,7 @@ fn hand_out_found<'a>(
 
 // The field that a view shows, as a part of the MST, empty where it is refused; the answer's number goes to `answer`, and the number of occurrences
 // to `occurrences`.
+#[tactic(auto, unfolding(crate::specs::Views::view_of, crate::specs::Views::shown_at))]
 pub fn view_field<'a>(
     mst: &'a [u8],
     xrf: &[u8],
@@ -159,6 +168,7 @@ pub fn view_field<'a>(
 }
 
 // The same for the settled version.
+#[tactic(auto, unfolding(crate::specs::Views::settled_view_of, crate::specs::Views::shown_at))]
 pub fn view_settled_field<'a>(
     mst: &'a [u8],
     xrf: &[u8],

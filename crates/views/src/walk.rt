@@ -11,6 +11,7 @@ use store::answer::Refusal;
 use walking::walker::Spot;
 
 // The field at an index of a version's directory.
+#[tactic(auto, using(crate::proofs::WalkAnswers::walk_answers))]
 fn hand_out(mst: &[u8], version: Version, index: usize) -> Result<Spot, Refusal>
     requires { ReadableAt mst.now version.at version.end }
     ensures is { result ≡ walked_in mst.now index version }
@@ -25,6 +26,7 @@ fn hand_out(mst: &[u8], version: Version, index: usize) -> Result<Spot, Refusal>
 }
 
 // The field at an index in the current version of MFN `m`: its tag, and where in the MST it lies.
+#[tactic(auto, using(crate::proofs::WalkAnswers::walk_answers))]
 pub fn field_at(mst: &[u8], xrf: &[u8], m: Mfn, index: usize) -> Result<Spot, Refusal>
     ensures is { shown_field result ≡ field_of (store mst.now xrf.now) m.0 index }
     ensures within { IfOk result (λ s. s.start + s.len ≤ length mst.now) }
@@ -34,6 +36,7 @@ pub fn field_at(mst: &[u8], xrf: &[u8], m: Mfn, index: usize) -> Result<Spot, Re
 }
 
 // The field at an index in the settled version of MFN `m`.
+#[tactic(auto, using(crate::proofs::WalkAnswers::walk_answers))]
 pub fn settled_field_at(mst: &[u8], xrf: &[u8], m: Mfn, index: usize) -> Result<Spot, Refusal>
     ensures is { shown_field result ≡ settled_field_of (store mst.now xrf.now) m.0 index }
     ensures within { IfOk result (λ s. s.start + s.len ≤ length mst.now) }

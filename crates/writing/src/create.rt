@@ -1,10 +1,11 @@
 // Create: a new record at the end, under the next MFN.
 ghost use Rattle.std.specs.Prelude.{◌≡◌};
 ghost use Rattle.store.specs.Store.{store};
-ghost use Rattle.drafts.specs.Draft.{draft};
+ghost use Rattle.drafts.specs.Lent.{lent};
 ghost use Rattle.writing.specs.Calls.{created, create_of, create_leaves};
 ghost use Rattle.writing.specs.Plans.{SlotAsked, slot_answer, create_plan};
 
+use drafts::draft::Draft;
 use files::control::Control;
 use layout::sizes::Mfn;
 use store::answer::Refusal;
@@ -38,23 +39,17 @@ fn create_slot(mst: &[u8], xrf: &[u8], control: Control, need: usize) -> Result<
     Ok(())
 }
 
-fn plan_create(
-    mst: &[u8],
-    xrf: &[u8],
-    tags: &[u16],
-    lens: &[u16],
-    data: &[u8],
-) -> Result<Creating, Refusal>
-    ensures { result ≡ create_plan (store mst.now xrf.now) (draft tags.now lens.now «data».now) }
+fn plan_create(mst: &[u8], xrf: &[u8], draft: Draft<'_>) -> Result<Creating, Refusal>
+    ensures { result ≡ create_plan (store mst.now xrf.now) (lent draft.entry) }
 {
     let control = store::gate::open_gate(mst, xrf)?;
     if files::control::count_full(mst) {
         return Err(Refusal::BadControl);
     }
-    if !drafts::draft::draft_right(tags, lens, data) {
+    if !draft.is_right() {
         return Err(Refusal::BadDraft);
     }
-    let need = drafts::draft::need(tags.len(), data.len());
+    let need = draft.need();
     create_slot(mst, xrf, control, need)?;
     Ok(Creating {
         next: control.next,
@@ -64,17 +59,11 @@ fn plan_create(
 }
 
 // Writes a new record, and gives its MFN.
-pub fn create(
-    mst: &mut [u8],
-    xrf: &mut [u8],
-    tags: &[u16],
-    lens: &[u16],
-    data: &[u8],
-) -> Result<Mfn, Refusal>
-    ensures answers { created result ≡ create_of (store mst.old xrf.old) (draft tags.now lens.now «data».now) }
-    ensures left { store mst.new xrf.new ≡ create_leaves (store mst.old xrf.old) (draft tags.now lens.now «data».now) }
+pub fn create(mst: &mut [u8], xrf: &mut [u8], draft: Draft<'_>) -> Result<Mfn, Refusal>
+    ensures answers { created result ≡ create_of (store mst.old xrf.old) (lent draft.entry) }
+    ensures left { store mst.new xrf.new ≡ create_leaves (store mst.old xrf.old) (lent draft.entry) }
 {
-    let Creating { next, end, need } = plan_create(mst, xrf, tags, lens, data)?;
-    versions::create::create_at_end(mst, xrf, next, end, need, tags, lens, data);
+    let Creating { next, end, need } = plan_create(mst, xrf, draft)?;
+    versions::create::create_at_end(mst, xrf, next, end, need, draft);
     Ok(next)
 }

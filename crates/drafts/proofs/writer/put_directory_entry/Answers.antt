@@ -3,9 +3,4 @@ use Rattle.drafts.proofs.writer.put_directory_entry.Goals as goal
 
 pub returns : goal.returns
 returns c =
-    let u = c in
-    let t = u in
-    let f = t in
-    let s = f in
-    let a = s.args in
-    entry_put a.out.now a.at a.e.tag.0 a.e.pos a.e.len s.requires f.put_u16.ensures t.put_u16-2.ensures u.put_u16-3.ensures
+    entry_put c.args.out.now c.args.at c.args.e.tag.0 c.args.e.pos c.args.e.len c.requires c.put_u16.ensures c.put_u16-2.ensures c.put_u16-3.ensures

@@ -1,19 +1,12 @@
-use native.Mathlib.Omega.{arith}
+use Rattle.std.proofs.Common.{arith}
 use Rattle.layout.specs.Leader.{leader_of}
+use Rattle.record.proofs.Facts.{readable_facts}
 use Rattle.drafts.proofs.DirectoryBytes.{used_is}
 use Rattle.drafts.proofs.Draftable.{readable_used}
-use borrow.Author.Rules.{rules}
-use Rattle.record.proofs.Facts.{readable_facts}
 use Rattle.drafts.proofs.writer.used_by.Goals as goal
 
 pub u16_at-requires : goal.u16_at-requires
 u16_at-requires c = omega (arith, readable_facts c.requires)
-
-pub overflow_cast-result : goal.overflow_cast-result
-overflow_cast-result c = search rules
-
-pub data_length-requires : goal.data_length-requires
-data_length-requires c = search rules
 
 pub overflow_add-result : goal.overflow_add-result
 unfolding leader_of

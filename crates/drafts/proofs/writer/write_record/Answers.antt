@@ -1,4 +1,4 @@
-use native.Mathlib.Omega.{arith}
+use Rattle.std.proofs.Common.{arith}
 use Rattle.drafts.specs.Draft.{need_of}
 use Rattle.drafts.proofs.Writing.{record_written}
 use Rattle.drafts.proofs.writer.write_record.Goals as goal
@@ -13,7 +13,7 @@ overflow_add-base c = omega arith
 
 pub put_directory-requires : goal.put_directory-requires
 unfolding need_of
-put_directory-requires c = record { data_value = c.requires.data_value; tags_in_bounds = omega arith }
+put_directory-requires c = record { right = c.requires.right; room = omega arith }
 
 pub copy_to-requires : goal.copy_to-requires
 unfolding need_of
@@ -30,8 +30,4 @@ frame_record-requires c = omega arith
 pub returns : goal.returns
 unfolding need_of
 returns c =
-    let z = c in
-    let k = z in
-    let w = k in
-    let s = w in
-    record_written _ s.args.l _ _ _ s.requires.data_value w.put_directory.ensures k.copy_to.ensures z.frame_record.ensures (omega arith) s.requires.data_bound.1
+    record_written _ c.args.l _ _ _ c.requires.right c.put_directory.ensures c.copy_to.ensures c.frame_record.ensures (omega arith) c.requires.room.1

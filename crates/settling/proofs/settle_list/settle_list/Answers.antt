@@ -1,15 +1,14 @@
 -- `settle_list`: after i turns the first i MFNs of the list are settled and answered (`Settled`).
-use native.Mathlib.Omega.{arith}
-use borrow.Author.Rules.{rules}
-use Rattle.settling.proofs.Folding.{settled_none, list_refused, settled_more, settled_all}
 use mathlib.Core.Bool.{not}
 use mathlib.Core.Path.{ap}
+use borrow.Author.Rules.{rules}
+use native.Mathlib.Omega.{arith}
+use Rattle.settling.proofs.Folding.{settled_none, list_refused, settled_more, settled_all}
 use Rattle.settling.proofs.settle_list.settle_list.Goals as goal
 
 pub returns-then-not-lists_right : goal.returns-then-not-lists_right
 returns-then-not-lists_right c =
-    let h =
-    list_refused _ _ _ _ _ c.lists_right.ensures (ap not c.if-not-lists_right.true) in
+    let h = list_refused _ _ _ _ _ c.lists_right.ensures (ap not c.if-not-lists_right.true) in
     record { answers = h.0; left = h.1.0; told = h.1.1 }
 
 pub loop-i-init : goal.loop-i-init
@@ -17,30 +16,10 @@ loop-i-init c = settled_none _ _ _ _ _ c.lists_right.ensures (ap not c.if-not-li
 
 pub loop-i-preserved : goal.loop-i-preserved
 loop-i-preserved c =
-    settled_more
-    c.loop-i.invariant
-    _
-    _
-    _
-    _
-    (omega arith)
-    c.settle-a.ensures.answers
-    c.settle-a.ensures.left
-    (search rules)
-    (search rules)
-    c.number.ensures
-
-pub shape_of-mst : goal.shape_of-mst
-shape_of-mst c = c.loop-i.invariant.mst_long
-
-pub shape_of-xrf : goal.shape_of-xrf
-shape_of-xrf c = c.loop-i.invariant.xrf_long
-
-pub shape_of-answers : goal.shape_of-answers
-shape_of-answers c = c.loop-i.invariant.answers_long
+    let e = c.settle-answer.ensures in
+    settled_more c.loop-i.invariant _ _ _ _ (omega arith) e.answers e.left (search rules) (search rules) c.number.ensures
 
 pub returns : goal.returns
 returns c =
-    let h =
-    settled_all c.loop-i.invariant (omega arith) in
+    let h = settled_all c.loop-i.invariant (omega arith) in
     record { answers = h.0; left = h.1.0; told = h.1.1 }

@@ -1,37 +1,31 @@
-use Rattle.versions.proofs.Told.{draft_counted}
-use Rattle.updating.proofs.Plans.{draft_room_asked, update_plans}
-use mathlib.Core.Bool.{not}
+use Rattle.std.proofs.lemmas.Result.{err_from_is_err_and}
 use mathlib.Core.Path.{ap}
+use mathlib.Core.Bool.{not}
+use Rattle.versions.proofs.Told.{draft_counted}
+use Rattle.updating.proofs.Plans.{open_end_small, draft_small, update_plans}
 use Rattle.updating.proofs.changes.plan_update.Goals as goal
 
-pub returns-in_default : goal.returns-in_default
-returns-in_default c = search update_plans
+pub returns-in_err-store : goal.returns-in_err-store
+returns-in_err-store c =
+    let p = err_from_is_err_and c.from_residual.result c.from_residual.ensures.1 in
+    rw (p.1, p.2) (search (update_plans, c.in_err-store.ensures.refused))
 
 pub returns-then-not-draft_right : goal.returns-then-not-draft_right
-returns-then-not-draft_right c = search update_plans
+returns-then-not-draft_right c = search (update_plans, c.in_ok-store.ensures.lent)
 
-pub find_record-k-requires : goal.find_record-k-requires
-find_record-k-requires c = search update_plans
-
-pub returns-in_default-k : goal.returns-in_default-k
-returns-in_default-k c = search update_plans
+pub returns-in_err-place : goal.returns-in_err-place
+returns-in_err-place c =
+    let p = err_from_is_err_and c.from_residual-in_err-place.result c.from_residual-in_err-place.ensures.1 in
+    rw (p.1, p.2) (search (update_plans, c.in_ok-store.ensures.lent, c.in_err-place.was))
 
 pub returns-then-place : goal.returns-then-place
-returns-then-place c = search update_plans
+returns-then-place c = search (update_plans, c.in_ok-store.ensures.lent, c.in_ok-place.was)
 
 pub need-need-requires : goal.need-need-requires
-need-need-requires c =
-    let draft-right = c.draft_right in
-    let if1 = c.if-not-draft_right in
-    draft_counted _ _ _ _ draft-right.ensures (ap not if1.false)
+need-need-requires c = draft_counted _ _ _ _ c.draft_right.ensures (ap not c.if-not-draft_right.false)
 
 pub plan_room-requires : goal.plan_room-requires
-plan_room-requires c =
-    let open-gate = c.open_gate-g in
-    let the-g = c.in-Open in
-    let draft-right = c.draft_right in
-    let if1 = c.if-not-draft_right in
-    draft_room_asked _ _ _ open-gate.ensures _ _ the-g.is _ _ _ _ _ draft-right.ensures (ap not if1.false) c.need-need.ensures
+plan_room-requires c = (open_end_small _ _ _ c.in_ok-store.ensures.lent _ c.in_ok-store.store.open, search draft_small)
 
 pub returns : goal.returns
-returns c = search update_plans
+returns c = search (update_plans, c.in_ok-store.ensures.lent, c.in_ok-place.was)
