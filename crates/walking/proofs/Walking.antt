@@ -15,7 +15,6 @@ use Rattle.word.specs.Overwrite.{overwrite}
 use Rattle.word.proofs.Overwrite.{overwrite_none, overwrite_more, overwrite_length}
 use Rattle.layout.specs.Leader.{leader_of}
 use Rattle.layout.specs.declared.sizes.Tag.{Tag}
-use Rattle.walking.specs.Inner.{AtField}
 use Rattle.record.specs.Directory.{tag_at, pos_at, len_at, directory_right}
 use Rattle.record.specs.Fields.{field_at, fields_from, fields_of}
 use Rattle.record.specs.Record.{Readable}
@@ -108,10 +107,6 @@ module _ (rec : List ℕ) (i : ℕ) (r : Readable rec) (h : i < (leader_of rec).
       let e : pos_at rec i + len_at rec i ≤ room = simp zero-add at (entry_in rec room (leader_of rec).nvf 0 0 i (readable_facts r).directory h) in
       omega (arith, (readable_facts r).base_in)
 
-  -- the index after it is a number that a walker can hold
-  pub next_fits : i + 1 < 2 ^ 64
-  next_fits = omega (arith, h, (readable_facts r).base_is, (readable_facts r).base_in, (readable_facts r).short)
-
   pub entry_within : 24 + 6 * i ≤ length rec
   entry_within = omega (arith, h, (readable_facts r).base_is, (readable_facts r).base_in, (readable_facts r).record_in)
 
@@ -161,6 +156,19 @@ pub left_length : (rec : List ℕ) (k i : ℕ) → length (spots_from rec k i) �
 unfolding spots_from
 left_length rec zero i = refl
 left_length rec (suc k) i = ap suc (left_length rec k (i + 1))
+
+left_more : (rec : List ℕ) (k i : ℕ) → spots_from rec (suc k) i ≡ spots_from rec k i ++ (spot_at rec (i + k) ∷ [])
+unfolding spots_from
+left_more rec zero i = rw (add-zero i)
+left_more rec (suc k) i =
+    let e : i + suc k ≡ i + 1 + k = omega arith in
+    rw (e, ← left_more rec k (i + 1))
+
+-- from the first field on it is all that a walk hands out
+pub left_is : (rec : List ℕ) (k : ℕ) → spots_from rec k 0 ≡ spots_before rec k
+unfolding spots_from spots_before
+left_is rec zero = refl
+left_is rec (suc k) = rw (left_more rec k 0, left_is rec k, zero-add k)
 
 -- numbered from n on, the one at j is that of index i + j
 numbered_at : (rec : List ℕ) (k n i j : ℕ) (d : ℕ × Spot) → j < k → get_or (enumerate_from n (spots_from rec k i)) j d ≡ (n + j, spot_at rec (i + j))
@@ -232,11 +240,8 @@ module _ (rec : List ℕ) (i n : ℕ) (c : n ≡ (leader_of rec).nvf) where
   unfolding walked_at
   walked_end h = rw (le-leb (leader_of rec).nvf i (rw (← c) h))
 
-  pub come_to : i < n → Readable rec → AtField rec n i
-  come_to h r = record { readable = r; counted = c; listed = omega (arith, c, h) }
-
   pub walked_field : (spot : Spot) → i < n → spot ≡ spot_at rec i → Some spot ≡ walked_at rec i
   unfolding walked_at
   walked_field spot h e = rw (lt-leb (leader_of rec).nvf i (rw (← c) h), e)
 
-pub ruleset walk_answers = (count_is_lem, count_small, entry_within, spot_is, walked_end, walked_field, come_to)
+pub ruleset walk_answers = (count_is_lem, count_small, entry_within, spot_is, walked_end, walked_field)

@@ -6,7 +6,7 @@ ghost use Rattle.word.specs.Overwrite.{overwrite};
 ghost use Rattle.layout.specs.Leader.{leader_of};
 ghost use Rattle.walking.specs.Inner.{AtField, Listable};
 ghost use Rattle.record.specs.Record.{Readable};
-ghost use Rattle.walking.specs.Walker.{spot_at, spots_from, spot_tag, spot_start, spot_length, walked_at, tags_of, starts_of, lengths_of};
+ghost use Rattle.walking.specs.Walker.{spot_at, spots_of, spot_tag, spot_start, spot_length, walked_at, tags_of, starts_of, lengths_of};
 
 use layout::sizes::Tag;
 use record::directory::{len_at, pos_at, tag_at};
@@ -57,7 +57,7 @@ impl<'a> FieldWalker<'a> {
     // The walk from the first field on, of a record that has `count`.
     fn new(rec: &'a [u8], count: usize) -> FieldWalker<'a>
         requires { (Readable rec.now) × (count ≡ (leader_of rec.now).nvf) }
-        ensures { spots_left result ≡ spots_from rec.now count 0 }
+        ensures { spots_left result ≡ spots_of rec.now }
     {
         FieldWalker {
             rec,

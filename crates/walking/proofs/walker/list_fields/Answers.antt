@@ -7,17 +7,20 @@ use Rattle.std.proofs.lemmas.Iterator.{YieldsList}
 use Rattle.std.proofs.lemmas.Iterator.Consumers.{YieldsList-from_first, YieldsList-from_enumerate, YieldsList-turn, YieldsList-end}
 use Rattle.layout.specs.Leader.{leader_of}
 use Rattle.walking.specs.Walk.{spots_left}
-use Rattle.walking.specs.Walker.{spot_at, spots_from, spot_tag, spot_start, spot_length}
+use Rattle.walking.specs.Walker.{spot_at, spots_from, spots_of, spot_tag, spot_start, spot_length}
 use Rattle.walking.specs.declared.walker.Spot.{Spot}
 use Rattle.walking.specs.declared.walker.FieldWalker.{FieldWalker}
 use Rattle.std.specs.declared.iter.Enumerate.{Enumerate}
 use Rattle.record.proofs.Facts.{readable_facts}
-use Rattle.walking.proofs.Walking.{field_in_lem, written_none, written_all, written_more, left_length, numbered, numbered_length}
+use Rattle.walking.proofs.Walking.{field_in_lem, written_none, written_all, written_more, left_is, left_length, numbered, numbered_length}
 use Rattle.walking.proofs.walker.list_fields.Goals as goal
 use Rattle.walking.proofs.walker.list_fields.Goals.{In-Some, After-into_iter-index-iterator}
 
 left : (c : After-into_iter-index-iterator) → spots_left (enumerate_source c.into_iter-index-iterator.result) ≡ spots_from c.args.rec.now c.args.count 0
-left c = search rules
+left c =
+    let n = c.requires.counted in
+    let e : spots_left (enumerate_source c.into_iter-index-iterator.result) ≡ spots_of c.args.rec.now = search rules in
+    rw (e, n, left_is)
 
 from_none : (c : After-into_iter-index-iterator) → enumerate_count c.into_iter-index-iterator.result ≡ 0
 from_none c = search rules
