@@ -28,6 +28,7 @@ ghost use Rattle.store.specs.Store.{store};
 ghost use Rattle.drafts.specs.Draft.{draft};
 
 use drafts::draft::Draft;
+use index::files::Index;
 use layout::sizes::{Mfn, Tag};
 use merging::merge::Which;
 use posting::codec::Posting;
@@ -244,6 +245,7 @@ pub extern "C" fn isis_fields_settled(
 }
 
 // The next MFN, and the address of the end.
+#[tactic(auto, unfolding(store::specs::Answer::number_of))]
 #[unsafe(no_mangle)]
 pub extern "C" fn isis_next(mst: &[u8], xrf: &[u8], next: &mut u32, end: &mut usize) -> u32
     ensures answers { result ≡ number_of (next_free_of (store mst.now xrf.now)).answer }
@@ -265,6 +267,7 @@ pub extern "C" fn isis_next(mst: &[u8], xrf: &[u8], next: &mut u32, end: &mut us
 }
 
 // The mark of a record, 0 settled, 1 changed, 2 new, and whether it is deleted, 0 or 1.
+#[tactic(auto, unfolding(store::specs::Answer::number_of))]
 #[unsafe(no_mangle)]
 pub extern "C" fn isis_state(
     mst: &[u8],
@@ -292,6 +295,7 @@ pub extern "C" fn isis_state(
 }
 
 // Writes a new record; its MFN goes to `mfn`.
+#[tactic(auto, unfolding(store::specs::Answer::number_of))]
 #[unsafe(no_mangle)]
 pub extern "C" fn isis_create(
     mst: &mut [u8],
@@ -396,6 +400,7 @@ pub extern "C" fn isis_recount(mst: &mut [u8], xrf: &mut [u8]) -> u32
 
 // Tests one record alone for an MFN, deleted (not 0) or not, all but its back pointer; the number of the first directory entry that breaks a rule
 // goes to `entry`.
+#[tactic(auto, unfolding(store::specs::Answer::number_of))]
 #[unsafe(no_mangle)]
 pub extern "C" fn isis_record_test(rec: &[u8], mfn: u32, deleted: u32, entry: &mut u32) -> u32
     ensures answers { result ≡ number_of (record_test_of rec.now mfn (is_deleted deleted)).answer }
