@@ -427,6 +427,7 @@ pub extern "C" fn isis_check(mst: &[u8], xrf: &[u8]) -> u32
 }
 
 // Looks a term up in an index: the place in the IFP where the list of its postings begins.
+#[tactic(auto, using(word::proofs::TwosComplement::cast_signed_is), unfolding(index::specs::Lookup::answer_of, index::specs::Lookup::block_of, index::specs::Lookup::word_of))]
 #[unsafe(no_mangle)]
 pub extern "C" fn isis_lookup(
     cnt: &[u8],
@@ -442,7 +443,14 @@ pub extern "C" fn isis_lookup(
     ensures blocks { block.new ≡ block_of (lookup_of (index cnt.now n01.now l01.now n02.now l02.now) term.now) }
     ensures words { word.new ≡ word_of (lookup_of (index cnt.now n01.now l01.now n02.now l02.now) term.now) }
 {
-    match index::lookup::lookup(&Index { cnt, n01, l01, n02, l02 }, term) {
+    let files = index::files::Index {
+        cnt,
+        n01,
+        l01,
+        n02,
+        l02,
+    };
+    match index::lookup::lookup(&files, term) {
         Ok(place) => {
             *block = place.block.cast_signed();
             *word = place.word.cast_signed();
@@ -467,7 +475,14 @@ pub extern "C" fn isis_check_index(
 ) -> u32
     ensures { result ≡ index_answer (index cnt.now n01.now l01.now n02.now l02.now) }
 {
-    match index_check::check::check_index(&Index { cnt, n01, l01, n02, l02 }) {
+    let files = index::files::Index {
+        cnt,
+        n01,
+        l01,
+        n02,
+        l02,
+    };
+    match index_check::check::check_index(&files) {
         Ok(()) => 0,
         Err(broken) => u32::from(broken),
     }
