@@ -90,6 +90,13 @@ child_node punt next = cases (is_node punt)
     cases true e = (refl, cc)
     cases false e = let w : ◌≡◌ {A = ℕ} 0 1 = cc in absurd (omega arith)
 
+pub child_leaf : (punt leaf : ℕ) → child_of punt ≡ Leaf leaf → (is_node punt ≡ false) × (leaf_number punt ≡ leaf)
+child_leaf punt leaf = cases (is_node punt)
+  where
+    cases : (b : Bool) → cond b (Node punt) (Leaf (leaf_number punt)) ≡ Leaf leaf → (b ≡ false) × (leaf_number punt ≡ leaf)
+    cases true e = let w : ◌≡◌ {A = ℕ} 0 1 = cc in absurd (omega arith)
+    cases false e = (refl, cc)
+
 -- ---- what the way answers
 
 -- the leaf that it leads to answers; without one, why there is none

@@ -53,6 +53,10 @@ entry_in s n i h =
     let m : suc i * s.step ≤ s.most * s.step = mul-le-mul_right s.step h in
     omega (arith, suc-mul i s.step)
 
+-- the first one in the file
+pub first_in : (f : List ℕ) (s : Shape) (n : ℕ) → 1 ≤ s.most → record_there f s n ≡ true → key_place s n 0 + s.step ≤ length f
+first_in f s n h e = let t = there_facts f s n e in omega (arith, entry_in s n 0 h)
+
 -- ---- a record that keeps its rules
 
 pub record RightFacts (f : List ℕ) (s : Shape) (n : ℕ) : Type 0 where

@@ -2,6 +2,7 @@
 ghost use Rattle.std.specs.Prelude.{◌≡◌, ◌+◌, ◌≤◌, ◌<◌};
 ghost use Rattle.index.specs.Layout.{size_of, place_of, key_place};
 ghost use Rattle.index.specs.Rules.{part_of, order_right};
+ghost use Rattle.index.specs.Shape.{ShapeFits};
 
 use std::marker::Model;
 use terms::term::Kind;
@@ -43,8 +44,7 @@ impl<const HEAD: usize, const TAIL: usize> Shape<HEAD, TAIL> {
     // The width of a key.
     pub fn width(self) -> usize
         ensures is { result ≡ self.entry.width }
-        ensures low { 8 ≤ result }
-        ensures high { result ≤ 30 }
+        ensures fits { ShapeFits self.entry }
         ensures step { self.entry.step ≡ self.entry.width + TAIL }
     {
         self.kind.width()
@@ -84,8 +84,9 @@ impl<const HEAD: usize, const TAIL: usize> Shape<HEAD, TAIL> {
     // Where the key of entry `i` of record `n` begins.
     #[tactic(auto, using(crate::proofs::Shapes::times_step), unfolding(crate::specs::Layout::key_place))]
     pub fn key_place(self, n: u32, i: usize) -> usize
-        requires { (1 ≤ n) × (i < self.most) }
-        ensures { result ≡ key_place self.entry n i }
+        requires { (1 ≤ n) × (i ≤ self.most) }
+        ensures is { result ≡ key_place self.entry n i }
+        ensures fits { ShapeFits self.entry }
     {
         self.place(n) + HEAD + i * self.step()
     }

@@ -1,6 +1,6 @@
 // The records of a node or a leaf file that was lent, and the rules of answer 21 that each one met has to keep.
 ghost use Rattle.std.specs.Prelude.{◌≡◌, true, ◌+◌, ◌<◌, ◌≤◌, length};
-ghost use Rattle.index.specs.Layout.{ock_at, key_at, key_place, punt_at};
+ghost use Rattle.index.specs.Layout.{ock_at, key_at, key_place, ps_at, punt_at};
 ghost use Rattle.index.specs.Inner.{child_of};
 ghost use Rattle.index.specs.Rules.{record_there, rest_right, record_right, punts_right, node_right};
 
@@ -22,7 +22,7 @@ pub type Leaves<'a> = Records<'a, 12, 8>;
 impl<'a, const HEAD: usize, const TAIL: usize> Records<'a, HEAD, TAIL> {
     // Whether all bytes of record `n` are in the file. Its number is compared before it is multiplied.
     #[tactic(auto, using(crate::proofs::Shapes::times_size), unfolding(crate::specs::Rules::record_there))]
-    fn has(&self, n: u32) -> bool
+    pub fn has(&self, n: u32) -> bool
         ensures { result ≡ record_there self.now.file.now self.now.shape n }
     {
         1 <= n && n <= 2147483647 && n as usize * self.shape.size() <= self.file.len()
@@ -57,6 +57,17 @@ impl<'a, const HEAD: usize, const TAIL: usize> Records<'a, HEAD, TAIL> {
         let number = u32_at(self.file, at);
         let kind = u16_at(self.file, at + 6);
         number == n && 1 <= count && count <= shape.most && kind == u16::from(shape.kind)
+    }
+
+    // The first key of record `n`.
+    pub fn first_key(&self, n: u32) -> &'a [u8]
+        requires { record_there self.now.file.now self.now.shape n ≡ true }
+        ensures is { result.now ≡ key_at self.now.file.now self.now.shape n 0 }
+        ensures low { 8 ≤ length result.now }
+        ensures size { length result.now ≡ self.now.shape.width }
+    {
+        let shape = self.shape;
+        part(self.file, shape.key_place(n, 0), shape.width())
     }
 
     // The key of entry `i` of record `n`.
@@ -94,6 +105,16 @@ pub fn child_of(punt: u32) -> Child
         Child::Node(punt)
     } else {
         Child::Leaf(punt.wrapping_neg())
+    }
+}
+
+impl<'a> Leaves<'a> {
+    // PS of leaf `n`, its successor.
+    pub fn successor(&self, n: u32) -> u32
+        requires { record_there self.now.file.now self.now.shape n ≡ true }
+        ensures { result ≡ ps_at self.now.file.now self.now.shape n }
+    {
+        u32_at(self.file, self.shape.place(n) + 8)
     }
 }
 

@@ -5,17 +5,16 @@ use native.Mathlib.Omega.{arith}
 use mathlib.Core.Path.{◌≡◌, refl, sym, ap, ◌∙◌}
 use mathlib.Core.Bool.{Bool, true, false, not, ◌&&◌, cond}
 use mathlib.Core.List.{List, [], ◌∷◌, ◌++◌, append-nil, append_assoc}
-use lib.Dec.{eqb}
-use borrow.Author.Tests.{eqb-false, ne_eqb, not-true}
+use borrow.Author.Tests.{not-true}
+use Rattle.std.proofs.Common.{Some, Err}
 use Rattle.terms.specs.Key.{same, below, ascending, ascending_after}
 use Rattle.index.specs.Layout.{ock_at, key_at, punt_at, keys_from, keys_of}
 use Rattle.index.specs.Rules.{record_there, record_right, punts_right, node_right}
-use Rattle.index.specs.Lookup.{Entry, entries_from, entries_of, first_equal, leaf_answer, last_punt, is_node, leaf_number, onward, descend}
+use Rattle.index.specs.Lookup.{Found, at, Entry, entries_from, entries_of, first_equal, leaf_answer, last_punt, is_node, leaf_number, onward, descend}
 use Rattle.index.specs.Reading.{Met, Node, Leaf, TooDeep, leaves_among}
-use Rattle.index.specs.declared.layout.Shape.{Shape}
+use Rattle.index.specs.Shape.{Shape}
 use Rattle.index.specs.declared.layout.Tree.{Tree}
-use Rattle.index.specs.declared.lookup.Found.{Found}
-use Rattle.index.specs.declared.lookup.Found.TheVariants.{At, NoTerm}
+use Rattle.index.specs.declared.lookup.Refusal.TheVariants.{NoTerm}
 use Rattle.index.proofs.Shapes.{right_facts}
 use Rattle.terms.proofs.Order.{by_cases, never, below_irrefl, below_trans, same_is, above, above_lower, ascent_above, last_of, ascent_append}
 use Rattle.word.proofs.Tests.{and_iff, false_true}
@@ -100,7 +99,7 @@ module _ (key : List ℕ) where
   none_same [] = true
   none_same (e ∷ es) = not (same key e.key) && none_same es
 
-  first_none : (es : List Entry) → none_same es ≡ true → first_equal key es ≡ NoTerm
+  first_none : (es : List Entry) → none_same es ≡ true → first_equal key es ≡ Err NoTerm
   unfolding none_same first_equal
   first_none [] h = refl
   first_none (e ∷ es) h =
@@ -117,7 +116,7 @@ module _ (key : List ℕ) where
   first_stay : (xs ys : List Entry) → none_same ys ≡ true → first_equal key (xs ++ ys) ≡ first_equal key xs
   unfolding first_equal
   first_stay [] ys h = first_none ys h
-  first_stay (e ∷ es) ys h = ap (λ (r : Found). cond (same key e.key) (At e.block e.word) r) (first_stay es ys h)
+  first_stay (e ∷ es) ys h = ap (λ (r : Found). cond (same key e.key) (at e.block e.word) r) (first_stay es ys h)
 
   not_same : (x : List ℕ) → (key ≡ x → ⊥) → not (same key x) ≡ true
   not_same x h = go (same key x) refl
@@ -214,27 +213,27 @@ module _ (nodes leaves : List ℕ) (t : Tree) (key : List ℕ) where
     pointer_first n i true z e = same_is _ _ (both (record_there nodes t.nodes (punt_at nodes t.nodes n i)) _ (rw z at e)).1
     pointer_first n i false z e = same_is _ _ (both (record_there leaves t.leaves (leaf_number (punt_at nodes t.nodes n i))) _ (rw z at e)).1
 
-    onward_is : (punt : ℕ) (b : Bool) → is_node punt ≡ b → (punt ≡ 0 → ⊥) → onward down (leaf_answer leaves t.leaves key) punt ≡ cond b (down punt) (leaf_answer leaves t.leaves key (leaf_number punt))
+    onward_is : (punt : ℕ) (b : Bool) → is_node punt ≡ b → onward down (leaf_answer leaves t.leaves key) (Some punt) ≡ cond b (down punt) (leaf_answer leaves t.leaves key (leaf_number punt))
     unfolding onward
-    onward_is punt b z h = rw (ne_eqb punt 0 h, z)
+    onward_is punt b z = rw z
 
     behind_is : (punt : ℕ) (b : Bool) → is_node punt ≡ b → behind from punt ≡ cond b (from punt) (Leaf (leaf_number punt) ∷ [])
     behind_is punt b z = rw z
 
-    child : (n i : ℕ) (b : Bool) → is_node (punt_at nodes t.nodes n i) ≡ b → pointer_right nodes leaves t n i ≡ true → (punt_at nodes t.nodes n i ≡ 0 → ⊥)
+    child : (n i : ℕ) (b : Bool) → is_node (punt_at nodes t.nodes n i) ≡ b → pointer_right nodes leaves t n i ≡ true
         → all (keeps nodes leaves t) (behind from (punt_at nodes t.nodes n i)) ≡ true
         → ascending (keys_in (held (behind from (punt_at nodes t.nodes n i)))) ≡ true
-        → Judged (behind from (punt_at nodes t.nodes n i)) (onward down (leaf_answer leaves t.leaves key) (punt_at nodes t.nodes n i)) (key_at nodes t.nodes n i)
+        → Judged (behind from (punt_at nodes t.nodes n i)) (onward down (leaf_answer leaves t.leaves key) (Some (punt_at nodes t.nodes n i))) (key_at nodes t.nodes n i)
     unfolding all
-    child n i true z p h a k =
+    child n i true z p a k =
         let q = behind_is (punt_at nodes t.nodes n i) true z in
-        judged_as _ _ _ _ _ _ q (onward_is (punt_at nodes t.nodes n i) true z h) (pointer_first n i true z p)
+        judged_as _ _ _ _ _ _ q (onward_is (punt_at nodes t.nodes n i) true z) (pointer_first n i true z p)
         (known (punt_at nodes t.nodes n i) (ap (all (keeps nodes leaves t)) (sym q) ∙ a) (ap (λ (l : List Met). ascending (keys_in (held l))) (sym q) ∙ k))
-    child n i false z p h a k =
+    child n i false z p a k =
         let q = behind_is (punt_at nodes t.nodes n i) false z in
         let m : ℕ = leaf_number (punt_at nodes t.nodes n i) in
         let r : (record_right leaves t.leaves m && true) ≡ true = ap (all (keeps nodes leaves t)) (sym q) ∙ a in
-        judged_as _ _ _ _ _ _ q (onward_is (punt_at nodes t.nodes n i) false z h) (pointer_first n i false z p)
+        judged_as _ _ _ _ _ _ q (onward_is (punt_at nodes t.nodes n i) false z) (pointer_first n i false z p)
         (leaf_judged m (both (record_right leaves t.leaves m) true r).0)
 
     -- ---- the first entries of a node
@@ -242,7 +241,6 @@ module _ (nodes leaves : List ℕ) (t : Tree) (key : List ℕ) where
     module _ (n : ℕ) where
       record Entered (i : ℕ) : Type 0 where
         pointers : pointers_right nodes leaves t n i ≡ true
-        punts : punts_right nodes t.nodes n i ≡ true
         kept : all (keeps nodes leaves t) (behind_first from nodes t.nodes n i) ≡ true
         ascent : ascending (keys_in (held (behind_first from nodes t.nodes n i))) ≡ true
 
@@ -254,23 +252,20 @@ module _ (nodes leaves : List ℕ) (t : Tree) (key : List ℕ) where
           ∙ keys_in_append (held (behind_first from nodes t.nodes n i)) (held (behind from (punt_at nodes t.nodes n i)))
 
       before_it : (i : ℕ) → Entered (suc i) → Entered i
-      unfolding pointers_right punts_right behind_first
+      unfolding pointers_right behind_first
       before_it i e =
           record {
             pointers = (both (pointers_right nodes leaves t n i) (pointer_right nodes leaves t n i) e.pointers).0;
-            punts = (both (punts_right nodes t.nodes n i) (not (eqb (punt_at nodes t.nodes n i) 0)) e.punts).0;
             kept = (all_append (keeps nodes leaves t) (behind_first from nodes t.nodes n i) (behind from (punt_at nodes t.nodes n i)) e.kept).0;
             ascent = ascent_left _ (keys_in (held (behind from (punt_at nodes t.nodes n i)))) (ap ascending (sym (split i)) ∙ e.ascent);
           }
 
       last_one : (i : ℕ) → Entered (suc i)
-          → Judged (behind from (punt_at nodes t.nodes n i)) (onward down (leaf_answer leaves t.leaves key) (punt_at nodes t.nodes n i)) (key_at nodes t.nodes n i)
-      unfolding pointers_right punts_right behind_first
+          → Judged (behind from (punt_at nodes t.nodes n i)) (onward down (leaf_answer leaves t.leaves key) (Some (punt_at nodes t.nodes n i))) (key_at nodes t.nodes n i)
+      unfolding pointers_right behind_first
       last_one i e =
           child n i (is_node (punt_at nodes t.nodes n i)) refl
           (both (pointers_right nodes leaves t n i) (pointer_right nodes leaves t n i) e.pointers).1
-          (eqb-false (punt_at nodes t.nodes n i) 0
-          (not-true (eqb (punt_at nodes t.nodes n i) 0) (both (punts_right nodes t.nodes n i) (not (eqb (punt_at nodes t.nodes n i) 0)) e.punts).1))
           (all_append (keeps nodes leaves t) (behind_first from nodes t.nodes n i) (behind from (punt_at nodes t.nodes n i)) e.kept).1
           (ascent_right (keys_in (held (behind_first from nodes t.nodes n i))) _ (ap ascending (sym (split i)) ∙ e.ascent))
 
@@ -313,7 +308,7 @@ module _ (nodes leaves : List ℕ) (t : Tree) (key : List ℕ) where
       unfolding last_punt
       last_above i g = rw g
 
-      last_here : (i : ℕ) → below key (key_at nodes t.nodes n i) ≡ false → last_punt nodes t.nodes key n (suc i) ≡ punt_at nodes t.nodes n i
+      last_here : (i : ℕ) → below key (key_at nodes t.nodes n i) ≡ false → last_punt nodes t.nodes key n (suc i) ≡ Some (punt_at nodes t.nodes n i)
       unfolding last_punt
       last_here i g = rw g
 
@@ -391,7 +386,6 @@ module _ (nodes leaves : List ℕ) (t : Tree) (key : List ℕ) where
   record NodeFacts (n : ℕ) : Type 0 where
     right : node_right nodes t.nodes n ≡ true
     points : pointers_right nodes leaves t n (ock_at nodes t.nodes n) ≡ true
-    nonzero : punts_right nodes t.nodes n (ock_at nodes t.nodes n) ≡ true
     counted : 1 ≤ ock_at nodes t.nodes n
 
   node_facts : (n : ℕ) → node_sound nodes leaves t n ≡ true → NodeFacts n
@@ -400,7 +394,7 @@ module _ (nodes leaves : List ℕ) (t : Tree) (key : List ℕ) where
       let q = both (node_right nodes t.nodes n && ascending (keys_of nodes t.nodes n)) (pointers_right nodes leaves t n (ock_at nodes t.nodes n)) e in
       let r = both (node_right nodes t.nodes n) (ascending (keys_of nodes t.nodes n)) q.0 in
       let u = both (record_right nodes t.nodes n) (punts_right nodes t.nodes n (ock_at nodes t.nodes n)) r.0 in
-      record { right = r.0; points = q.1; nonzero = u.1; counted = (right_facts nodes t.nodes n u.0).count_low }
+      record { right = r.0; points = q.1; counted = (right_facts nodes t.nodes n u.0).count_low }
 
   too_deep : (n : ℕ) → all (keeps nodes leaves t) (walk nodes t.nodes 0 n) ≡ true → false ≡ true
   unfolding all walk
@@ -418,7 +412,7 @@ module _ (nodes leaves : List ℕ) (t : Tree) (key : List ℕ) where
       let down : ℕ → Found = λ m. descend nodes leaves t key left m in
       let h = held_walk n left f.right in
       let e : Entered from down known n count =
-      record { pointers = f.points; punts = f.nonzero; kept = kept_walk n left f.right a; ascent = ap (λ (l : List Entry). ascending (keys_in l)) (sym h) ∙ k } in
+      record { pointers = f.points; kept = kept_walk n left f.right a; ascent = ap (λ (l : List Entry). ascending (keys_in l)) (sym h) ∙ k } in
       let z : suc (count - 1) ≡ count = omega arith in
       let b : Begun from down known n count = rw z at (begun from down known n (count - 1) (rw (← z) at e)) in
       record {

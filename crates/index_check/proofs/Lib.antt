@@ -1,6 +1,7 @@
+pub mod Keys
 pub mod Passing
 pub mod Sound
-pub mod Checking
 pub mod Held
-pub mod Theorems
 pub mod Meeting
+pub mod Theorems
+pub mod Checking

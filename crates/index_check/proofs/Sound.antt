@@ -8,12 +8,13 @@ use mathlib.Core.Bool.{Bool, true, false, not, ◌&&◌, cond, and-false, and_as
 use mathlib.Core.List.{List, [], ◌∷◌, ◌++◌}
 use lib.Dec.{eqb}
 use borrow.Author.Tests.{ne_eqb}
+use Rattle.std.proofs.Common.{Option, Some, None, Ok}
 use Rattle.word.specs.Overwrite.{part}
 use Rattle.terms.specs.Key.{below, ascending, ascending_after}
 use Rattle.index.specs.Layout.{ock_at, key_at, ps_at, keys_from, keys_of}
 use Rattle.index.specs.Rules.{record_right, node_right}
 use Rattle.index.specs.Reading.{Met, Node, Leaf, TooDeep, leaves_among}
-use Rattle.index.specs.declared.layout.Shape.{Shape}
+use Rattle.index.specs.Shape.{Shape}
 use Rattle.index.specs.declared.layout.Tree.{Tree}
 use Rattle.index.proofs.Shapes.{right_facts}
 use Rattle.terms.proofs.Order.{by_cases, never, below_irrefl, above, above_right, ascent_above, last_of, ascent_append}
@@ -21,9 +22,8 @@ use Rattle.word.proofs.Tests.{and_iff, false_true}
 use Rattle.index_check.specs.Walk.{keys_along}
 use Rattle.index_check.specs.Sound.{all, keeps_rules, node_ascends, points_to_first, pointers_right, not_in, none_twice, successors_after, successors_right, met_sound}
 use Rattle.index_check.specs.Theorems.{readable}
-use Rattle.index_check.specs.Passes.{node_sound, last_place, follows, leaf_sound, leaf_step, ended, pass_one, pass}
-use Rattle.index_check.specs.declared.check.Progress.{Progress}
-use Rattle.index_check.specs.declared.check.Progress.TheVariants.{Stopped, Before, After}
+use Rattle.index_check.specs.Passes.{Progress, stopped, node_sound, last_place, follows, leaf_sound, leaf_step, ended, pass_one, pass}
+use Rattle.index_check.specs.declared.check.After.{After}
 use Rattle.index_check.proofs.Passing.{pass_stopped, sound_record}
 
 -- ---- the keys of a record: the first, and the last
@@ -120,16 +120,15 @@ module _ (nodes leaves : List ℕ) (t : Tree) where
   -- ---- the pass
 
   gate : (ms : List Met) (b : Bool) (w : Progress)
-      → ended (pass nodes leaves t ms (cond b w Stopped)) ≡ (b && ended (pass nodes leaves t ms w))
+      → ended (pass nodes leaves t ms (cond b w stopped)) ≡ (b && ended (pass nodes leaves t ms w))
   unfolding ended
   gate ms true w = refl
-  gate ms false w = ap ended (pass_stopped nodes leaves t ms)
+  gate ms false w = ap ended (pass_stopped nodes leaves t ms _)
 
   -- the keys, and the successors, that may follow where the walk is
-  abbrev keys_after : Progress → List (List ℕ) → Bool
-  keys_after Stopped ks = false
-  keys_after Before ks = ascending ks
-  keys_after (After key next) ks = ascending_after (part leaves key t.leaves.width) ks
+  abbrev keys_after : Option After → List (List ℕ) → Bool
+  keys_after None ks = ascending ks
+  keys_after (Some a) ks = ascending_after (part leaves a.key t.leaves.width) ks
 
   unfoldable pub next_right : ℕ → List ℕ → Bool
   next_right next [] = eqb next 0
@@ -140,10 +139,9 @@ module _ (nodes leaves : List ℕ) (t : Tree) where
   next_right_lem n [] = refl
   next_right_lem n (m ∷ ns) = refl
 
-  abbrev successors : Progress → List ℕ → Bool
-  successors Stopped ns = false
-  successors Before ns = successors_right leaves t.leaves ns
-  successors (After key next) ns = next_right next ns
+  abbrev successors : Option After → List ℕ → Bool
+  successors None ns = successors_right leaves t.leaves ns
+  successors (Some a) ns = next_right a.next ns
 
   first_case : (a l k s : Bool) → (((true && a) && true) && (l && (k && s))) ≡ ((true && l) && ((a && k) && s))
   first_case true l k s = refl
@@ -155,14 +153,10 @@ module _ (nodes leaves : List ℕ) (t : Tree) where
   next_case true false e l k s = simp and-false
   next_case false b e l k s = simp and-false
 
-  and_none : (a : Bool) → false ≡ (a && (false && false))
-  and_none true = refl
-  and_none false = refl
-
   -- over one leaf, where the rest is known to be judged right from there
   leaf_before : (n : ℕ) (ms : List Met) (r : Bool) → record_right leaves t.leaves n ≡ true
       → r ≡ (all keeps ms && (ascending_after (last_key leaves t.leaves n) (keys_along leaves t.leaves (leaves_among ms)) && successors_after leaves t.leaves n (leaves_among ms)))
-      → (leaf_sound leaves t.leaves Before n && r)
+      → (leaf_sound leaves t.leaves None n && r)
       ≡ ((record_right leaves t.leaves n && all keeps ms)
       && (ascending (keys_of leaves t.leaves n ++ keys_along leaves t.leaves (leaves_among ms)) && successors_after leaves t.leaves n (leaves_among ms)))
   unfolding leaf_sound follows
@@ -170,53 +164,47 @@ module _ (nodes leaves : List ℕ) (t : Tree) where
       (first_case (ascending (keys_of leaves t.leaves n)) (all keeps ms)
       (ascending_after (last_key leaves t.leaves n) (keys_along leaves t.leaves (leaves_among ms))) (successors_after leaves t.leaves n (leaves_among ms)))
 
-  leaf_after : (key next n : ℕ) (ms : List Met) (r : Bool) → record_right leaves t.leaves n ≡ true
+  leaf_after : (a : After) (n : ℕ) (ms : List Met) (r : Bool) → record_right leaves t.leaves n ≡ true
       → r ≡ (all keeps ms && (ascending_after (last_key leaves t.leaves n) (keys_along leaves t.leaves (leaves_among ms)) && successors_after leaves t.leaves n (leaves_among ms)))
-      → (leaf_sound leaves t.leaves (After key next) n && r)
+      → (leaf_sound leaves t.leaves (Some a) n && r)
       ≡ ((record_right leaves t.leaves n && all keeps ms)
-      && (ascending_after (part leaves key t.leaves.width) (keys_of leaves t.leaves n ++ keys_along leaves t.leaves (leaves_among ms))
-      && (eqb next n && successors_after leaves t.leaves n (leaves_among ms))))
+      && (ascending_after (part leaves a.key t.leaves.width) (keys_of leaves t.leaves n ++ keys_along leaves t.leaves (leaves_among ms))
+      && (eqb a.next n && successors_after leaves t.leaves n (leaves_among ms))))
   unfolding leaf_sound follows
-  leaf_after key next n ms r e p = rw (p, after_then leaves t.leaves n e, e)
-      (next_case (ascending (keys_of leaves t.leaves n)) (below (part leaves key t.leaves.width) (key_at leaves t.leaves n 0)) (eqb next n)
+  leaf_after a n ms r e p = rw (p, after_then leaves t.leaves n e, e)
+      (next_case (ascending (keys_of leaves t.leaves n)) (below (part leaves a.key t.leaves.width) (key_at leaves t.leaves n 0)) (eqb a.next n)
       (all keeps ms) (ascending_after (last_key leaves t.leaves n) (keys_along leaves t.leaves (leaves_among ms)))
       (successors_after leaves t.leaves n (leaves_among ms)))
 
-  leaf_broken : (w : Progress) (n : ℕ) (r x y : Bool) → record_right leaves t.leaves n ≡ false
+  leaf_broken : (w : Option After) (n : ℕ) (r x y : Bool) → record_right leaves t.leaves n ≡ false
       → (leaf_sound leaves t.leaves w n && r) ≡ ((record_right leaves t.leaves n && x) && y)
   unfolding leaf_sound
   leaf_broken w n r x y e = rw e
 
-  leaf_stopped : (n : ℕ) (r x : Bool) → (leaf_sound leaves t.leaves Stopped n && r) ≡ (x && (false && false))
-  unfolding leaf_sound follows
-  leaf_stopped n r x = simp and-false
+  abbrev after : ℕ → Option After
+  after n = Some (record { key = last_place leaves t.leaves n; next = ps_at leaves t.leaves n })
 
-  abbrev after : ℕ → Progress
-  after n = After (last_place leaves t.leaves n) (ps_at leaves t.leaves n)
-
-  over_leaf : (w : Progress) (n : ℕ) (ms : List Met) (r : Bool)
+  over_leaf : (w : Option After) (n : ℕ) (ms : List Met) (r : Bool)
       → r ≡ (all keeps ms && (keys_after (after n) (keys_along leaves t.leaves (leaves_among ms)) && successors (after n) (leaves_among ms)))
       → (leaf_sound leaves t.leaves w n && r)
       ≡ ((record_right leaves t.leaves n && all keeps ms) && (keys_after w (keys_along leaves t.leaves (n ∷ leaves_among ms)) && successors w (n ∷ leaves_among ms)))
   unfolding keys_along successors_right next_right
-  over_leaf Stopped n ms r p = leaf_stopped n r (record_right leaves t.leaves n && all keeps ms)
-  over_leaf Before n ms r p =
-      by_cases (record_right leaves t.leaves n) (λ e. leaf_before n ms r e (rw (next_right_lem n (leaves_among ms)) at p)) (λ e. leaf_broken Before n r _ _ e)
-  over_leaf (After key next) n ms r p =
-      by_cases (record_right leaves t.leaves n) (λ e. leaf_after key next n ms r e (rw (next_right_lem n (leaves_among ms)) at p))
-      (λ e. leaf_broken (After key next) n r _ _ e)
+  over_leaf None n ms r p =
+      by_cases (record_right leaves t.leaves n) (λ e. leaf_before n ms r e (rw (next_right_lem n (leaves_among ms)) at p)) (λ e. leaf_broken None n r _ _ e)
+  over_leaf (Some a) n ms r p =
+      by_cases (record_right leaves t.leaves n) (λ e. leaf_after a n ms r e (rw (next_right_lem n (leaves_among ms)) at p))
+      (λ e. leaf_broken (Some a) n r _ _ e)
 
-  pub pass_is : (ms : List Met) (w : Progress)
-      → ended (pass nodes leaves t ms w)
+  pub pass_is : (ms : List Met) (w : Option After)
+      → ended (pass nodes leaves t ms (Ok w))
       ≡ (all keeps ms && (keys_after w (keys_along leaves t.leaves (leaves_among ms)) && successors w (leaves_among ms)))
   unfolding pass pass_one leaf_step all leaves_among ended keys_along successors_right next_right ascending ascending_after
-  pass_is [] Stopped = refl
-  pass_is [] Before = refl
-  pass_is [] (After key next) = refl
+  pass_is [] None = refl
+  pass_is [] (Some a) = refl
   pass_is (Node n ∷ ms) w =
-      gate ms (node_sound nodes leaves t n) w ∙ ap (λ (b : Bool). node_sound nodes leaves t n && b) (pass_is ms w) ∙ sym (and_assoc (node_sound nodes leaves t n) _ _)
-  pass_is (Leaf n ∷ ms) w = gate ms (leaf_sound leaves t.leaves w n) (after n) ∙ over_leaf w n ms _ (pass_is ms (after n))
-  pass_is (TooDeep ∷ ms) w = ap ended (pass_stopped nodes leaves t ms)
+      gate ms (node_sound nodes leaves t n) (Ok w) ∙ ap (λ (b : Bool). node_sound nodes leaves t n && b) (pass_is ms w) ∙ sym (and_assoc (node_sound nodes leaves t n) _ _)
+  pass_is (Leaf n ∷ ms) w = gate ms (leaf_sound leaves t.leaves w n) (Ok (after n)) ∙ over_leaf w n ms _ (pass_is ms (after n))
+  pass_is (TooDeep ∷ ms) w = ap ended (pass_stopped nodes leaves t ms _)
 
   -- ---- no leaf twice
 
@@ -272,6 +260,6 @@ module _ (nodes leaves : List ℕ) (t : Tree) where
   absorb true false d s f = refl
   absorb false k d s f = refl
 
-  pub pass_sound : (ms : List Met) → ended (pass nodes leaves t ms Before) ≡ met_sound nodes leaves t ms
+  pub pass_sound : (ms : List Met) → ended (pass nodes leaves t ms (Ok None)) ≡ met_sound nodes leaves t ms
   unfolding met_sound
-  pass_sound ms = pass_is ms Before ∙ rw (keeps_all ms) (absorb (all keeps ms) _ _ _ (λ a. ascent_once ms (keeps_readable ms a)))
+  pass_sound ms = pass_is ms None ∙ rw (keeps_all ms) (absorb (all keeps ms) _ _ _ (λ a. ascent_once ms (keeps_readable ms a)))

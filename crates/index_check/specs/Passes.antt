@@ -1,34 +1,27 @@
 -- Inner: the sentences of a sound index asked in one pass over what is met. Of the leaves met only the last one's last key and successor are remembered. The pass
 -- ends well exactly if every sentence holds (proofs/Sound).
-use Rattle.std.specs.Prelude.{ℕ, ◌+◌, ◌-◌, ◌≤◌, ◌≡◌, ◌⊎◌, Bool, true, false, ◌&&◌, cond, List, [], ◌∷◌, eqb, length}
+use Rattle.std.specs.Prelude.{ℕ, ◌+◌, ◌-◌, ◌≤◌, Bool, true, false, ◌&&◌, cond, List, [], ◌∷◌, eqb, length, Option, Some, None, Result, Ok, Err}
 use Rattle.word.specs.Overwrite.{part}
 use Rattle.terms.specs.Key.{below, ascending}
+use Rattle.index.specs.Files.{Index}
+use Rattle.index.specs.Shape.{Shape}
 use Rattle.index.specs.Layout.{ock_at, key_place, key_at, ps_at, keys_of}
 use Rattle.index.specs.Rules.{record_right, node_right}
 use Rattle.index.specs.Reading.{Met, Node, Leaf, TooDeep}
-use Rattle.index.specs.declared.layout.Shape.{Shape}
 use Rattle.index.specs.declared.layout.Tree.{Tree}
-use Rattle.index_check.specs.Sound.{begins, pointers_right}
-use Rattle.index_check.specs.declared.check.Progress.{Progress}
-use Rattle.index_check.specs.declared.check.Progress.TheVariants.{Stopped, Before, After}
+use Rattle.index_check.specs.Sound.{pointers_right, sound_of}
+use Rattle.index_check.specs.declared.check.After.{After}
+use Rattle.index_check.specs.declared.check.BadIndex.{BadIndex}
 
--- keys have one of two widths
-abbrev pub KeyWidth : ℕ → Type 0
-KeyWidth width = (width ≡ 10) ⊎ (width ≡ 30)
+-- how far a pass is: stopped at a broken rule, before the first leaf, or after a leaf
+abbrev pub Progress : Type 0
+Progress = Result (Option After) BadIndex
 
--- a rule was broken
-unfoldable pub is_stopped : Progress → Bool
-is_stopped Stopped = true
-is_stopped Before = false
-is_stopped (After key next) = false
+abbrev pub broken : BadIndex
+broken = record {}
 
--- on from there, if a record begins as it should
-unfoldable pub led : Bool → Progress → Progress
-led b w = cond b w Stopped
-
--- a node begins with the key at this place; 0 is the place of none
-unfoldable pub pointed : List ℕ → Shape → ℕ → ℕ → Bool
-pointed f s key n = cond (eqb key 0) true (begins (part f key s.width) f s n)
+abbrev pub stopped : Progress
+stopped = Err broken
 
 module _ (nodes leaves : List ℕ) (t : Tree) where
   -- the three sentences of a node
@@ -41,35 +34,47 @@ module _ (leaves : List ℕ) (s : Shape) where
   last_place m = key_place s m (ock_at leaves s m - 1)
 
   -- leaf n is the last one's successor and begins above its last key
-  unfoldable pub follows : Progress → ℕ → Bool
-  follows Stopped n = false
-  follows Before n = true
-  follows (After key next) n = eqb next n && below (part leaves key s.width) (key_at leaves s n 0)
+  unfoldable pub follows : Option After → ℕ → Bool
+  follows None n = true
+  follows (Some a) n = eqb a.next n && below (part leaves a.key s.width) (key_at leaves s n 0)
 
-  unfoldable pub leaf_sound : Progress → ℕ → Bool
+  unfoldable pub leaf_sound : Option After → ℕ → Bool
   leaf_sound w n = record_right leaves s n && ascending (keys_of leaves s n) && follows w n
 
-  unfoldable pub leaf_step : ℕ → Progress → Progress
-  leaf_step n w = cond (leaf_sound w n) (After (last_place n) (ps_at leaves s n)) Stopped
+  unfoldable pub leaf_step : ℕ → Option After → Progress
+  leaf_step n w = cond (leaf_sound w n) (Ok (Some (record { key = last_place n; next = ps_at leaves s n }))) stopped
 
   -- the last leaf's last key is in the file
-  unfoldable pub Reached : Progress → Type 0
-  Reached Stopped = Unit {0}
-  Reached Before = Unit {0}
-  Reached (After key next) = key + s.width ≤ length leaves
+  unfoldable pub Reached : Option After → Type 0
+  Reached None = Unit {0}
+  Reached (Some a) = a.key + s.width ≤ length leaves
 
 -- the last leaf's successor is 0
 unfoldable pub ended : Progress → Bool
-ended Stopped = false
-ended Before = true
-ended (After key next) = eqb next 0
+ended (Err e) = false
+ended (Ok None) = true
+ended (Ok (Some a)) = eqb a.next 0
 
 module _ (nodes leaves : List ℕ) (t : Tree) where
-  unfoldable pub pass_one : Met → Progress → Progress
-  pass_one (Node n) w = cond (node_sound nodes leaves t n) w Stopped
+  unfoldable pub pass_one : Met → Option After → Progress
+  pass_one (Node n) w = cond (node_sound nodes leaves t n) (Ok w) stopped
   pass_one (Leaf n) w = leaf_step leaves t.leaves n w
-  pass_one TooDeep w = Stopped
+  pass_one TooDeep w = stopped
 
+  -- a pass that is stopped stays so
   unfoldable pub pass : List Met → Progress → Progress
   pass [] w = w
-  pass (m ∷ ms) w = pass ms (pass_one m w)
+  pass (m ∷ ms) (Ok w) = pass ms (pass_one m w)
+  pass (m ∷ ms) (Err e) = pass ms (Err e)
+
+-- the tree of two files' records; its root is of no account to a pass
+abbrev pub tree_with : Shape → Shape → Tree
+tree_with nodes leaves = record { nodes = nodes; leaves = leaves; root = 0 }
+
+-- ---- the verdict
+
+abbrev pub verdict : Bool → Result Unit BadIndex
+verdict b = cond b (Ok tt) (Err broken)
+
+abbrev pub check_of : Index → Result Unit BadIndex
+check_of x = verdict (sound_of x)

@@ -1,16 +1,16 @@
 -- The sound index, sentence by sentence. Document 02, C-11: "in both trees no rule of 21 is broken, keys ascend strictly in nodes and along the leaves, each
 -- pointer's key is its target's first, and the walk from each root meets no leaf twice, in successor order, the last one's successor 0".
-use Rattle.std.specs.Prelude.{ℕ, zero, suc, Bool, true, false, not, ◌&&◌, cond, List, [], ◌∷◌, eqb}
+use Rattle.std.specs.Prelude.{ℕ, zero, suc, Bool, true, false, not, ◌&&◌, cond, List, [], ◌∷◌, eqb, Option, Some, None}
 use Rattle.terms.specs.Key.{same, ascending}
+use Rattle.terms.specs.declared.term.Kind.{Kind}
+use Rattle.terms.specs.declared.term.Kind.TheVariants.{Short, Long}
 use Rattle.index.specs.Files.{Index, nodes_in, leaves_in}
 use Rattle.index.specs.Layout.{ock_at, key_at, punt_at, ps_at, keys_of}
 use Rattle.index.specs.Rules.{record_there, record_right, node_right, part_of}
 use Rattle.index.specs.Lookup.{is_node, leaf_number}
 use Rattle.index.specs.Reading.{Met, Node, Leaf, TooDeep, leaves_among}
-use Rattle.index.specs.declared.layout.Shape.{Shape}
+use Rattle.index.specs.Shape.{Shape}
 use Rattle.index.specs.declared.layout.Tree.{Tree}
-use Rattle.index.specs.declared.layout.Part.{Part}
-use Rattle.index.specs.declared.layout.Part.TheVariants.{Right, Wrong}
 use Rattle.index_check.specs.Walk.{met, keys_along}
 
 -- ---- of each that is met
@@ -88,16 +88,16 @@ met_sound nodes leaves t ms =
     && successors_right leaves t.leaves (leaves_among ms)
 
 -- a tree: CNT's part is right, and all that is met from its root keeps every sentence
-unfoldable pub tree_sound : List ℕ → List ℕ → Part → Bool
-tree_sound nodes leaves Wrong = false
-tree_sound nodes leaves (Right t) = met_sound nodes leaves t (met nodes t)
+unfoldable pub tree_sound : List ℕ → List ℕ → Option Tree → Bool
+tree_sound nodes leaves None = false
+tree_sound nodes leaves (Some t) = met_sound nodes leaves t (met nodes t)
 
-abbrev pub sound_in : Index → ℕ → Bool
+abbrev pub sound_in : Index → Kind → Bool
 sound_in x kind = tree_sound (nodes_in x kind) (leaves_in x kind) (part_of x.cnt kind)
 
 -- both trees
 unfoldable pub sound_of : Index → Bool
-sound_of x = sound_in x 1 && sound_in x 2
+sound_of x = sound_in x Short && sound_in x Long
 
 -- 0, or 21
 abbrev pub index_answer : Index → ℕ

@@ -1,17 +1,15 @@
 -- What is proved of an index that passes. Document 02, C-11: "On an index that passes, a term is found exactly if a leaf met from its tree's root holds it."
-use Rattle.std.specs.Prelude.{ℕ, ◌+◌, ◌*◌, ◌≤◌, ◌≡◌, ◌⊎◌, ◌↔◌, Bool, true, false, cond, List, [], ◌∷◌, length}
+use Rattle.std.specs.Prelude.{ℕ, ◌+◌, ◌*◌, ◌≤◌, ◌≡◌, ◌⊎◌, ◌↔◌, Bool, true, false, cond, List, [], ◌∷◌, length, Option, Some, None, Err}
 use Rattle.terms.specs.Key.{ascending}
 use Rattle.terms.specs.Term.{term_right, kind_for, width_of, padded}
 use Rattle.index.specs.Files.{Index, nodes_in, leaves_in}
 use Rattle.index.specs.Layout.{nodes_most}
 use Rattle.index.specs.Rules.{record_right, part_of}
-use Rattle.index.specs.Lookup.{Entry, entries_of, lookup_of}
+use Rattle.index.specs.Lookup.{at, Entry, entries_of, lookup_of}
 use Rattle.index.specs.Reading.{Met, Node, Leaf, TooDeep, nodes_among, leaves_among}
-use Rattle.index.specs.declared.layout.Shape.{Shape}
+use Rattle.index.specs.Shape.{Shape}
 use Rattle.index.specs.declared.layout.Tree.{Tree}
-use Rattle.index.specs.declared.layout.Part.{Part}
-use Rattle.index.specs.declared.layout.Part.TheVariants.{Right, Wrong}
-use Rattle.index.specs.declared.lookup.Found.TheVariants.{At, NoTerm}
+use Rattle.index.specs.declared.lookup.Refusal.TheVariants.{NoTerm}
 use Rattle.index_check.specs.Walk.{met, keys_along}
 use Rattle.index_check.specs.Sound.{all, none_twice, sound_of}
 
@@ -28,9 +26,9 @@ HeldBy f s key block word [] = ⊥
 HeldBy f s key block word (n ∷ ns) = Among key block word (entries_of f s n) ⊎ HeldBy f s key block word ns
 
 -- a leaf met from the root of the tree that CNT's part describes holds the key
-unfoldable pub HeldIn : List ℕ → List ℕ → List ℕ → ℕ → ℕ → Part → Type 0
-HeldIn nodes leaves key block word Wrong = ⊥
-HeldIn nodes leaves key block word (Right t) = HeldBy leaves t.leaves key block word (leaves_among (met nodes t))
+unfoldable pub HeldIn : List ℕ → List ℕ → List ℕ → ℕ → ℕ → Option Tree → Type 0
+HeldIn nodes leaves key block word None = ⊥
+HeldIn nodes leaves key block word (Some t) = HeldBy leaves t.leaves key block word (leaves_among (met nodes t))
 
 -- a leaf met from the root of the term's tree holds the padded term
 abbrev pub Held : Index → List ℕ → ℕ → ℕ → Type 0
@@ -43,13 +41,13 @@ Held x term block word =
 unfoldable pub FoundExactlyIfHeld : Type 0
 FoundExactlyIfHeld =
     (x : Index) (term : List ℕ) → sound_of x ≡ true → term_right term ≡ true
-    → (block word : ℕ) → (lookup_of x term ≡ At block word) ↔ Held x term block word
+    → (block word : ℕ) → (lookup_of x term ≡ at block word) ↔ Held x term block word
 
 -- and answers 22 otherwise
 unfoldable pub AbsentOtherwise : Type 0
 AbsentOtherwise =
     (x : Index) (term : List ℕ) → sound_of x ≡ true → term_right term ≡ true
-    → ((block word : ℕ) → Held x term block word → ⊥) → lookup_of x term ≡ NoTerm
+    → ((block word : ℕ) → Held x term block word → ⊥) → lookup_of x term ≡ Err NoTerm
 
 -- ---- what the check goes over
 

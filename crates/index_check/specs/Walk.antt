@@ -4,7 +4,7 @@ use Rattle.index.specs.Layout.{nodes_most, ock_at, punt_at, keys_of}
 use Rattle.index.specs.Rules.{record_right}
 use Rattle.index.specs.Lookup.{is_node, leaf_number}
 use Rattle.index.specs.Reading.{Met, Node, Leaf, TooDeep}
-use Rattle.index.specs.declared.layout.Shape.{Shape}
+use Rattle.index.specs.Shape.{Shape}
 use Rattle.index.specs.declared.layout.Tree.{Tree}
 
 -- by a PUNT: what the walk from that node meets, or that leaf

@@ -21,6 +21,7 @@ ghost use Rattle.index_check.specs.Sound.{index_answer};
 ghost use Rattle.word.specs.Signed.{bits_of};
 ghost use Rattle.posting.specs.Answer as posting-answer;
 ghost use Rattle.posting.specs.Posting.{read_of, write_answer, write_out, compare_of};
+ghost use Rattle.postings.specs.Segment.{spot};
 ghost use Rattle.postings.specs.Calls.{postings_given, postings_out};
 ghost use Rattle.merging.specs.Calls.{mfns_given, mfns_out};
 ghost use Rattle.store.specs.Store.{store};
@@ -28,6 +29,9 @@ ghost use Rattle.drafts.specs.Draft.{draft};
 
 use drafts::draft::Draft;
 use layout::sizes::{Mfn, Tag};
+use merging::merge::Which;
+use posting::codec::Posting;
+use postings::segment::Place;
 use record::fields::Span;
 use store::answer::{Refusal, number};
 use views::views::occurrences_told;
@@ -433,10 +437,18 @@ pub extern "C" fn isis_lookup(
     ensures blocks { block.new ≡ block_of (lookup_of (index cnt.now n01.now l01.now n02.now l02.now) term.now) }
     ensures words { word.new ≡ word_of (lookup_of (index cnt.now n01.now l01.now n02.now l02.now) term.now) }
 {
-    let found = index::lookup::lookup(cnt, n01, l01, n02, l02, term);
-    *block = index::lookup::block(found);
-    *word = index::lookup::word(found);
-    index::lookup::answer(found)
+    match index::lookup::lookup(&Index { cnt, n01, l01, n02, l02 }, term) {
+        Ok(place) => {
+            *block = place.block.cast_signed();
+            *word = place.word.cast_signed();
+            0
+        }
+        Err(refusal) => {
+            *block = 0;
+            *word = 0;
+            u32::from(refusal)
+        }
+    }
 }
 
 // Checks a whole index.
@@ -450,7 +462,10 @@ pub extern "C" fn isis_check_index(
 ) -> u32
     ensures { result ≡ index_answer (index cnt.now n01.now l01.now n02.now l02.now) }
 {
-    index_check::check::check_index(cnt, n01, l01, n02, l02)
+    match index_check::check::check_index(&Index { cnt, n01, l01, n02, l02 }) {
+        Ok(()) => 0,
+        Err(broken) => u32::from(broken),
+    }
 }
 
 // The four numbers of a posting of eight bytes.
@@ -468,13 +483,13 @@ pub extern "C" fn isis_posting_read(
     ensures occurrences { occurrence.new ≡ (read_of bytes.now).occurrence }
     ensures sequences { sequence.new ≡ (read_of bytes.now).sequence }
 {
-    let p = posting::codec::read(bytes);
+    let read = posting::codec::read(bytes);
+    let p = read.unwrap_or_default();
     *mfn = p.mfn;
     *tag = p.tag;
     *occurrence = p.occurrence;
     *sequence = p.sequence;
-    let a = p.answer;
-    posting::answer::number(a)
+    posting::answer::number(read)
 }
 
 // Writes the posting of four numbers as eight bytes.
@@ -489,7 +504,13 @@ pub extern "C" fn isis_posting_write(
     ensures answers { result ≡ posting-answer.number_of (write_answer mfn tag occurrence sequence out.old) }
     ensures writes { out.new ≡ write_out mfn tag occurrence sequence out.old }
 {
-    posting::answer::number(posting::codec::write(mfn, tag, occurrence, sequence, out))
+    let p = Posting {
+        mfn,
+        tag,
+        occurrence,
+        sequence,
+    };
+    posting::answer::number(posting::codec::write(p, out))
 }
 
 // Compares two postings: 0 less, 1 equal, 2 greater.
@@ -498,6 +519,16 @@ pub extern "C" fn isis_posting_compare(a: u64, b: u64) -> u32
     ensures { result ≡ compare_of a b }
 {
     posting::codec::compare(a, b)
+}
+
+// The place that C gives by a block and a word.
+fn place(block: i32, word: i32) -> Place
+    ensures { result ≡ spot (bits_of block) (bits_of word) }
+{
+    Place {
+        block: to_bits(block),
+        word: to_bits(word),
+    }
 }
 
 // The postings of the list at a place, in stored order.
@@ -513,10 +544,9 @@ pub extern "C" fn isis_postings(
     ensures writes { out.new ≡ postings_out ifp.now (bits_of block) (bits_of word) out.old }
     ensures counts { count.new ≡ (postings_given ifp.now (bits_of block) (bits_of word) out.old).count }
 {
-    let g = postings::list::postings(ifp, to_bits(block), to_bits(word), out);
-    *count = g.count;
-    let a = g.answer;
-    posting::answer::number(a)
+    let given = postings::list::postings(ifp, place(block, word), out);
+    *count = given.unwrap_or(0);
+    posting::answer::number(given)
 }
 
 // The MFNs that two lists have in common.
@@ -534,18 +564,11 @@ pub extern "C" fn isis_common(
     ensures writes { mfns.new ≡ mfns_out true ifp.now (bits_of block_a) (bits_of word_a) (bits_of block_b) (bits_of word_b) mfns.old }
     ensures counts { count.new ≡ (mfns_given true ifp.now (bits_of block_a) (bits_of word_a) (bits_of block_b) (bits_of word_b) mfns.old).count }
 {
-    let g = merging::merge::mfns(
-        ifp,
-        to_bits(block_a),
-        to_bits(word_a),
-        to_bits(block_b),
-        to_bits(word_b),
-        true,
-        mfns,
-    );
-    *count = g.count;
-    let a = g.answer;
-    posting::answer::number(a)
+    let a = place(block_a, word_a);
+    let b = place(block_b, word_b);
+    let given = merging::merge::mfns(ifp, a, b, Which::Common, mfns);
+    *count = given.unwrap_or(0);
+    posting::answer::number(given)
 }
 
 // The MFNs of either of two lists.
@@ -563,16 +586,9 @@ pub extern "C" fn isis_joined(
     ensures writes { mfns.new ≡ mfns_out false ifp.now (bits_of block_a) (bits_of word_a) (bits_of block_b) (bits_of word_b) mfns.old }
     ensures counts { count.new ≡ (mfns_given false ifp.now (bits_of block_a) (bits_of word_a) (bits_of block_b) (bits_of word_b) mfns.old).count }
 {
-    let g = merging::merge::mfns(
-        ifp,
-        to_bits(block_a),
-        to_bits(word_a),
-        to_bits(block_b),
-        to_bits(word_b),
-        false,
-        mfns,
-    );
-    *count = g.count;
-    let a = g.answer;
-    posting::answer::number(a)
+    let a = place(block_a, word_a);
+    let b = place(block_b, word_b);
+    let given = merging::merge::mfns(ifp, a, b, Which::Joined, mfns);
+    *count = given.unwrap_or(0);
+    posting::answer::number(given)
 }

@@ -1,11 +1,11 @@
 -- On a sound store each call's answer is the ledger's. Row by row the two tables ask the same: 2, 6 and 8 never apply, and the other rows
 -- read the same of the bytes and of the ledger.
-use Rattle.std.specs.Prelude.{Ok, Err}
+use Rattle.std.specs.Prelude.{Err}
 use Prim.Native.Nat.{ℕ, ◌+◌}
 use native.Mathlib.Omega.{arith}
 use mathlib.Core.Path.{◌≡◌, refl, ap, ◌∙◌}
 use mathlib.Core.Bool.{Bool, true, false, not, ◌&&◌, ◌||◌, cond}
-use mathlib.Core.List.{List}
+use mathlib.Core.List.{List, [], ◌∷◌}
 use lib.Dec.{eqb, ltb}
 use lib.ListN.{length}
 use Rattle.layout.specs.Sizes.{capacity_of}
@@ -19,7 +19,7 @@ use Rattle.record.specs.Fields.{fields_of}
 use Rattle.drafts.specs.Bytes.{need_for}
 use Rattle.store.specs.Reading.{mfn_in_range, entry_for, is_malformed, is_gone, is_settled, is_changed, is_new, record_at, leader_at, record_fine, settled_record, version_fine, current_fields}
 use Rattle.store.specs.Refusals.{fine, both_fine}
-use Rattle.store.specs.Answer.{number_of, Answer}
+use Rattle.store.specs.Answer.{number_of, Row, refuse, lowest, Answer}
 use Rattle.store.proofs.Gates.{after_refused}
 use Rattle.writing.specs.Refusals.{exceeds, format_answer, create_answer, update_answer, delete_answer, settle_answer, revert_answer}
 use Rattle.versions.specs.Written.{update_appends}
@@ -172,11 +172,16 @@ module _ (s : Store) (o : Opened s) where
       ∙ rw (o.lengths, o.control, lengths_are s o, room_is (need_for (fields_in d)), next_is s o, xrf_is)
       (go (eqb (next_of s.mst) (capacity_of (length s.xrf) + 1)) free)
     where
-      go : (full : Bool) → (full ≡ false → (head_right s.xrf (xrf_block (next_of s.mst)) && slot_free s.xrf (next_of s.mst)) ≡ true)
-          → cond (not (is_right d)) (Err BadDraft)
-          (cond full (Err NoSlot) (cond (not (head_right s.xrf (xrf_block (next_of s.mst)) && slot_free s.xrf (next_of s.mst))) (Err BadEntry)
-          (cond (exceeds s.mst (need_for (fields_in d))) (Err NoRoom) (Ok tt))))
-          ≡ cond (not (is_right d)) (Err BadDraft) (cond full (Err NoSlot) (cond (exceeds s.mst (need_for (fields_in d))) (Err NoRoom) (Ok tt)))
+      -- 3, 5 and 13, of the bytes with 6 before 13
+      room : Row
+      room = refuse NoRoom (exceeds s.mst (need_for (fields_in d)))
+
+      slot : Bool
+      slot = head_right s.xrf (xrf_block (next_of s.mst)) && slot_free s.xrf (next_of s.mst)
+
+      go : (full : Bool) → (full ≡ false → slot ≡ true)
+          → lowest (refuse BadDraft (not (is_right d)) ∷ refuse NoSlot full ∷ refuse BadEntry (not slot) ∷ room ∷ [])
+          ≡ lowest (refuse BadDraft (not (is_right d)) ∷ refuse NoSlot full ∷ room ∷ [])
       go true f = refl
       go false f = rw (f refl)
 

@@ -1,6 +1,6 @@
 -- What is kept of a pending record through a list of calls, whatever is done between to it or to others: the settled fields under changed, and
 -- under new that it was never settled. Both by one law about the mark.
-use Prim.Native.Nat.{ℕ, ◌-◌, ◌≤◌}
+use Prim.Native.Nat.{ℕ, ◌≤◌}
 use native.Mathlib.Decide.{ℕ_discrete}
 use native.Mathlib.Omega.{arith}
 use mathlib.Core.Path.{◌≡◌, sym, ap, ◌∙◌}

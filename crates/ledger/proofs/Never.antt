@@ -2,7 +2,7 @@
 -- gone. 15 comes from views alone, and from them neither 13 nor another number that is not said of fields. From a migration nothing but 2 comes,
 -- from a list of MFNs 0 and 17, and in it what its settles answer.
 use Rattle.std.specs.Prelude.{Ok, Err}
-use Prim.Native.Nat.{ℕ, ◌-◌, ◌≤◌, ◌<◌}
+use Prim.Native.Nat.{ℕ, ◌≤◌, ◌<◌}
 use native.Mathlib.Omega.{arith}
 use native.Mathlib.Decide.{ℕ_discrete}
 use mathlib.Core.Path.{◌≡◌, refl, sym, ap, ◌∙◌}
@@ -13,8 +13,9 @@ use lib.ListN.{length}
 use Rattle.word.proofs.Overwrite.{lt_or_ge}
 use borrow.Author.Tests.{not-false}
 use Rattle.word.proofs.Tests.{tests, false_true}
-use Rattle.store.specs.Answer.{Row, refuse, lowest, number_of, Answer}
+use Rattle.store.specs.Answer.{Row, refuse, lowest, number_of}
 use Rattle.store.specs.Reading.{lengths_permitted}
+use Rattle.store.specs.declared.answer.Refusal.{Refusal}
 use Rattle.store.specs.declared.answer.Refusal.TheVariants.{NoMfn}
 use Rattle.store.specs.Store.{store}
 use Rattle.store.proofs.Gates.{after_cases}
@@ -40,20 +41,20 @@ whole_empty mst xrf h = record { lengths = h; held = λ o q. let r = simp tests 
 
 data RowsMay (c : Call) : List Row → Type 0 where
   no_row : MayCome c (Ok tt) → RowsMay c []
-  row : {a : Answer} {b : Bool} {rs : List Row} → (b ≡ true → MayCome c a) → (b ≡ false → RowsMay c rs) → RowsMay c (refuse a b ∷ rs)
+  row : {r : Refusal} {b : Bool} {rs : List Row} → (b ≡ true → MayCome c (Err r)) → (b ≡ false → RowsMay c rs) → RowsMay c (refuse r b ∷ rs)
 
 lowest_may : (c : Call) (rs : List Row) → RowsMay c rs → MayCome c (lowest rs)
 lowest_may c _ (no_row p) = p
-lowest_may c _ (row {a} {b} {rs} p q) = go b p (λ e. lowest_may c rs (q e))
+lowest_may c _ (row {r} {b} {rs} p q) = go b p (λ e. lowest_may c rs (q e))
   where
-    go : (b : Bool) → (b ≡ true → MayCome c a) → (b ≡ false → MayCome c (lowest rs)) → MayCome c (lowest (refuse a b ∷ rs))
+    go : (b : Bool) → (b ≡ true → MayCome c (Err r)) → (b ≡ false → MayCome c (lowest rs)) → MayCome c (lowest (refuse r b ∷ rs))
     go true p q = p refl
     go false p q = q refl
 
 module _ (L : Ledger) (w : Whole L) where
   module _ {c : Call} where
     -- a row whose answer may come
-    may : {a : Answer} {b : Bool} {rs : List Row} → MayCome c a → RowsMay c rs → RowsMay c (refuse a b ∷ rs)
+    may : {r : Refusal} {b : Bool} {rs : List Row} → MayCome c (Err r) → RowsMay c rs → RowsMay c (refuse r b ∷ rs)
     may p q = row (λ e. p) (λ e. q)
 
     -- 1 does not apply, nor does 7

@@ -1,6 +1,6 @@
 -- NO ROOM EXACTLY by the room rule, for each of the three calls that may write at the end: the row of 13 is the last of its table, and every row
 -- before it has a lower number.
-use Rattle.std.specs.Prelude.{Ok, Err}
+use Rattle.std.specs.Prelude.{Err}
 use Prim.Native.Nat.{ℕ, ◌+◌, ◌<◌}
 use native.Mathlib.Omega.{arith}
 use mathlib.Core.Path.{◌≡◌, refl, sym, ap, ◌∙◌}
@@ -11,12 +11,12 @@ use borrow.Author.Tests.{lt-ltb}
 use Rattle.layout.specs.Sizes.{capacity_of}
 use Rattle.word.proofs.Tests.{tests, false_true}
 use Rattle.drafts.specs.Bytes.{need_for}
-use Rattle.store.specs.Answer.{Row, refuse, lowest, number_of, Answer}
-use Rattle.store.specs.declared.answer.Refusal.TheVariants.{BadLength, BadDraft, NoMfn, NoSlot, Gone as GoneAnswer, Deleted, NoRoom}
+use Rattle.store.specs.Answer.{Row, refuse, lowest, number_of}
+use Rattle.store.specs.declared.answer.Refusal.TheVariants.{BadDraft, NoSlot, Deleted, NoRoom}
 use Rattle.store.specs.Store.{Store}
 use Rattle.drafts.specs.Draft.{Draft, is_right, fields_in}
 use Rattle.ledger.specs.Call.{Call, create, update, delete, Outcome}
-use Rattle.ledger.specs.Ledger.{Ledger, next_mfn, lengths_fine, mfn_in, item_of, is_gone_item, kept_fields, kept_deleted, kept_mark, is_settled_mark}
+use Rattle.ledger.specs.Ledger.{Ledger, next_mfn, item_of, kept_fields, kept_deleted, kept_mark, is_settled_mark}
 use Rattle.ledger.specs.LedgerAnswers.{measured, named, overfull, appends, refusals_l, number_l, reply_l}
 use Rattle.ledger.specs.StoreRun.{answer_s}
 use Rattle.ledger.specs.LedgerOf.{ledger_of, SoundStore}
@@ -56,7 +56,7 @@ module _ (b : Bool) where
   unfolding all_below some_below
   only [] low e = (none_lower, go b e)
     where
-      go : (b : Bool) → cond b (Err NoRoom) (Ok tt) ≡ Err NoRoom → b ≡ true
+      go : (b : Bool) → lowest (refuse NoRoom b ∷ []) ≡ Err NoRoom → b ≡ true
       go true e = refl
       go false e = absurd (let z : ◌≡◌ {A = ℕ} 0 1 = cc in omega arith)
   only (r ∷ rs) low e =

@@ -10,19 +10,14 @@ Answer = Result Unit Refusal
 abbrev pub done : Answer
 done = Ok tt
 
--- the number of each answer
+-- the number of each answer, also where something is given with it
 abbrev pub refusal_number : Refusal → ℕ
 refusal_number NoRoom = 17
 refusal_number Broken = 23
 
-abbrev pub number_of : Answer → ℕ
+abbrev pub number_of : {A : Type 0} → Result A Refusal → ℕ
 number_of (Ok _) = 0
 number_of (Err r) = refusal_number r
-
--- the answer of what is given or refused
-abbrev pub answer_of : {A : Type 0} → Result A Refusal → Answer
-answer_of (Ok _) = done
-answer_of (Err r) = Err r
 
 -- a lent list afterwards: the new one where the call is done, the old one where it is refused
 abbrev pub leaves : Answer → List ℕ → List ℕ → List ℕ

@@ -21,12 +21,12 @@ impl From<Refusal> for u32 {
     }
 }
 
-// The number of an answer.
-pub fn number(a: Result<(), Refusal>) -> u32
-    ensures { result ≡ number_of a }
+// The number of what is given or refused.
+pub fn number<T: Copy>(given: Result<T, Refusal>) -> u32
+    ensures { result ≡ number_of given }
 {
-    match a {
-        Ok(()) => 0,
+    match given {
+        Ok(_) => 0,
         Err(r) => r.into(),
     }
 }

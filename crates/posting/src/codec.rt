@@ -6,7 +6,7 @@ use crate::answer::Refusal;
 use std::cmp::Ordering;
 
 // The four numbers of a posting, also where they are too wide for its bits.
-#[derive(Clone, Copy, Debug, PartialEq, Eq)]
+#[derive(Clone, Copy, Debug, Default, PartialEq, Eq)]
 pub struct Posting {
     pub mfn: u32,
     pub tag: u32,

@@ -62,7 +62,7 @@ fn read_full<R: Read>(input: &mut R, buf: &mut [u8]) -> io::Result<usize>
     ensures { IfOk result (λ got. got ≤ length buf.new) }
 {
     let mut got = 0;
-    // No heap: what std has for reading up to an end fills a buffer that grows.
+    // A loop: std's copy reads again where a read was interrupted, and this ends at the first read that fails.
     while got < buf.len() {
         let n = input.read(&mut buf[got..])?;
         if n == 0 {

@@ -8,7 +8,7 @@ use mathlib.Core.Path.{◌≡◌, refl, sym, ap, ◌∙◌}
 use mathlib.Core.Bool.{Bool, true, false, not, ◌&&◌, cond, and-false}
 use mathlib.Core.List.{List, [], ◌∷◌}
 use lib.IntN.{pos}
-use lib.ListN.{length, take}
+use lib.ListN.{length}
 use borrow.Author.Tests.{not-true, not-false}
 use Rattle.layout.specs.Sizes.{capacity_of}
 use Rattle.files.specs.Control.{next_of, end_of, count_is, count_most, with_count}
@@ -18,7 +18,7 @@ use Rattle.store.specs.Reading.{lengths_permitted, control_fine, entry_for}
 use Rattle.store.specs.Gate.{gate_of}
 use Rattle.store.specs.declared.answer.Refusal.TheVariants.{BadLength, BadControl, NotSound}
 use Rattle.store.specs.declared.answer.Refusal.{Refusal}
-use Rattle.store.proofs.Gates.{Refusing, refusing, done_number, after_done, after_refused, refused_is, done_is, given_refused, given_done, holds, gate_done, gate_shut, open_from, gate_open, opened, open_xrf}
+use Rattle.store.proofs.Gates.{Refusing, refusing, done_number, after_done, after_refused, refused_is, done_is, given_refused, given_done, holds, gate_done, gate_shut, open_from, gate_open, open_xrf}
 use Rattle.soundness.specs.Sound.{bit, heads_right, rest_free, steps, is_live, live_count, count_right, body_apart, body_sound, check_answer}
 use Rattle.soundness.specs.Recount.{recount_answer, recounted_mst, recount_leaves}
 use Rattle.soundness.specs.Passes.{entries_fine, named_total, tally_of, walk_of, apart_of, counted_of}
@@ -102,9 +102,13 @@ module _ (mst xrf : List ℕ) where
       let f = gate_shut mst xrf r h in
       refused_is (recount_answer (store mst xrf)) _ r (f.answers (refuse NotSound (not (body_apart (store mst xrf))) ∷ []))
 
+  -- the store as it was opened is the one that was lent
   module _ (s : Store) (same : (s.mst ≡ mst) × (s.xrf ≡ xrf)) (k : Control) (g : gate_of s ≡ Ok k) (a : Option ℕ) (e : a ≡ apart_of s) where
     is : s ≡ store mst xrf
     is = rw (same.0, same.1)
+
+    q : a ≡ apart_of (store mst xrf)
+    q = e ∙ ap apart_of is
 
     recount_is : recount_answer (store mst xrf) ≡ cond (not (body_apart (store mst xrf))) (Err NotSound) (Ok tt)
     unfolding recount_answer
@@ -117,7 +121,7 @@ module _ (mst xrf : List ℕ) where
 
     pub counted_live : ok_or a NotSound ≡ counted_of (store mst xrf)
     unfolding counted_of apart_of
-    counted_live = rw (e ∙ ap apart_of is, recount_is) (by_body (body_apart (store mst xrf)) (live_count (store mst xrf)))
+    counted_live = rw (q, recount_is) (by_body (body_apart (store mst xrf)) (live_count (store mst xrf)))
 
 pub ruleset counted_answers = (counted_shut, counted_live)
 

@@ -5,7 +5,6 @@ use Rattle.std.specs.Prelude.{Option, Some, None, Result, Ok, Err}
 use Prim.Native.Nat.{ℕ, ◌+◌, ◌*◌, ◌-◌, ◌≤◌, ◌<◌}
 use native.Mathlib.Omega.{arith}
 use mathlib.Core.Path.{◌≡◌, refl, sym, ap, ◌∙◌}
-use mathlib.Core.Logic.{◌⊎◌, ⊎_elim}
 use mathlib.Core.Bool.{Bool, true, false, not, ◌&&◌, cond, and-false, or-false}
 use mathlib.Core.List.{List, [], ◌∷◌}
 use lib.Dec.{eqb, leb}
@@ -18,8 +17,6 @@ use Rattle.layout.specs.Entry.{place_address}
 use Rattle.files.specs.CrossReference.{slot_free, entry_at}
 use Rattle.files.specs.Control.{next_of, end_of}
 use Rattle.layout.specs.Leader.{leader_of}
-use Rattle.layout.specs.declared.sizes.Mfn.{Mfn}
-use Rattle.layout.specs.declared.entry.Mark.{Mark}
 use Rattle.layout.specs.declared.entry.Mark.TheVariants.{Changed}
 use Rattle.layout.specs.declared.entry.Place.{Place}
 use Rattle.layout.specs.declared.entry.Entry.{Entry}
@@ -359,19 +356,16 @@ module _ (mst xrf : List ℕ) (k : Control) (g : gate_of (store mst xrf) ≡ Ok 
   e : m ≡ mfn_at mst s
   e = w ∙ ap (λ (x : Leader). x.mfn.0) (step_leader mst k.end s (open_end mst xrf k g) l v)
 
-  hit_low : m < 1 → false ≡ hit (store mst xrf) s
+  pub hit_low : m < 1 → false ≡ hit (store mst xrf) s
   unfolding hit mfn_in_range
   hit_low h = rw (← e, lt-leb 1 m h)
 
-  hit_high : k.next.0 ≤ m → false ≡ hit (store mst xrf) s
+  pub hit_high : k.next.0 ≤ m → false ≡ hit (store mst xrf) s
   unfolding hit mfn_in_range
   hit_high h =
       let f = gate_open mst xrf k g in
       let q : next_of mst ≤ m = omega arith in
       rw (← e, le-ltb m (next_of mst) q, and-false)
-
-  pub hit_outside : (m < 1) ⊎ ((1 ≤ m) × (k.next.0 ≤ m)) → false ≡ hit (store mst xrf) s
-  hit_outside h = ⊎_elim hit_low (λ w. hit_high w.1) h
 
   module _ (lo : 1 ≤ m) (hi : m < k.next.0) (n : Entry) (u : n ≡ entry_at xrf k.end m) where
     entry_is : entry_for (store mst xrf) m ≡ n
@@ -410,7 +404,7 @@ module _ (mst xrf : List ℕ) (k : Control) (g : gate_of (store mst xrf) ≡ Ok 
           }
 
 pub ruleset hit_answers =
-    (mark_other, mark_changed, hit_place, hit_no_back, hit_block, hit_back, hit_outside, hit_no_place, hit_told, hit_names, open_end_in, open_capacity, open_xrf, arith)
+    (mark_other, mark_changed, hit_place, hit_no_back, hit_block, hit_back, hit_low, hit_high, hit_no_place, hit_told, hit_names, open_end_in, open_capacity, open_xrf, arith)
 
 -- the walk has come to `at`
 pub record Walked (mst xrf : List ℕ) (end hits at : ℕ) : Type 0 where

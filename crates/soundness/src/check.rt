@@ -9,17 +9,17 @@ use crate::passes::Tally;
 use store::answer::Refusal;
 use store::gate::OpenStore;
 
-// How many entries are live, where an open store is sound apart from RECCNT.
-fn sound_apart(lent: &OpenStore) -> Option<u32>
-    ensures { result ≡ apart_of (store lent.now.mst.now lent.now.xrf.now) }
+// How many entries are live, where the store is sound apart from RECCNT.
+fn sound_apart(opened: &OpenStore) -> Option<u32>
+    ensures { result ≡ apart_of (store opened.now.mst.now opened.now.xrf.now) }
 {
-    if !crate::passes::heads_right(lent.xrf)
-        || !crate::passes::rest_free(lent.xrf, lent.control.next)
+    if !crate::passes::heads_right(opened.xrf)
+        || !crate::passes::rest_free(opened.xrf, opened.control.next)
     {
         return None;
     }
-    let Tally { named, live } = crate::passes::tally_entries(lent)?;
-    if !crate::passes::walk_steps(lent, named as usize) {
+    let Tally { named, live } = crate::passes::tally_entries(opened)?;
+    if !crate::passes::walk_steps(opened, named as usize) {
         return None;
     }
     Some(live)
@@ -29,8 +29,8 @@ fn sound_apart(lent: &OpenStore) -> Option<u32>
 fn count_live(mst: &[u8], xrf: &[u8]) -> Result<u32, Refusal>
     ensures { result ≡ counted_of (store mst.now xrf.now) }
 {
-    let lent = OpenStore::open(mst, xrf)?;
-    sound_apart(&lent).ok_or(Refusal::NotSound)
+    let opened = OpenStore::open(mst, xrf)?;
+    sound_apart(&opened).ok_or(Refusal::NotSound)
 }
 
 // 1, 2, 14 or 0: passes exactly the sound stores.

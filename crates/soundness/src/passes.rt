@@ -9,7 +9,6 @@ ghost use Rattle.soundness.specs.Sound.{elem, heads_right, rest_free};
 ghost use Rattle.soundness.specs.Passes.{names_of, named_under, entry_tally, entries_fine, tally_of, hit, walk_of, Names};
 ghost use Rattle.store.specs.Store.{store};
 
-use files::control::Control;
 use layout::entry::{Entry, Mark, Place};
 use layout::sizes::Mfn;
 use store::answer::Refusal;
@@ -57,12 +56,12 @@ fn named_under(mark: Mark) -> u32
 }
 
 // The tally of one entry, where it is right: of those with no record only 7, physically deleted.
-fn tally_entry(lent: &OpenStore, m: Mfn) -> Option<Tally>
-    requires { (1 ≤ m.0) × (m.0 < lent.now.control.next.0) }
-    ensures { result ≡ entry_tally lent.now.mst.now m.0 (entry_for (store lent.now.mst.now lent.now.xrf.now) m.0) }
+fn tally_entry(opened: &OpenStore, m: Mfn) -> Option<Tally>
+    requires { (1 ≤ m.0) × (m.0 < opened.now.control.next.0) }
+    ensures { result ≡ entry_tally opened.now.mst.now m.0 (entry_for (store opened.now.mst.now opened.now.xrf.now) m.0) }
 {
-    match lent.find_both(m) {
-        Ok(Record { place, .. }) => Some(Tally {
+    match opened.find_both(m) {
+        Ok(Record { place, leader: _ }) => Some(Tally {
             named: named_under(place.mark),
             live: u32::from(!place.deleted),
         }),
@@ -72,13 +71,13 @@ fn tally_entry(lent: &OpenStore, m: Mfn) -> Option<Tally>
 }
 
 // The first pass: every entry below NXTMFN.
-pub(crate) fn tally_entries(lent: &OpenStore) -> Option<Tally>
-    ensures { result ≡ tally_of (store lent.now.mst.now lent.now.xrf.now) }
+pub(crate) fn tally_entries(opened: &OpenStore) -> Option<Tally>
+    ensures { result ≡ tally_of (store opened.now.mst.now opened.now.xrf.now) }
 {
     let mut named: u32 = 0;
     let mut live: u32 = 0;
-    for m in 1..lent.control.next.0 {
-        let one = tally_entry(lent, Mfn(m))?;
+    for m in 1..opened.control.next.0 {
+        let one = tally_entry(opened, Mfn(m))?;
         named += one.named;
         live += one.live;
     }
@@ -102,35 +101,33 @@ fn place_hit(mst: &[u8], end: usize, p: Place, s: usize) -> bool
 }
 
 // Whether the entry of the MFN written at the step `s` names this step.
-fn step_hit(lent: &OpenStore, s: usize) -> bool
-    requires { (entries_fine (store lent.now.mst.now lent.now.xrf.now) ≡ true) × (s + 18 ≤ lent.now.control.end) }
-    ensures { result ≡ hit (store lent.now.mst.now lent.now.xrf.now) s }
+fn step_hit(opened: &OpenStore, s: usize) -> bool
+    requires { (entries_fine (store opened.now.mst.now opened.now.xrf.now) ≡ true) × (s + 18 ≤ opened.now.control.end) }
+    ensures { result ≡ hit (store opened.now.mst.now opened.now.xrf.now) s }
 {
-    let Control { next, end } = lent.control;
-    let m = layout::leader::read_leader(&lent.mst[s..end]).mfn;
-    if m.0 < 1 || next.0 <= m.0 {
+    let m = layout::leader::read_leader(&opened.mst[s..opened.control.end]).mfn;
+    if m.0 < 1 || opened.control.next.0 <= m.0 {
         return false;
     }
-    let Entry::At(p) = files::cross_reference::entry_at(lent.xrf, end, m) else {
+    let Entry::At(p) = files::cross_reference::entry_at(opened.xrf, opened.control.end, m) else {
         return false;
     };
-    place_hit(lent.mst, end, p, s)
+    place_hit(opened.mst, opened.control.end, p, s)
 }
 
 // The second pass: whether stepping from address 64 on one arrives at the end, and meets all that the entries name.
-pub(crate) fn walk_steps(lent: &OpenStore, named: usize) -> bool
-    requires { entries_fine (store lent.now.mst.now lent.now.xrf.now) ≡ true }
-    ensures { result ≡ walk_of (store lent.now.mst.now lent.now.xrf.now) named }
+pub(crate) fn walk_steps(opened: &OpenStore, named: usize) -> bool
+    requires { entries_fine (store opened.now.mst.now opened.now.xrf.now) ≡ true }
+    ensures { result ≡ walk_of (store opened.now.mst.now opened.now.xrf.now) named }
 {
-    let end = lent.control.end;
     let mut hits: usize = 0;
     let mut at: usize = 64;
-    while at + 18 <= end {
-        hits += usize::from(step_hit(lent, at));
-        let Some(next) = crate::steps::next_step(lent.mst, end, at) else {
+    while at + 18 <= opened.control.end {
+        hits += usize::from(step_hit(opened, at));
+        let Some(next) = crate::steps::next_step(opened.mst, opened.control.end, at) else {
             return false;
         };
         at = next;
     }
-    at == end && hits == named
+    at == opened.control.end && hits == named
 }

@@ -5,9 +5,10 @@ ghost use Rattle.writing.specs.Refusals.{update_answer, delete_answer};
 ghost use Rattle.writing.specs.Calls.{update_leaves, delete_leaves};
 ghost use Rattle.updating.specs.Plans.{update_plan, delete_plan, room_plan};
 ghost use Rattle.store.specs.Store.{store};
-ghost use Rattle.drafts.specs.Draft.{draft};
+ghost use Rattle.drafts.specs.Lent.{lent};
 ghost use Rattle.layout.specs.Sizes.{mst_most};
 
+use drafts::draft::Draft;
 use layout::entry::Mark;
 use layout::sizes::Mfn;
 use store::answer::Refusal;
@@ -40,18 +41,11 @@ fn update_appends(was: Reached, need: usize) -> bool
     matches!(was.place.mark, Mark::Settled) || (was.leader.mfrl as usize) < need
 }
 
-fn plan_update(
-    mst: &[u8],
-    xrf: &[u8],
-    m: Mfn,
-    tags: &[u16],
-    lens: &[u16],
-    data: &[u8],
-) -> Result<NewVersion, Refusal>
-    ensures { result ≡ update_plan (store mst.now xrf.now) m.0 (draft tags.now lens.now «data».now) }
+fn plan_update(mst: &[u8], xrf: &[u8], m: Mfn, draft: Draft<'_>) -> Result<NewVersion, Refusal>
+    ensures { result ≡ update_plan (store mst.now xrf.now) m.0 (lent draft.entry) }
 {
     let store = OpenStore::open(mst, xrf)?;
-    if !drafts::draft::draft_right(tags, lens, data) {
+    if !draft.is_right() {
         return Err(Refusal::BadDraft);
     }
     let Record { place, leader } = store.find_record(m)?;
@@ -63,7 +57,7 @@ fn plan_update(
         place,
         leader,
     };
-    let need = drafts::draft::need(tags.len(), data.len());
+    let need = draft.need();
     let appends = update_appends(was, need);
     plan_room(mst.len(), need, was, appends)
 }
@@ -90,22 +84,15 @@ fn plan_delete(mst: &[u8], xrf: &[u8], m: Mfn) -> Result<NewVersion, Refusal>
     }
 }
 
-pub fn update(
-    mst: &mut [u8],
-    xrf: &mut [u8],
-    m: Mfn,
-    tags: &[u16],
-    lens: &[u16],
-    data: &[u8],
-) -> Result<(), Refusal>
-    ensures answers { result ≡ update_answer (store mst.old xrf.old) m.0 (draft tags.now lens.now «data».now) }
-    ensures left { store mst.new xrf.new ≡ update_leaves (store mst.old xrf.old) m.0 (draft tags.now lens.now «data».now) }
+pub fn update(mst: &mut [u8], xrf: &mut [u8], m: Mfn, draft: Draft<'_>) -> Result<(), Refusal>
+    ensures answers { result ≡ update_answer (store mst.old xrf.old) m.0 (lent draft.entry) }
+    ensures left { store mst.new xrf.new ≡ update_leaves (store mst.old xrf.old) m.0 (lent draft.entry) }
 {
-    let NewVersion { was, appends } = plan_update(mst, xrf, m, tags, lens, data)?;
+    let NewVersion { was, appends } = plan_update(mst, xrf, m, draft)?;
     if appends {
-        versions::changing::update_at_end(mst, xrf, m, was, tags, lens, data);
+        versions::changing::update_at_end(mst, xrf, m, was, draft);
     } else {
-        versions::changing::update_in_place(mst, m, was, tags, lens, data);
+        versions::changing::update_in_place(mst, m, was, draft);
     }
     Ok(())
 }

@@ -3,13 +3,15 @@ ghost use Rattle.std.specs.Prelude.{◌≡◌, true, false, ◌+◌, ◌≤◌, 
 ghost use Rattle.files.specs.Control.{end_of, counted_less};
 ghost use Rattle.files.specs.CrossReference.{with_entry};
 ghost use Rattle.layout.specs.Entry.{placed, place_address};
-ghost use Rattle.drafts.specs.Draft.{need_of, draft_fields};
+ghost use Rattle.drafts.specs.Draft.{need_of, fields_in};
+ghost use Rattle.drafts.specs.Lent.{lent};
 ghost use Rattle.drafts.specs.Bytes.{need_for};
 ghost use Rattle.store.specs.Reading.{leader_at, current_fields};
 ghost use Rattle.versions.specs.Written.{appended, place_at_end, pending_mark, version_leader, version_appended, version_in_place};
 ghost use Rattle.versions.specs.Asked.{HasSlot, AtEnd, DraftFits, RecordRead};
 ghost use Rattle.layout.specs.Sizes.{fields_most, record_most};
 
+use drafts::draft::Draft;
 use layout::entry::{Mark, Place};
 use layout::leader::Leader;
 use layout::sizes::Mfn;
@@ -52,44 +54,28 @@ fn pending_mark(mark: Mark) -> Mark
 }
 
 // Writes an update at the end, and its entry.
-pub fn update_at_end(
-    mst: &mut [u8],
-    xrf: &mut [u8],
-    m: Mfn,
-    was: Reached,
-    tags: &[u16],
-    lens: &[u16],
-    data: &[u8],
-)
+pub fn update_at_end(mst: &mut [u8], xrf: &mut [u8], m: Mfn, was: Reached, draft: Draft<'_>)
     requires has_slot { HasSlot xrf.old m.0 }
-    requires draft_fits { DraftFits tags.now lens.now «data».now }
-    requires at_end { AtEnd mst.old was.end (need_of (length tags.now) (length «data».now)) }
-    ensures master { mst.new ≡ version_appended mst.old m.0 was.place was.leader false (draft_fields tags.now lens.now «data».now) }
+    requires draft_fits { DraftFits draft.tags.now draft.lens.now draft.data.now }
+    requires at_end { AtEnd mst.old was.end (need_of (length draft.tags.now) (length draft.data.now)) }
+    ensures master { mst.new ≡ version_appended mst.old m.0 was.place was.leader false (fields_in (lent draft.entry)) }
     ensures cross { xrf.new ≡ with_entry xrf.old m.0 (place_at_end mst.old false (pending_mark was.place.mark)) }
 {
-    let need = drafts::draft::need(tags.len(), data.len());
-    let leader = version_leader(m, was, need as u16, false, tags.len() as u16);
-    crate::create::append_draft(mst, was.end, leader, tags, lens, data);
+    let leader = version_leader(m, was, draft.need() as u16, false, draft.tags.len() as u16);
+    crate::create::append_draft(mst, was.end, leader, draft);
     let place = crate::create::end_place(was.end, false, pending_mark(was.place.mark));
     files::cross_reference::put_entry(xrf, m, place);
 }
 
 // Writes an update over the pending version.
-pub fn update_in_place(
-    mst: &mut [u8],
-    m: Mfn,
-    was: Reached,
-    tags: &[u16],
-    lens: &[u16],
-    data: &[u8],
-)
+pub fn update_in_place(mst: &mut [u8], m: Mfn, was: Reached, draft: Draft<'_>)
     requires le_block { (1 ≤ was.place.block.0) × (place_address was.place + was.leader.mfrl ≤ length mst.old) }
-    requires draft_fits { (DraftFits tags.now lens.now «data».now) × (need_of (length tags.now) (length «data».now) ≤ was.leader.mfrl) }
-    ensures { mst.new ≡ version_in_place mst.old m.0 was.place was.leader false (draft_fields tags.now lens.now «data».now) }
+    requires draft_fits { (DraftFits draft.tags.now draft.lens.now draft.data.now) × (need_of (length draft.tags.now) (length draft.data.now) ≤ was.leader.mfrl) }
+    ensures { mst.new ≡ version_in_place mst.old m.0 was.place was.leader false (fields_in (lent draft.entry)) }
 {
-    let leader = version_leader(m, was, was.leader.mfrl, false, tags.len() as u16);
+    let leader = version_leader(m, was, was.leader.mfrl, false, draft.tags.len() as u16);
     let at = layout::entry::place_address(was.place);
-    drafts::writer::write_record(&mut mst[at..], leader, tags, lens, data);
+    drafts::writer::write_record(&mut mst[at..], leader, draft);
 }
 
 // Copies the fields of the record at a place to the end, under the leader `l`, and moves the end.

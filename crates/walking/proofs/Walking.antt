@@ -4,10 +4,10 @@ use Prim.Native.Nat.{ℕ, zero, suc, ◌+◌, ◌*◌, ◌-◌, ◌<◌, ◌≤�
 use native.Mathlib.Nat.{add-zero, zero-add, le_refl}
 use native.Mathlib.Numerals.{add-one}
 use native.Mathlib.Omega.{arith}
-use mathlib.Core.Path.{◌≡◌, refl, ◌∙◌}
+use mathlib.Core.Path.{◌≡◌, refl, ap, ◌∙◌}
 use mathlib.Core.Bool.{Bool, true, false, cond}
 use mathlib.Core.List.{List, [], ◌∷◌, ◌++◌, map}
-use lib.ListN.{length, take, drop, set, length-map, length-append}
+use lib.ListN.{length, get_or, take, drop, set, length-map, length-append}
 use lib.Seq.{drop-nil}
 use borrow.Author.Tests.{le-leb, lt-leb, leb-false}
 use Rattle.word.specs.Integer.{u16_at}
@@ -15,13 +15,13 @@ use Rattle.word.specs.Overwrite.{overwrite}
 use Rattle.word.proofs.Overwrite.{overwrite_none, overwrite_more, overwrite_length}
 use Rattle.layout.specs.Leader.{leader_of}
 use Rattle.layout.specs.declared.sizes.Tag.{Tag}
-use Rattle.walking.specs.Inner.{AtField}
 use Rattle.record.specs.Directory.{tag_at, pos_at, len_at, directory_right}
 use Rattle.record.specs.Fields.{field_at, fields_from, fields_of}
 use Rattle.record.specs.Record.{Readable}
-use Rattle.walking.specs.Walker.{at_end, spot_at, field_in, spots_before, spots_of, walked_at, walked_fields}
+use Rattle.walking.specs.Walker.{at_end, spot_at, field_in, spots_before, spots_from, spots_of, walked_at, walked_fields}
 use Rattle.walking.specs.declared.walker.Spot.{Spot}
-use Rattle.std.proofs.Common.{Option, Some, None}
+use Rattle.std.proofs.Common.{Some, None}
+use Rattle.std.specs.List.{enumerate_from}
 use Rattle.record.proofs.Facts.{entry_facts, readable_facts}
 
 -- ---- a walk hands out the record's fields
@@ -107,10 +107,6 @@ module _ (rec : List ℕ) (i : ℕ) (r : Readable rec) (h : i < (leader_of rec).
       let e : pos_at rec i + len_at rec i ≤ room = simp zero-add at (entry_in rec room (leader_of rec).nvf 0 0 i (readable_facts r).directory h) in
       omega (arith, (readable_facts r).base_in)
 
-  -- the index after it is a number that a walker can hold
-  pub next_fits : i + 1 < 2 ^ 64
-  next_fits = omega (arith, h, (readable_facts r).base_is, (readable_facts r).base_in, (readable_facts r).short)
-
   pub entry_within : 24 + 6 * i ≤ length rec
   entry_within = omega (arith, h, (readable_facts r).base_is, (readable_facts r).base_in, (readable_facts r).record_in)
 
@@ -145,6 +141,55 @@ unfolding walked_at
 walked_in_lem rec i s r p =
     let q = walked_cases (at_end rec i) (spot_at rec i) s p in
     rw (← q.1) (field_in_lem rec i r (leb-false _ _ q.0))
+
+-- ---- what a walk has left
+
+pub spots_past : (rec : List ℕ) (n i : ℕ) → n ≤ i → spots_from rec (n - i) i ≡ []
+unfolding spots_from
+spots_past rec n i h = let z : n - i ≡ 0 = omega arith in rw z
+
+pub spots_next : (rec : List ℕ) (n i : ℕ) → i < n → spots_from rec (n - i) i ≡ spot_at rec i ∷ spots_from rec (n - (i + 1)) (i + 1)
+unfolding spots_from
+spots_next rec n i h = let z : n - i ≡ suc (n - (i + 1)) = omega arith in rw z
+
+pub left_length : (rec : List ℕ) (k i : ℕ) → length (spots_from rec k i) ≡ k
+unfolding spots_from
+left_length rec zero i = refl
+left_length rec (suc k) i = ap suc (left_length rec k (i + 1))
+
+left_more : (rec : List ℕ) (k i : ℕ) → spots_from rec (suc k) i ≡ spots_from rec k i ++ (spot_at rec (i + k) ∷ [])
+unfolding spots_from
+left_more rec zero i = rw (add-zero i)
+left_more rec (suc k) i =
+    let e : i + suc k ≡ i + 1 + k = omega arith in
+    rw (e, ← left_more rec k (i + 1))
+
+-- from the first field on it is all that a walk hands out
+pub left_is : (rec : List ℕ) (k : ℕ) → spots_from rec k 0 ≡ spots_before rec k
+unfolding spots_from spots_before
+left_is rec zero = refl
+left_is rec (suc k) = rw (left_more rec k 0, left_is rec k, zero-add k)
+
+-- numbered from n on, the one at j is that of index i + j
+numbered_at : (rec : List ℕ) (k n i j : ℕ) (d : ℕ × Spot) → j < k → get_or (enumerate_from n (spots_from rec k i)) j d ≡ (n + j, spot_at rec (i + j))
+unfolding spots_from
+numbered_at rec zero n i j d h = absurd (omega arith)
+numbered_at rec (suc k) n i zero d h = rw (add-zero n, add-zero i)
+numbered_at rec (suc k) n i (suc j) d h =
+    let a : n + suc j ≡ n + 1 + j = omega arith in
+    let b : i + suc j ≡ i + 1 + j = omega arith in
+    rw (a, b) (numbered_at rec k (n + 1) (i + 1) j d (omega arith))
+
+pub numbered : (rec : List ℕ) (k j : ℕ) (d : ℕ × Spot) → j < k → get_or (enumerate_from 0 (spots_from rec k 0)) j d ≡ (j, spot_at rec j)
+numbered rec k j d h = simp zero-add at (numbered_at rec k 0 0 j d h)
+
+numbered_length_from : (rec : List ℕ) (k n i : ℕ) → length (enumerate_from n (spots_from rec k i)) ≡ k
+unfolding spots_from
+numbered_length_from rec zero n i = refl
+numbered_length_from rec (suc k) n i = ap suc (numbered_length_from rec k (n + 1) (i + 1))
+
+pub numbered_length : (rec : List ℕ) (k : ℕ) → length (enumerate_from 0 (spots_from rec k 0)) ≡ k
+numbered_length rec k = numbered_length_from rec k 0 0
 
 -- ---- lists of them: what the first k fields give, written over a list's front
 
@@ -195,11 +240,8 @@ module _ (rec : List ℕ) (i n : ℕ) (c : n ≡ (leader_of rec).nvf) where
   unfolding walked_at
   walked_end h = rw (le-leb (leader_of rec).nvf i (rw (← c) h))
 
-  pub come_to : i < n → Readable rec → AtField rec n i
-  come_to h r = record { readable = r; counted = c; listed = omega (arith, c, h) }
-
   pub walked_field : (spot : Spot) → i < n → spot ≡ spot_at rec i → Some spot ≡ walked_at rec i
   unfolding walked_at
   walked_field spot h e = rw (lt-leb (leader_of rec).nvf i (rw (← c) h), e)
 
-pub ruleset walk_answers = (count_is_lem, count_small, entry_within, spot_is, walked_end, walked_field, come_to)
+pub ruleset walk_answers = (count_is_lem, count_small, entry_within, spot_is, walked_end, walked_field)

@@ -1,2 +1,3 @@
 pub mod Walker
+pub mod Walk
 pub mod Inner

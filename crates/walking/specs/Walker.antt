@@ -24,6 +24,11 @@ unfoldable pub spots_before : List ℕ → ℕ → List Spot
 spots_before rec zero = []
 spots_before rec (suc k) = spots_before rec k ++ (spot_at rec k ∷ [])
 
+-- what a walk has left to hand out that has come to index i, k fields before the end
+unfoldable pub spots_from : List ℕ → ℕ → ℕ → List Spot
+spots_from rec zero i = []
+spots_from rec (suc k) i = spot_at rec i ∷ spots_from rec k (i + 1)
+
 -- all that a walk hands out
 abbrev pub spots_of : List ℕ → List Spot
 spots_of rec = spots_before rec (leader_of rec).nvf

@@ -1,11 +1,12 @@
 // The field walker: it keeps the record that it walks, how many fields that has and its place in the directory, and hands out tag and
-// field in directory order. What reads the record takes a plain slice; the walker's own functions are thin, and `list_fields` walks.
+// field in directory order, as an iterator. `list_fields` walks.
 ghost use Rattle.std.specs.Prelude.{◌≡◌, ◌+◌, ◌<◌, ◌^◌, length, set};
+ghost use Rattle.std.specs.Iterator.{YieldsFirst, item_count};
 ghost use Rattle.word.specs.Overwrite.{overwrite};
 ghost use Rattle.layout.specs.Leader.{leader_of};
 ghost use Rattle.walking.specs.Inner.{AtField, Listable};
 ghost use Rattle.record.specs.Record.{Readable};
-ghost use Rattle.walking.specs.Walker.{at_end, spot_at, spot_tag, spot_start, spot_length, walked_at, tags_of, starts_of, lengths_of};
+ghost use Rattle.walking.specs.Walker.{spot_at, spots_of, spot_tag, spot_start, spot_length, walked_at, tags_of, starts_of, lengths_of};
 
 use layout::sizes::Tag;
 use record::directory::{len_at, pos_at, tag_at};
@@ -39,50 +40,49 @@ fn spot_at(rec: &[u8], count: usize, index: usize) -> Spot
     }
 }
 
-// A walk over the fields of a record: the record's bytes, how many fields it has, and the directory index that the walk has come to.
-#[derive(Clone, Copy)]
+// A walk over the fields of a record that can be read: the record's bytes, how many fields it has, and the directory index that the walk
+// has come to. It hands out the fields in directory order.
+#[derive(Drop)]
 pub struct FieldWalker<'a> {
-    pub rec: &'a [u8],
-    pub count: usize,
-    pub index: usize,
+    rec: &'a [u8],
+    count: usize,
+    index: usize,
+    ghost readable: { Readable rec.now },
+    ghost counted: { count ≡ (leader_of rec.now).nvf },
 }
 
-// The walker at the first field.
-fn walk<'a>(rec: &'a [u8], count: usize) -> FieldWalker<'a>
-    ensures { (result.rec ≡ rec.entry) × (result.count ≡ count) × (result.index ≡ 0) }
-{
-    FieldWalker {
-        rec,
-        count,
-        index: 0,
+impl<'a> FieldWalker<'a> {
+    ghost use Rattle.walking.specs.Walk.{spots_left};
+
+    // The walk from the first field on, of a record that has `count`.
+    fn new(rec: &'a [u8], count: usize) -> FieldWalker<'a>
+        requires { (Readable rec.now) × (count ≡ (leader_of rec.now).nvf) }
+        ensures { spots_left result ≡ spots_of rec.now }
+    {
+        FieldWalker {
+            rec,
+            count,
+            index: 0,
+        }
     }
 }
 
-// Whether the walker has come to the end.
-fn at_end<'a>(w: FieldWalker<'a>) -> bool
-    requires { w.count ≡ (leader_of w.rec.now).nvf }
-    ensures { result ≡ at_end w.entry.rec.now w.entry.index }
-{
-    w.count <= w.index
-}
+impl<'a> Iterator for FieldWalker<'a> {
+    ghost use Rattle.walking.specs.Walk.{spots_left};
 
-// The field that it has come to.
-fn here<'a>(w: FieldWalker<'a>) -> Spot
-    requires { AtField w.rec.now w.count w.index }
-    ensures { result ≡ spot_at w.entry.rec.now w.entry.index }
-{
-    spot_at(w.rec, w.count, w.index)
-}
+    type Item = Spot;
 
-// The walker at the next directory index.
-fn advance<'a>(w: FieldWalker<'a>) -> FieldWalker<'a>
-    requires { AtField w.rec.now w.count w.index }
-    ensures { (result.rec ≡ w.entry.rec) × (result.count ≡ w.entry.count) × (result.index ≡ w.entry.index + 1) }
-{
-    FieldWalker {
-        rec: w.rec,
-        count: w.count,
-        index: w.index + 1,
+    ghost next_gives = { YieldsFirst spots_left };
+
+    ghost remaining = { item_count spots_left };
+
+    fn next(&mut self) -> Option<Spot> {
+        if self.count <= self.index {
+            return None;
+        }
+        let spot = spot_at(self.rec, self.count, self.index);
+        self.index += 1;
+        Some(spot)
     }
 }
 
@@ -116,12 +116,10 @@ pub fn list_fields(
     requires { Listable rec.now count at tags.old starts.old lens.old }
     ensures { (result ≡ (leader_of rec.now).nvf) × (tags.new ≡ overwrite tags.old 0 (tags_of rec.now)) × (starts.new ≡ overwrite starts.old 0 (starts_of at rec.now)) × (lens.new ≡ overwrite lens.old 0 (lengths_of rec.now)) }
 {
-    let mut w = walk(rec, count);
-    while !at_end(w) {
-        note(here(w), w.index, at, tags, starts, lens);
-        w = advance(w);
+    for (index, spot) in FieldWalker::new(rec, count).enumerate() {
+        note(spot, index, at, tags, starts, lens);
     }
-    w.index
+    count
 }
 
 // What stands at an index, whatever the index, for callers that ask for one field alone.

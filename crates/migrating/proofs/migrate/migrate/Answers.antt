@@ -1,4 +1,3 @@
-use borrow.Author.Rules.{rules}
 use mathlib.Core.Bool.{not}
 use mathlib.Core.Path.{ap}
 use Rattle.migrating.proofs.Answers.{migrate_lengths, migrate_control, migrate_write, migrate_done}

@@ -11,8 +11,8 @@ rest_free-requires c = search body_answers
 pub returns-then-not-heads_right : goal.returns-then-not-heads_right
 returns-then-not-heads_right c =
     elim c.then-not-heads_right.branch [
-    | then-not-heads_right-via-then-not-heads_right w ↦ search body_answers
-    | then-not-heads_right-via-else-not-heads_right+then-not-rest_free w ↦ search body_answers
+      | then-not-heads_right-via-then-not-heads_right w ↦ search body_answers
+      | then-not-heads_right-via-else-not-heads_right+then-not-rest_free w ↦ search body_answers
     ]
 
 pub returns-in_err-named : goal.returns-in_err-named

@@ -4,4 +4,4 @@ use Rattle.soundness.proofs.PassAnswers.{Tallied}
 use Rattle.soundness.proofs.passes.tally_entries.Given as goal
 
 abbrev pub invariant-loop-m : goal.invariant-loop-m
-invariant-loop-m l = (1 ≤ l.m) × Tallied l.lent.mst.now l.lent.xrf.now l.m l.named l.live
+invariant-loop-m l = (1 ≤ l.m) × Tallied l.opened.mst.now l.opened.xrf.now l.m l.named l.live

@@ -23,8 +23,8 @@ loop-at-smaller c =
 pub loop-at-preserved : goal.loop-at-preserved
 loop-at-preserved c = search walk_answers
 
-pub returns-then-at-end : goal.returns-then-at-end
-returns-then-at-end c = search walk_answers
+pub returns-then-at-opened : goal.returns-then-at-opened
+returns-then-at-opened c = search walk_answers
 
-pub returns-else-at-end : goal.returns-else-at-end
-returns-else-at-end c = search walk_answers
+pub returns-else-at-opened : goal.returns-else-at-opened
+returns-else-at-opened c = search walk_answers

@@ -4,7 +4,7 @@ use Rattle.soundness.proofs.PassAnswers.{Walked}
 use Rattle.soundness.proofs.passes.walk_steps.Given as goal
 
 abbrev pub invariant-loop-at : goal.invariant-loop-at
-invariant-loop-at l = Walked l.lent.mst.now l.lent.xrf.now l.lent.control.end l.hits l.at
+invariant-loop-at l = Walked l.opened.mst.now l.opened.xrf.now l.opened.control.end l.hits l.at
 
 abbrev pub decreases-loop-at : goal.decreases-loop-at
-decreases-loop-at l = l.lent.control.end - l.at
+decreases-loop-at l = l.opened.control.end - l.at

@@ -16,11 +16,11 @@ count_full-requires c = search (create_plans, c.in_ok-control.was)
 pub returns-then-count_full : goal.returns-then-count_full
 returns-then-count_full c = search (create_plans, c.in_ok-control.was)
 
-pub returns-then-not-draft_right : goal.returns-then-not-draft_right
-returns-then-not-draft_right c = search (create_plans, c.in_ok-control.was)
+pub returns-then-not-is_right : goal.returns-then-not-is_right
+returns-then-not-is_right c = search (create_plans, c.in_ok-control.was)
 
 pub need-need-requires : goal.need-need-requires
-need-need-requires c = draft_counted _ _ _ _ c.draft_right.ensures (ap not c.if-not-draft_right.false)
+need-need-requires c = draft_counted _ _ _ _ c.is_right.ensures (ap not c.if-not-is_right.false)
 
 pub create_slot-requires : goal.create_slot-requires
 create_slot-requires c = search (create_plans, c.in_ok-control.was)
