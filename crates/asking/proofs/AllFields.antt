@@ -1,6 +1,7 @@
--- The calls that hand out all fields at once. Where one is done, the fronts of the lists name exactly the fields of the version that it reads, in
--- directory order, as many as it counts, and what stood behind them stands there still; where it is refused, it counts nothing and leaves
--- the lists as they were.
+-- The calls that hand out all fields at once. Where one is done, the fronts of the lists name
+-- exactly the fields of the version that it reads, in directory order, as many as it counts, and
+-- what stood behind them stands there still; where it is refused, it counts nothing and leaves the
+-- lists as they were.
 use Rattle.std.specs.Prelude.{Ok}
 use Prim.Native.Nat.{ℕ, ◌+◌, ◌-◌, ◌≤◌, zero-le}
 use native.Mathlib.Omega.{arith}

@@ -1,5 +1,6 @@
--- What the calls that hand out all fields at once list of the version that they read. Each law's premises are what is known at one place of the
--- code, so that `search list_answers` finds them there.
+-- What the calls that hand out all fields at once list of the version that they read. Each law's
+-- premises are what is known at one place of the code, so that the check finds them there by
+-- `list_answers`.
 use Rattle.std.specs.Prelude.{Result, Ok, Err}
 use Prim.Native.Nat.{ℕ, ◌-◌, ◌^◌, ◌≤◌, ◌<◌}
 use native.Mathlib.Omega.{arith}

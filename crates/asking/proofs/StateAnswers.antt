@@ -1,4 +1,5 @@
--- What the calls tell that ask for the next MFN and for the state of a record, by what the gate and the record's test found.
+-- What the calls tell that ask for the next MFN and for the state of a record, by what the gate and
+-- the record's test found.
 use Rattle.std.specs.Prelude.{Result, Ok, Err}
 use Prim.Native.Nat.{ℕ}
 use mathlib.Core.Path.{◌≡◌, refl, sym, ◌∙◌}

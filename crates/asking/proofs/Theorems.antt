@@ -1,4 +1,5 @@
--- WHICH ENTRY the test of one record alone says, on any bytes: the answer by whether the record passes, the number by `tells_which`.
+-- WHICH ENTRY the test of one record alone says, on any bytes: the answer by whether the record
+-- passes, the number by `tells_which`.
 use Prim.Native.Nat.{ℕ, ◌≤◌}
 use native.Mathlib.Omega.{arith}
 use mathlib.Core.Path.{◌≡◌, refl, sym, ◌∙◌}

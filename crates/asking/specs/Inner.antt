@@ -1,4 +1,5 @@
--- Inner: serves functions of this crate, no part of what is promised. All fields of a version, over the fronts of the lists that are lent.
+-- Inner: serves functions of this crate, no part of what is promised. All fields of a version, over
+-- the fronts of the lists that are lent.
 use Rattle.std.specs.Prelude.{ℕ, ◌-◌, List, [], ◌∷◌, Result}
 use Rattle.word.specs.Overwrite.{part}
 use Rattle.layout.specs.Leader.{leader_of}

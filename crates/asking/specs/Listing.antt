@@ -1,6 +1,7 @@
--- All fields of a record in one call: the refusals in the order of their numbers, how many fields there are, and what the three lent lists have
--- afterwards: in front the tags, the starts in the MST and the lengths of all fields, in directory order, behind them what was there. A
--- refused call counts 0 and leaves the lists as they are.
+-- All fields of a record in one call: the refusals in the order of their numbers, how many fields
+-- there are, and what the three lent lists have afterwards: in front the tags, the starts in the
+-- MST and the lengths of all fields, in directory order, behind them what was there. A refused call
+-- counts 0 and leaves the lists as they are.
 use Rattle.std.specs.Prelude.{ℕ, Bool, not, ◌&&◌, List, [], ◌∷◌, leb, ◌≡◌, length, take, drop, Result, Ok, Err}
 use Rattle.word.specs.Overwrite.{overwrite, part}
 use Rattle.layout.specs.Entry.{place_address}
@@ -90,7 +91,8 @@ fields_named mst (tag ∷ tags) [] lens = []
 fields_named mst (tag ∷ tags) (start ∷ starts) [] = []
 fields_named mst (tag ∷ tags) (start ∷ starts) (len ∷ lens) = record { tag = tag; bytes = part mst start len } ∷ fields_named mst tags starts lens
 
--- n is the number of the fields, the first n elements of the lists name exactly them, and behind those the lists are what they were
+-- n is the number of the fields, the first n elements of the lists name exactly them, and behind
+-- those the lists are what they were
 pub record NamesAll (mst : List ℕ) (fields : List Field) (n : ℕ) (old new : Lists) : Type 0 where
   pub count : n ≡ length fields
   pub names : fields_named mst (take n new.tags) (take n new.starts) (take n new.lens) ≡ fields

@@ -1,5 +1,5 @@
--- The record test on one record alone. Request C-16. A record is read from its first byte up to the store's end; its back pointer is not asked,
--- since that needs the mark and the addresses.
+-- The record test on one record alone. Request C-16. A record is read from its first byte up to the
+-- store's end; its back pointer is not asked, since that needs the mark and the addresses.
 use Rattle.std.specs.Prelude.{ℕ, Bool, not, cond, List, eqb, Result, Ok, Err}
 use Rattle.record.specs.Record.{record_right, broken_entry}
 use Rattle.record.specs.Inner.{number_told}
@@ -7,7 +7,8 @@ use Rattle.record.specs.declared.test.Broken.{Broken}
 use Rattle.store.specs.Answer.{Answer}
 use Rattle.store.specs.declared.answer.Refusal.TheVariants.{BadRecord}
 
--- the answer, and the number of the first entry that breaks a rule, counted from 1; 0 where the record passes or its leader already fails
+-- the answer, and the number of the first entry that breaks a rule, counted from 1; 0 where the
+-- record passes or its leader already fails
 pub record RecordTest : Type 0 where
   pub answer : Answer
   pub entry : ℕ

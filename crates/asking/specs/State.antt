@@ -1,5 +1,5 @@
--- What firmware asks before it writes: the next MFN and the end of the store, and the mark of an MFN's record and whether it is deleted. A refused
--- call shows 0 and 0.
+-- What firmware asks before it writes: the next MFN and the end of the store, and the mark of an
+-- MFN's record and whether it is deleted. A refused call shows 0 and 0.
 use Rattle.std.specs.Prelude.{ℕ, Bool, false, cond, List, [], Result, Ok, Err}
 use Rattle.files.specs.Control.{next_of, end_of}
 use Rattle.files.specs.declared.control.Control.{Control}

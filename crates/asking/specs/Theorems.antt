@@ -1,4 +1,5 @@
--- What the test of one record alone answers, as statements: 0 or 8, and which entry. Request C-16; proved in proofs/Theorems.
+-- What the test of one record alone answers, as statements: 0 or 8, and which entry. Request C-16;
+-- proved in proofs/Theorems.
 use Rattle.std.specs.Prelude.{ℕ, ◌-◌, ◌≤◌, ◌≡◌, ◌↔◌, Bool, true, false, List, length}
 use Rattle.layout.specs.Leader.{leader_of}
 use Rattle.record.specs.Directory.{isis}
@@ -17,7 +18,8 @@ pub record SaysWhichEntry (rec : List ℕ) (m : ℕ) (deleted : Bool) : Type 0 w
   -- 8 and the number 0 exactly if its leader already fails
   pub leader : ((number_of (record_test_of rec m deleted).answer ≡ 8) × ((record_test_of rec m deleted).entry ≡ 0))
       ↔ (leader_right m deleted (length rec) (leader_of rec) ≡ false)
-  -- 8 and the number n exactly if the leader passes and entry n, counted from 1, is the first that is not right
+  -- 8 and the number n exactly if the leader passes and entry n, counted from 1, is the first that
+  -- is not right
   pub first : (n : ℕ) → 1 ≤ n
       → ((number_of (record_test_of rec m deleted).answer ≡ 8) × ((record_test_of rec m deleted).entry ≡ n))
       ↔ ((leader_right m deleted (length rec) (leader_of rec) ≡ true) × FirstWrong isis rec ((leader_of rec).mfrl - (leader_of rec).base) (leader_of rec).nvf n)

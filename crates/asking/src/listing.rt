@@ -1,5 +1,6 @@
-// All fields of a record in one call, through one record test and one walk: their tags, their starts in the MST and their lengths
-// go to the front of three lent lists, in directory order. A refused call leaves the lists as they are.
+// All fields of a record in one call, through one record test and one walk: their tags, their
+// starts in the MST and their lengths go to the front of three lent lists, in directory order. A
+// refused call leaves the lists as they are.
 ghost use Rattle.std.specs.Prelude.{◌≡◌};
 ghost use Rattle.store.specs.Store.{store};
 ghost use Rattle.asking.specs.Listing.{lists, listed, all_fields_of, all_fields_leaves, settled_all_fields_of, settled_all_fields_leaves};
@@ -11,7 +12,7 @@ use store::answer::Refusal;
 use views::views::Version;
 
 // Lists the fields of a version, and gives how many they are.
-// three parameters, not a struct of three `&mut`: handed on whole, such a struct leaves the goal `fields::returns-clause-left` open
+// not a struct of three `&mut`: where one is handed on, `fields::returns-clause-left` stays open
 #[tactic(auto, using(crate::proofs::ListAnswers::list_answers))]
 fn list_version(
     mst: &[u8],

@@ -1,4 +1,5 @@
-// The record test on one record alone, for who has its bytes and no card: which entry of its directory breaks a rule.
+// The record test on one record alone, for who has its bytes and no card: which entry of its
+// directory breaks a rule.
 ghost use Rattle.std.specs.Prelude.{◌≡◌};
 ghost use Rattle.record.specs.Inner.{number_told};
 ghost use Rattle.asking.specs.RecordTest.{tested, record_test_of};
@@ -6,8 +7,9 @@ ghost use Rattle.asking.specs.RecordTest.{tested, record_test_of};
 use layout::sizes::Mfn;
 use record::test::Broken;
 
-// Tests the record at the front of `rec`, which stops at the store's end, for MFN `m`, all but its back pointer.
-#[tactic(auto, using(crate::proofs::RecordTestAnswers::test_passes, crate::proofs::RecordTestAnswers::test_fails))]
+// Tests the record at the front of `rec`, which stops at the store's end, for MFN `m`, all but its
+// back pointer.
+#[tactic(auto, using(crate::proofs::RecordTestAnswers::record_test_answers))]
 pub fn test(rec: &[u8], m: Mfn, deleted: bool) -> Result<(), Broken>
     ensures { tested result ≡ record_test_of rec.now m.0 deleted }
 {
@@ -15,7 +17,7 @@ pub fn test(rec: &[u8], m: Mfn, deleted: bool) -> Result<(), Broken>
     Ok(())
 }
 
-// The number of the first entry that breaks a rule, counted from 1; 0 where the leader already fails.
+// The number of the first entry that breaks a rule, counted from 1; 0 where the leader fails.
 // a function, not `From`: neither type is declared in this crate
 pub fn entry_number(broken: Broken) -> u32
     ensures { result ≡ number_told broken }

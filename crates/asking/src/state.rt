@@ -1,4 +1,5 @@
-// What firmware asks before it writes: the next MFN and the end of the store, and how the record of an MFN stands.
+// What firmware asks before it writes: the next MFN and the end of the store, and how the record of
+// an MFN stands.
 ghost use Rattle.std.specs.Prelude.{◌≡◌};
 ghost use Rattle.store.specs.Store.{store};
 ghost use Rattle.asking.specs.State.{next_told, next_free_of, state_told, state_of, mark_number};

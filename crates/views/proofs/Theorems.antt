@@ -1,5 +1,6 @@
--- WHICH FIELD a view shows and WHICH KIND OF MISSING it says, on any store: what is asked of the fields comes behind the refusals below 12, and each
--- of the three ways in which it comes out is one answer.
+-- WHICH FIELD a view shows and WHICH KIND OF MISSING it says, on any store: what is asked of the
+-- fields comes behind the refusals below 12, and each of the three ways in which it comes out is
+-- one answer.
 use Rattle.std.specs.Prelude.{Result, Ok, Err}
 use Prim.Native.Nat.{ℕ, ◌+◌, ◌-◌, ◌<◌}
 use native.Mathlib.Omega.{arith}
@@ -33,7 +34,8 @@ use Rattle.views.proofs.ViewAnswers.{uncounted}
 apart : {a b : Answer} → (number_of a ≡ number_of b → ⊥) → a ≡ b → ⊥
 apart h e = h (ap number_of e)
 
--- where the field is among the fields, what the search finds of it in the record at an address are its bytes
+-- where the field is among the fields, what the search finds of it in the record at an address are
+-- its bytes
 shown_field : (mst : List ℕ) (at end tag occ : ℕ) → ReadableAt mst at end
     → is_missing (fields_of (part mst at (end - at))) tag occ ≡ false → is_fewer (fields_of (part mst at (end - at))) tag occ ≡ false
     → field_named (fields_of (part mst at (end - at))) tag occ ≡ some (shown_bytes mst (shown_at (Ok tt) at (part mst at (end - at)) tag occ))

@@ -1,6 +1,7 @@
--- Which version a call shows, by what its steps found, and what a caller knows of one: that a version which was found can be read, and which
--- answer the rows of a call behind it have. Each law's premises are what is known at one place of the code, so that
--- `search version_answers` finds them there; a callee's result is a variable with what the callee ensures of it.
+-- Which version a call shows, by what its steps found, and what a caller knows of one: that a
+-- version which was found can be read, and which answer the rows of a call behind it have. Each
+-- law's premises are what is known at one place of the code, so that the check finds them there by
+-- `version_answers`; a callee's result is a variable with what the callee ensures of it.
 use Rattle.std.specs.Prelude.{Result, Ok, Err, IfOk}
 use Prim.Native.Nat.{ℕ, ◌+◌, ◌-◌, ◌≤◌, ◌<◌}
 use native.Mathlib.Omega.{arith}

@@ -1,5 +1,6 @@
--- What the views show of the version that they read. Each law's premises are what is known at one place of the code, so that
--- `search view_answers` finds them there; a callee's result is a variable with what the callee ensures of it.
+-- What the views show of the version that they read. Each law's premises are what is known at one
+-- place of the code, so that the check finds them there by `view_answers`; a callee's result is a
+-- variable with what the callee ensures of it.
 use Rattle.std.specs.Prelude.{Result, Ok, Err}
 use Prim.Native.Nat.{ℕ, ◌+◌, ◌-◌, ◌^◌, ◌≤◌, ◌<◌}
 use native.Mathlib.Omega.{arith}

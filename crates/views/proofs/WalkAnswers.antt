@@ -1,5 +1,6 @@
--- What the calls that hand out a record's fields one after the other show of the version that they read. The theorem stands last: at each index
--- they hand out the record's field of that number, and from the number of its fields on they answer 12.
+-- What the calls that hand out a record's fields one after the other show of the version that they
+-- read. The theorem stands last: at each index they hand out the record's field of that number, and
+-- from the number of its fields on they answer 12.
 use Rattle.std.specs.Prelude.{Option, Some, None, Result, Ok, Err}
 use Rattle.std.specs.Option.{ok_or}
 use Prim.Native.Nat.{ℕ, ◌+◌, ◌-◌, ◌^◌, ◌≤◌, ◌<◌}
@@ -132,7 +133,8 @@ pub ruleset walk_answers =
 abbrev pub field_shown : List ℕ → ShownField → Field
 field_shown mst s = record { tag = s.tag.0; bytes = part mst s.start s.len }
 
--- what a call hands out at index i of a list of fields: the field of that number, counted from 0, and 12 past the last one
+-- what a call hands out at index i of a list of fields: the field of that number, counted from 0,
+-- and 12 past the last one
 pub record HandsOut (mst : List ℕ) (fields : List Field) (i : ℕ) (s : ShownField) : Type 0 where
   pub there : i < length fields → (s.answer ≡ Ok tt) × (field_shown mst s ∷ [] ≡ take 1 (drop i fields))
   pub past : length fields ≤ i → s.answer ≡ Err NoField

@@ -1,5 +1,6 @@
--- The fields of a record by their directory index, counted from 0: the tag, and where in the MST the field lies; tag 0, nowhere and empty, where
--- the call is refused. Document 01, "Records": a field walker hands out tag and field in directory order.
+-- The fields of a record by their directory index, counted from 0: the tag, and where in the MST
+-- the field lies; tag 0, nowhere and empty, where the call is refused. Document 01, "Records": a
+-- field walker hands out tag and field in directory order.
 use Rattle.std.specs.Prelude.{ℕ, ◌+◌, List, [], ◌∷◌, Result, Ok, Err}
 use Rattle.layout.specs.declared.sizes.Tag.{Tag}
 use Rattle.layout.specs.Leader.{leader_of}

@@ -1,5 +1,6 @@
--- What holds of the two views on any store besides, as statements: which field is shown, and which kind of missing 12 and 15 say, by the fields of
--- the version that is read. Document 01, "Records"; request C-15. Proved in proofs/Theorems.
+-- What holds of the two views on any store besides, as statements: which field is shown, and which
+-- kind of missing 12 and 15 say, by the fields of the version that is read. Document 01, "Records";
+-- request C-15. Proved in proofs/Theorems.
 use Rattle.std.specs.Prelude.{Ok, Err}
 use Rattle.std.specs.Prelude.{ℕ, ◌≤◌, ◌<◌, ◌≡◌, ◌↔◌, ◌⊎◌, List, []}
 use Rattle.std.proofs.Math.Option.{some}
@@ -10,7 +11,8 @@ use Rattle.store.specs.Reading.{place_for, record_at, shown_settled}
 use Rattle.store.specs.declared.answer.Refusal.TheVariants.{NoField, FewerFields}
 use Rattle.views.specs.Views.{on_current, on_settled, Shown, view_of, settled_view_of, shown_bytes}
 
--- a view of a tag and an occurrence, among the fields of a version of which the refusals before these answer `before`
+-- a view of a tag and an occurrence, among the fields of a version of which the refusals before
+-- these answer `before`
 pub record SaysWhich (before : Answer) (mst : List ℕ) (fs : List Field) (tag occ : ℕ) (r : Shown) : Type 0 where
   -- 12 exactly if the tag does not occur, or occurrence 0 is asked
   pub missing : (r.answer ≡ Err NoField) ↔ ((before ≡ Ok tt) × ((occurrences_of fs tag ≡ 0) ⊎ (occ ≡ 0)))

@@ -1,5 +1,5 @@
--- Inner: serves the functions of this crate, no part of what is promised. A call that shows a field finds the version that it reads, current or
--- settled, and then shows a field of it.
+-- Inner: serves the functions of this crate, no part of what is promised. A call that shows a field
+-- finds the version that it reads, current or settled, and then shows a field of it.
 use Rattle.std.specs.Prelude.{ℕ, ◌+◌, ◌-◌, ◌≤◌, ◌≡◌, Bool, ◌&&◌, cond, List, [], ◌∷◌, length, Option, Some, None, Result, Ok, Err}
 use Rattle.word.specs.Overwrite.{part}
 use Rattle.files.specs.Control.{end_of}
@@ -27,14 +27,16 @@ use Rattle.views.specs.declared.views.Version.{Version}
 abbrev pub version_at : ℕ → ℕ → Version
 version_at at end = record { at = at; end = end }
 
--- the current version of MFN m, and its settled version, where none of the refusals before 12 applies
+-- the current version of MFN m, and its settled version, where none of the refusals before 12
+-- applies
 unfoldable pub current_version : Store → ℕ → Result Version Refusal
 current_version s m = give (lowest (on_current s m [])) (version_at (place_address (place_for s m)) (end_of s.mst))
 
 unfoldable pub settled_version : Store → ℕ → Result Version Refusal
 settled_version s m = give (lowest (on_settled s m [])) (version_at (settled_address s.mst (place_for s m)) (end_of s.mst))
 
--- the settled version of a record that was found with it: 9 and 11 by the mark; else the back place under changed, and the record's own place
+-- the settled version of a record that was found with it: 9 and 11 by the mark; else the back place
+-- under changed, and the record's own place
 unfoldable pub settled_of : ℕ → Place → Leader → Result Version Refusal
 settled_of end p l =
     give (lowest (refuse Deleted (p.deleted && is_settled p.mark) ∷ refuse NeverSettled (is_new p.mark) ∷ []))

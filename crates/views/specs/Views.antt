@@ -1,5 +1,6 @@
--- The two views: the refusals of each in the order of their numbers, and where in the MST the field lies; nowhere, and empty, where the view is
--- refused. Document 01, "What is built", "Records" and "Answer numbers"; request C-15.
+-- The two views: the refusals of each in the order of their numbers, and where in the MST the field
+-- lies; nowhere, and empty, where the view is refused. Document 01, "What is built", "Records" and
+-- "Answer numbers"; request C-15.
 use Rattle.std.specs.Prelude.{ℕ, ◌+◌, ◌&&◌, cond, List, [], ◌∷◌, eqb, Result, Ok, Err}
 use Rattle.word.specs.Overwrite.{part}
 use Rattle.layout.specs.Entry.{place_address}
@@ -29,7 +30,8 @@ on_settled s m rest =
     ∷ refuse NeverSettled (is_new (place_for s m).mark)
     ∷ rest))
 
--- 12 if occurrence 0 is asked or the tag does not occur, and 15 if it occurs fewer times than asked, among the fields of the version
+-- 12 if occurrence 0 is asked or the tag does not occur, and 15 if it occurs fewer times than
+-- asked, among the fields of the version
 abbrev pub among_fields : List Field → ℕ → ℕ → List Row
 among_fields fs tag occ = refuse NoField (is_missing fs tag occ) ∷ refuse (FewerFields (occurrences_of fs tag)) (is_fewer fs tag occ) ∷ []
 
@@ -49,7 +51,8 @@ settled_view_answer s m tag occ = lowest (settled_view_refusals s m tag occ)
 
 -- ---- what is shown
 
--- the answer of a view, where in the MST the field lies, and with answer 15 how often the tag occurs
+-- the answer of a view, where in the MST the field lies, and with answer 15 how often the tag
+-- occurs
 pub record Shown : Type 0 where
   pub answer : Answer
   pub start : ℕ

@@ -1,5 +1,5 @@
-// The two views: where in the MST a field lies, and the field itself as a part of the lent MST. A view first finds the version
-// that it reads, current or settled, and then shows a field of it.
+// The two views: where in the MST a field lies, and the field itself as a part of the lent MST. A
+// view first finds the version that it reads, current or settled, and then shows a field of it.
 ghost use Rattle.std.specs.Prelude.{◌≡◌, ◌+◌, ◌≤◌, length, IfOk};
 ghost use Rattle.store.specs.Answer.{number_of};
 ghost use Rattle.views.specs.Views.{occurrences_told, shown, view_answer, settled_view_answer, view_of, settled_view_of, shown_bytes};
@@ -14,6 +14,7 @@ use store::answer::Refusal;
 use store::gate::Reached;
 
 // The address of a version that is right, and the store's end.
+// that it can be read is said in clauses, not by a ghost field: the MST is no part of it
 #[derive(Clone, Copy, Debug, PartialEq, Eq)]
 pub struct Version {
     pub at: usize,
@@ -120,7 +121,8 @@ pub fn occurrences_told(refusal: Refusal) -> u32
     }
 }
 
-// What a view found, handed out: its field as a part of the MST, the answer's number and the number of occurrences.
+// What a view found, handed out: its field as a part of the MST, the answer's number and the number
+// of occurrences.
 #[tactic(auto, unfolding(store::specs::Answer::number_of))]
 fn hand_out_found<'a>(
     mst: &'a [u8],
@@ -147,8 +149,8 @@ fn hand_out_found<'a>(
     }
 }
 
-// The field that a view shows, as a part of the MST, empty where it is refused; the answer's number goes to `answer`, and the number of occurrences
-// to `occurrences`.
+// The field that a view shows, as a part of the MST, empty where it is refused; the answer's number
+// goes to `answer`, and the number of occurrences to `occurrences`.
 #[tactic(auto, unfolding(crate::specs::Views::view_of, crate::specs::Views::shown_at))]
 pub fn view_field<'a>(
     mst: &'a [u8],

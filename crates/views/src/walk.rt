@@ -1,5 +1,6 @@
-// The fields of a record one after the other, by their index in the directory, counted from 0: a caller that counts up until
-// the answer is that there is no such field has been handed every field, in directory order.
+// The fields of a record one after the other, by their index in the directory, counted from 0: a
+// caller that counts up until the answer is that there is no such field has been handed every
+// field, in directory order.
 ghost use Rattle.std.specs.Prelude.{◌≡◌, ◌+◌, ◌≤◌, length, IfOk};
 ghost use Rattle.views.specs.Fields.{shown_field, field_of, settled_field_of};
 ghost use Rattle.views.specs.Versions.{ReadableAt, walked_in};
