@@ -86,6 +86,7 @@ pub fn used_by(rec: &[u8]) -> usize
 }
 
 // Writes one byte of a record.
+#[tactic(auto, using(word::proofs::Overwrite::overwrite_one))]
 pub fn put_byte(out: &mut [u8], at: usize, b: u8)
     requires { at < length out.old }
     ensures { out.new ≡ overwrite out.old at (b ∷ []) }

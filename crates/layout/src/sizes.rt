@@ -64,7 +64,7 @@ pub fn address(block: Block, offset: u16) -> usize
     requires { 1 ≤ block.0 }
     ensures { result ≡ address_of block.0 offset }
 {
-    (block.0 as usize - 1) * 512 + offset as usize
+    (block.0 as usize - 1) * 512 + usize::from(offset)
 }
 
 // The block of an address in an MST, or of an end.

@@ -27,7 +27,7 @@ pub fn pos_at(rec: &[u8], i: usize) -> usize
     requires { 24 + 6 * i ≤ length rec.now }
     ensures { (result ≡ pos_at rec.now i) × (result < 65536) }
 {
-    u16_at(rec, 20 + 6 * i) as usize
+    usize::from(u16_at(rec, 20 + 6 * i))
 }
 
 // LEN of entry `i`.
@@ -35,7 +35,7 @@ pub fn len_at(rec: &[u8], i: usize) -> usize
     requires { 24 + 6 * i ≤ length rec.now }
     ensures { (result ≡ len_at rec.now i) × (result < 65536) }
 {
-    u16_at(rec, 22 + 6 * i) as usize
+    usize::from(u16_at(rec, 22 + 6 * i))
 }
 
 // Whether entry `i` keeps the rules, after lengths that sum to `pos` and with `room` bytes for the data.

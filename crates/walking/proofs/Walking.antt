@@ -1,6 +1,6 @@
 -- The walk over a record's fields. A walk hands out the record's fields, in directory order, and no more; what stands at an index is the
 -- field of that number, or nothing; and it lies in the record. Then the laws that the steps' own proofs are made of.
-use Prim.Native.Nat.{ℕ, zero, suc, ◌+◌, ◌*◌, ◌-◌, ◌<◌, ◌≤◌, ◌^◌}
+use Prim.Native.Nat.{ℕ, zero, suc, ◌+◌, ◌*◌, ◌-◌, ◌<◌, ◌≤◌}
 use native.Mathlib.Nat.{add-zero, zero-add, le_refl}
 use native.Mathlib.Numerals.{add-one}
 use native.Mathlib.Omega.{arith}
@@ -10,7 +10,6 @@ use mathlib.Core.List.{List, [], ◌∷◌, ◌++◌, map}
 use lib.ListN.{length, get_or, take, drop, set, length-map, length-append}
 use lib.Seq.{drop-nil}
 use borrow.Author.Tests.{le-leb, lt-leb, leb-false}
-use Rattle.word.specs.Integer.{u16_at}
 use Rattle.word.specs.Overwrite.{overwrite}
 use Rattle.word.proofs.Overwrite.{overwrite_none, overwrite_more, overwrite_length}
 use Rattle.layout.specs.Leader.{leader_of}
@@ -223,10 +222,6 @@ module _ (f : Spot → ℕ) (rec : List ℕ) (d : List ℕ) where
 
 -- ---- the steps: `search walk_answers` finds the premises among what was read
 
-pub count_is_lem : (rec : List ℕ) (nvf : ℕ) → nvf ≡ u16_at rec 14 → nvf ≡ (leader_of rec).nvf
-unfolding leader_of
-count_is_lem rec nvf e = e
-
 module _ (rec : List ℕ) (i n : ℕ) (c : n ≡ (leader_of rec).nvf) where
   -- a directory of that many entries fits in the record
   pub count_small : Readable rec → 6 * n < 65536
@@ -236,12 +231,4 @@ module _ (rec : List ℕ) (i n : ℕ) (c : n ≡ (leader_of rec).nvf) where
       → record { tag = tag; start = 18 + 6 * n + pos; len = len } ≡ spot_at rec i
   spot_is pos len tag r p l t = rw (c, ← (readable_facts r).base_is, p, l, ← t)
 
-  pub walked_end : n ≤ i → None ≡ walked_at rec i
-  unfolding walked_at
-  walked_end h = rw (le-leb (leader_of rec).nvf i (rw (← c) h))
-
-  pub walked_field : (spot : Spot) → i < n → spot ≡ spot_at rec i → Some spot ≡ walked_at rec i
-  unfolding walked_at
-  walked_field spot h e = rw (lt-leb (leader_of rec).nvf i (rw (← c) h), e)
-
-pub ruleset walk_answers = (count_is_lem, count_small, entry_within, spot_is, walked_end, walked_field)
+pub ruleset walk_answers = (count_small, entry_within, spot_is)

@@ -21,11 +21,12 @@ pub struct Spot {
 }
 
 // How many fields a record has.
+#[tactic(auto, using(record::proofs::Facts::readable_facts), unfolding(layout::specs::Leader::leader_of))]
 pub fn field_count(rec: &[u8]) -> usize
     requires { Readable rec.now }
     ensures { result ≡ (leader_of rec.now).nvf }
 {
-    u16_at(rec, 14) as usize
+    usize::from(u16_at(rec, 14))
 }
 
 // The field at an index of a record that has `count` fields: its data begin behind that many directory entries.
@@ -123,6 +124,7 @@ pub fn list_fields(
 }
 
 // What stands at an index, whatever the index, for callers that ask for one field alone.
+#[tactic(auto, unfolding(crate::specs::Walker::walked_at))]
 pub fn field_span(rec: &[u8], index: usize) -> Option<Spot>
     requires { Readable rec.now }
     ensures { result ≡ walked_at rec.now index }
