@@ -1,4 +1,5 @@
-// The parts of update and delete that write: a new version at the end or in place. The settled version is never written over.
+// The parts of update and delete that write: a new version at the end or in place. The settled
+// version is never written over.
 ghost use Rattle.std.specs.Prelude.{◌≡◌, true, false, ◌+◌, ◌≤◌, length};
 ghost use Rattle.files.specs.Control.{end_of, counted_less};
 ghost use Rattle.files.specs.CrossReference.{with_entry};
@@ -29,7 +30,8 @@ pub fn own_need(mst: &[u8], was: Reached) -> usize
     )
 }
 
-// The leader of a new version: its back pointer is to the old version if that is settled, else the old version's own.
+// The leader of a new version: its back pointer is to the old version if that is settled, else the
+// old version's own.
 #[tactic(auto, unfolding(crate::specs::Written::version_leader))]
 fn version_leader(m: Mfn, was: Reached, mfrl: u16, deleted: bool, nvf: u16) -> Leader
     requires { nvf ≤ fields_most }
