@@ -56,6 +56,7 @@ fn pending_mark(mark: Mark) -> Mark
 }
 
 // Writes an update at the end, and its entry.
+#[tactic(auto, using(crate::proofs::Writes::draft_versioned))]
 pub fn update_at_end(mst: &mut [u8], xrf: &mut [u8], m: Mfn, was: Reached, draft: Draft<'_>)
     requires has_slot { HasSlot xrf.old m.0 }
     requires draft_fits { DraftFits draft.tags.now draft.lens.now draft.data.now }
@@ -92,6 +93,7 @@ fn append_copy(mst: &mut [u8], end: usize, place: Place, l: Leader)
 }
 
 // Copies a settled record to the end as deleted, and writes RECCNT and its entry.
+#[tactic(auto, using(crate::proofs::Writes::copy_versioned))]
 pub fn delete_at_end(mst: &mut [u8], xrf: &mut [u8], m: Mfn, was: Reached)
     requires has_slot { HasSlot xrf.old m.0 }
     requires record_read { RecordRead mst.old was.end was.place was.leader }
