@@ -1,5 +1,6 @@
--- The fold over the first so many MFNs of a list, and the loop that makes it: after i turns both buffers and the list of answers are those of the
--- first i MFNs (`Settled`), one turn is one single settle more, and after the last they are the whole list's.
+-- The fold over the first so many MFNs of a list, and the loop that makes it: after i turns both
+-- buffers and the list of answers are those of the first i MFNs (`Settled`), one turn is one single
+-- settle more, and after the last they are the whole list's.
 use Rattle.std.specs.Prelude.{Ok, Err}
 use Prim.Native.Nat.{ℕ, ◌+◌, ◌≤◌, ◌<◌}
 use native.Mathlib.Nat.{zero-add}

@@ -1,5 +1,6 @@
--- THE CLAIMS of specs/Theorems hold of any two buffers and every list. A settle that is done leaves a settled mark in its MFN's entry, and settling
--- others writes other slots and nothing of the control record, so that the mark is still read there when the MFN comes again.
+-- THE CLAIMS of specs/Theorems hold of any two buffers and every list. A settle that is done leaves
+-- a settled mark in its MFN's entry, and settling others writes other slots and nothing of the
+-- control record, so that the mark is still read there when the MFN comes again.
 use Rattle.std.specs.Prelude.{Ok, Err}
 use Prim.Native.Nat.{ℕ, zero, suc, ◌+◌, ◌≤◌, ◌<◌}
 use native.Mathlib.Decide.{ℕ_discrete}

@@ -1,5 +1,5 @@
--- A whole list is settled in one call: a fold of settle over the list of MFNs. What a settle answers and leaves is said in `writing/specs` and not
--- again here. Request C-13.
+-- A whole list is settled in one call: a fold of settle over the list of MFNs. What a settle
+-- answers and leaves is said in `writing/specs` and not again here. Request C-13.
 use Rattle.std.specs.Prelude.{ℕ, Bool, not, ◌&&◌, List, [], ◌∷◌, map, eqb, leb, length}
 use Rattle.store.specs.Store.{Store}
 use Rattle.store.specs.Answer.{Row, refuse, lowest, number_of, after, Answer}
@@ -29,14 +29,16 @@ list_most = 4096
 unfoldable pub lists_right : ℕ → ℕ → Bool
 lists_right mfns answers = eqb mfns answers && leb mfns list_most
 
--- unequal or over-long lists: refusal 17; otherwise the call itself answers 0. It asks for the two lengths alone
+-- unequal or over-long lists: refusal 17; otherwise the call itself answers 0. It asks for the two
+-- lengths alone
 abbrev pub settle_list_refusals : ℕ → ℕ → List Row
 settle_list_refusals mfns answers = refuse NoRoomInList (not (lists_right mfns answers)) ∷ []
 
 unfoldable pub settle_list_answer : ℕ → ℕ → Answer
 settle_list_answer mfns answers = lowest (settle_list_refusals mfns answers)
 
--- both buffers afterwards, where the list of answers has so many elements; refused, nothing is changed
+-- both buffers afterwards, where the list of answers has so many elements; refused, nothing is
+-- changed
 unfoldable pub settle_list_leaves : Store → List ℕ → ℕ → Store
 settle_list_leaves s ms lent = after (settle_list_answer (length ms) lent) (settle_each_leaves s ms) s
 

@@ -1,4 +1,5 @@
--- What request C-13 says of the answers and the bytes of a list, as statements about single settles. Proved in proofs/Theorems.
+-- What request C-13 says of the answers and the bytes of a list, as statements about single
+-- settles. Proved in proofs/Theorems.
 use Rattle.std.specs.Prelude.{Ok, Err}
 use Rattle.std.specs.Prelude.{ℕ, ◌+◌, ◌≤◌, ◌<◌, ◌≡◌, Bool, true, false, ◌||◌, List, [], ◌∷◌, eqb, length, get_or, take, replicate}
 use Rattle.layout.specs.Entry.{place_address}
@@ -24,7 +25,8 @@ pub record InOrder (s : Store) (ms : List ℕ) : Type 0 where
   pub next : (i : ℕ) → i < length ms → settle_each_leaves s (take (i + 1) ms) ≡ settle_leaves (settle_each_leaves s (take i ms)) (get_or ms i 0)
   pub last : settle_each_leaves s (take (length ms) ms) ≡ settle_each_leaves s ms
 
--- the same MFN again after a 0, whatever was settled between: 10, unless an earlier check refuses it
+-- the same MFN again after a 0, whatever was settled between: 10, unless an earlier check refuses
+-- it
 abbrev pub Again : Store → ℕ → List ℕ → Type 0
 Again s m between =
     settle_answer s m ≡ Ok tt
@@ -45,7 +47,8 @@ abbrev pub among : ℕ → List ℕ → Bool
 among n [] = false
 among n (k ∷ ks) = eqb n k || among n ks
 
--- both buffers are as long, and every byte is what it was but for those of the entries of the list's MFNs and of the back pointers at their places
+-- both buffers are as long, and every byte is what it was but for those of the entries of the
+-- list's MFNs and of the back pointers at their places
 pub record ChangesOnly (s s' : Store) (ms : List ℕ) : Type 0 where
   pub mst_length : length s'.mst ≡ length s.mst
   pub xrf_length : length s'.xrf ≡ length s.xrf

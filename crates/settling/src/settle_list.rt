@@ -1,4 +1,5 @@
-// Settles each MFN of a list in order, by the single call, and writes its answer down at the same place of a second list.
+// Settles each MFN of a list in order, by the single call, and writes its answer down at the same
+// place of a second list.
 ghost use Rattle.std.specs.Prelude.{◌≡◌, length};
 ghost use Rattle.store.specs.Store.{store};
 ghost use Rattle.settling.specs.SettleList.{lists_right, settle_list_answer, settle_list_leaves, settle_list_tells};

@@ -1,4 +1,5 @@
--- What update and delete decide before they write, one law for each way that the deciding functions return.
+-- What update and delete decide before they write, one law for each way that the deciding functions
+-- return.
 use Rattle.std.specs.Prelude.{Result, Ok, Err}
 use Prim.Native.Nat.{ℕ, ◌≤◌}
 use native.Mathlib.Omega.{arith}

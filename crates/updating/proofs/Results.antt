@@ -1,4 +1,5 @@
--- What update and delete return and leave, one law for each way that they return: its premises are the plan and the promise of the write.
+-- What update and delete return and leave, one law for each way that they return: its premises are
+-- the plan and the promise of the write.
 use Rattle.std.specs.Prelude.{Result, Ok, Err}
 use Prim.Native.Nat.{ℕ, ◌+◌, ◌≤◌}
 use native.Mathlib.Omega.{arith}

@@ -1,5 +1,5 @@
--- Inner: serves the functions of this crate, no part of what is promised. What an update or a delete has decided before it writes: the refusal, or
--- where the new version goes.
+-- Inner: serves the functions of this crate, no part of what is promised. What an update or a
+-- delete has decided before it writes: the refusal, or where the new version goes.
 use Rattle.std.specs.Prelude.{ℕ, ◌+◌, Bool, ◌&&◌, cond, ltb, Result, Ok, Err}
 use Rattle.files.specs.Control.{end_of}
 use Rattle.drafts.specs.Bytes.{need_for}

@@ -1,4 +1,5 @@
-// Update and delete: a new version of a record, at the end or in place. The settled version is never written over.
+// Update and delete: a new version of a record, at the end or in place. The settled version is
+// never written over.
 ghost use Rattle.std.specs.Prelude.{◌≡◌, true, false, ◌+◌, ◌≤◌};
 ghost use Rattle.versions.specs.Written.{update_appends};
 ghost use Rattle.writing.specs.Refusals.{update_answer, delete_answer};
@@ -21,7 +22,8 @@ pub struct NewVersion {
     pub appends: bool,
 }
 
-// A version of `need` bytes in an MST of `room` bytes: if it goes to the end, there has to be room for it.
+// A version of `need` bytes in an MST of `room` bytes: if it goes to the end, there has to be room
+// for it.
 #[tactic(auto, unfolding(crate::specs::Plans::room_plan))]
 fn plan_room(room: usize, need: usize, was: Reached, appends: bool) -> Result<NewVersion, Refusal>
     requires { (was.end ≤ mst_most) × (need ≤ 65536) }

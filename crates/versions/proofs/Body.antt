@@ -1,4 +1,5 @@
--- The copy of a record's body to the end. The old record lies before the end, so the MST is lent in two parts there.
+-- The copy of a record's body to the end. The old record lies before the end, so the MST is lent in
+-- two parts there.
 use Prim.Native.Nat.{ℕ, ◌+◌, ◌-◌, ◌≤◌}
 use native.Mathlib.Omega.{arith}
 use mathlib.Core.Path.{◌≡◌, ◌∙◌}

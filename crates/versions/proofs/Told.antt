@@ -1,7 +1,8 @@
--- What a call found, as what its writing half is told: an open gate, a right draft and a record that was found give the records of specs/Asked.
+-- What a call found, as what its writing half is told: an open gate, a right draft and a record
+-- that was found give the records of specs/Asked.
 use Prim.Native.Nat.{ℕ, ◌+◌, ◌≤◌}
 use native.Mathlib.Omega.{arith}
-use mathlib.Core.Path.{◌≡◌, refl, sym, ◌∙◌}
+use mathlib.Core.Path.{◌≡◌, sym, ◌∙◌}
 use mathlib.Core.Bool.{Bool, true, false, not}
 use mathlib.Core.List.{List}
 use lib.ListN.{length}
@@ -13,17 +14,9 @@ use Rattle.layout.specs.declared.entry.Place.{Place}
 use Rattle.layout.specs.declared.leader.Leader.{Leader}
 use Rattle.drafts.specs.Draft.{need_of, draft_right}
 use Rattle.drafts.proofs.DraftFacts.{draft_facts}
-use Rattle.store.specs.Reading.{is_settled, leader_at}
-use Rattle.layout.specs.declared.entry.Mark.{Mark}
-use Rattle.layout.specs.declared.entry.Mark.TheVariants.{Settled, Changed, New}
+use Rattle.store.specs.Reading.{leader_at}
 use Rattle.versions.specs.Asked.{HasSlot, AtEnd, DraftFits, RecordRead}
 use Rattle.store.proofs.Gates.{OpenFacts, KnownFacts}
-
--- the marks that are left in an `else`
-pub not_settled : (k : Mark) → (k ≡ Settled → ⊥) → is_settled k ≡ false
-not_settled Settled v = absurd (v refl)
-not_settled Changed v = refl
-not_settled New v = refl
 
 -- a need is at least the leader
 pub need_low : (fields size : ℕ) → 18 ≤ need_of fields size

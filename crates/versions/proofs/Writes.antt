@@ -1,6 +1,7 @@
--- What the writing halves leave. A record is written into the tail of the MST that starts at its place; what the borrow checker hands back of
--- that tail, with what the writer promises of it, is the MST with the record placed there. Each law's premises are what is known at a call or at
--- the return of one writing half, so that `search` finds them.
+-- What the writing halves leave. A record is written into the tail of the MST that starts at its
+-- place; what the borrow checker hands back of that tail, with what the writer promises of it, is
+-- the MST with the record placed there. Each law's premises are what is known at a call or at the
+-- return of one writing half, so that `search` finds them.
 use Prim.Native.Nat.{ℕ, ◌+◌, ◌-◌, ◌≤◌, ◌<◌}
 use native.Mathlib.Omega.{arith}
 use mathlib.Core.Path.{◌≡◌, sym, ap, ◌∙◌}

@@ -1,5 +1,5 @@
--- Inner: serves the functions of this crate, no part of what is promised. What the writing half of a call is told by its plan, as numbers and
--- names: each record is what one `requires` asks.
+-- Inner: serves the functions of this crate, no part of what is promised. What the writing half of
+-- a call is told by its plan, as numbers and names: each record is what one `requires` asks.
 use Rattle.std.specs.Prelude.{ℕ, ◌+◌, ◌%◌, ◌≤◌, ◌≡◌, true, List, length}
 use Rattle.layout.specs.Sizes.{mst_most, fields_most, record_most, mst_blocks, capacity_of}
 use Rattle.files.specs.Control.{end_of}

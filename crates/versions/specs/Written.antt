@@ -27,8 +27,8 @@ appended mst l fs = with_end (with_record mst (end_of mst) l fs) (end_moved (end
 abbrev pub place_at_end : List ℕ → Bool → Mark → Place
 place_at_end mst deleted mark = placed (block_at (end_of mst)) (offset_at (end_of mst)) deleted mark
 
--- ---- create: at the end, MFRL = need, back pointer 0/0, STATUS 0, mark new; NXTMFN + 1, RECCNT + 1; returns the MFN, 0 where it
--- is refused
+-- ---- create: at the end, MFRL = need, back pointer 0/0, STATUS 0, mark new; NXTMFN + 1,
+-- RECCNT + 1; returns the MFN, 0 where it is refused
 
 unfoldable pub created_mst : List ℕ → List Field → List ℕ
 created_mst mst fs =
@@ -37,10 +37,12 @@ created_mst mst fs =
 unfoldable pub created_xrf : List ℕ → List ℕ → List ℕ
 created_xrf mst xrf = with_entry xrf (next_of mst) (place_at_end mst false New)
 
--- ---- update. Settled: at the end, MFRL = need, back pointer to the old version, mark changed. Pending: in place if need is at most the
--- old MFRL, and then MFRL stays and bytes after the data are zero; else at the end with MFRL = need. Mark and back pointer are kept
+-- ---- update. Settled: at the end, MFRL = need, back pointer to the old version, mark changed.
+-- Pending: in place if need is at most the old MFRL, and then MFRL stays and bytes after the data
+-- are zero; else at the end with MFRL = need. Mark and back pointer are kept
 
--- the back pointer of a new version: to the old version if that is settled, else the old version's own
+-- the back pointer of a new version: to the old version if that is settled, else the old version's
+-- own
 abbrev pub new_back_block : Place → Leader → ℕ
 new_back_block p l = cond (is_settled p.mark) p.block.0 l.mfbwb.0
 
@@ -78,8 +80,9 @@ unfoldable pub updated_xrf : List ℕ → List ℕ → ℕ → Place → List Fi
 updated_xrf mst xrf m p fs =
     cond (update_appends p (leader_at mst p) (need_for fs)) (with_entry xrf m (place_at_end mst false (pending_mark p.mark))) xrf
 
--- ---- delete: an update with the same fields, STATUS 1, block negated. A settled record is copied to the end with MFRL = need; a pending
--- one stays in place, its MFRL kept and bytes after the data zero. RECCNT - 1
+-- ---- delete: an update with the same fields, STATUS 1, block negated. A settled record is copied
+-- to the end with MFRL = need; a pending one stays in place, its MFRL kept and bytes after the data
+-- zero. RECCNT - 1
 
 unfoldable pub deleted_mst : List ℕ → ℕ → Place → List Field → List ℕ
 deleted_mst mst m p fs =
@@ -100,7 +103,8 @@ settled_mst mst p = overwrite mst (place_address p + 6) (replicate 6 0)
 unfoldable pub settled_xrf : List ℕ → ℕ → Place → List ℕ
 settled_xrf xrf m p = with_entry xrf m (placed p.block.0 p.offset p.deleted Settled)
 
--- ---- revert: the entry becomes the back place, positive, no mark. RECCNT + 1 where it brings a deleted record back; no other MST byte changes
+-- ---- revert: the entry becomes the back place, positive, no mark. RECCNT + 1 where it brings a
+-- deleted record back; no other MST byte changes
 
 unfoldable pub reverted_mst : List ℕ → Place → List ℕ
 reverted_mst mst p = cond p.deleted (counted_more mst) mst

@@ -1,4 +1,5 @@
-// The parts of update and delete that write: a new version at the end or in place. The settled version is never written over.
+// The parts of update and delete that write: a new version at the end or in place. The settled
+// version is never written over.
 ghost use Rattle.std.specs.Prelude.{◌≡◌, true, false, ◌+◌, ◌≤◌, length};
 ghost use Rattle.files.specs.Control.{end_of, counted_less};
 ghost use Rattle.files.specs.CrossReference.{with_entry};
@@ -29,7 +30,8 @@ pub fn own_need(mst: &[u8], was: Reached) -> usize
     )
 }
 
-// The leader of a new version: its back pointer is to the old version if that is settled, else the old version's own.
+// The leader of a new version: its back pointer is to the old version if that is settled, else the
+// old version's own.
 #[tactic(auto, unfolding(crate::specs::Written::version_leader))]
 fn version_leader(m: Mfn, was: Reached, mfrl: u16, deleted: bool, nvf: u16) -> Leader
     requires { nvf ≤ fields_most }
@@ -54,6 +56,7 @@ fn pending_mark(mark: Mark) -> Mark
 }
 
 // Writes an update at the end, and its entry.
+#[tactic(auto, using(crate::proofs::Writes::draft_versioned))]
 pub fn update_at_end(mst: &mut [u8], xrf: &mut [u8], m: Mfn, was: Reached, draft: Draft<'_>)
     requires has_slot { HasSlot xrf.old m.0 }
     requires draft_fits { DraftFits draft.tags.now draft.lens.now draft.data.now }
@@ -90,6 +93,7 @@ fn append_copy(mst: &mut [u8], end: usize, place: Place, l: Leader)
 }
 
 // Copies a settled record to the end as deleted, and writes RECCNT and its entry.
+#[tactic(auto, using(crate::proofs::Writes::copy_versioned))]
 pub fn delete_at_end(mst: &mut [u8], xrf: &mut [u8], m: Mfn, was: Reached)
     requires has_slot { HasSlot xrf.old m.0 }
     requires record_read { RecordRead mst.old was.end was.place was.leader }

@@ -17,7 +17,8 @@ fn copy_body(mst: &mut [u8], at: usize, end: usize, used: usize)
     behind[18..used].copy_from_slice(&before[at + 18..at + used]);
 }
 
-// Writes the fields of the record at `at`, which stops at or before the end, as a record at the end under the leader `l`.
+// Writes the fields of the record at `at`, which stops at or before the end, as a record at the end
+// under the leader `l`.
 pub(crate) fn copy_record(mst: &mut [u8], at: usize, end: usize, l: Leader)
     requires readable { Readable (part mst.old at (end - at)) }
     requires at_le_end { (at ≤ end) × (end + l.mfrl ≤ length mst.old) × (need_for (fields_of (part mst.old at (end - at))) ≤ l.mfrl) }

@@ -1,4 +1,5 @@
-// A record at the end: the part of a create that writes, and the two steps that every record at the end shares.
+// A record at the end: the part of a create that writes, and the two steps that every record at the
+// end shares.
 ghost use Rattle.std.specs.Prelude.{◌≡◌, true, ◌+◌, ◌/◌, ◌%◌, ◌≤◌, length};
 ghost use Rattle.files.specs.Control.{next_of};
 ghost use Rattle.layout.specs.Sizes.{mfn_most, mst_most, block_at, offset_at};
