@@ -11,6 +11,7 @@ use lib.Dec.{eqb}
 use lib.ListN.{length}
 use borrow.Author.Tests.{le-leb, lt-leb, le-ltb, eq-eqb, ne_eqb, not-true, not-false}
 use mir.Val.{bool_byte}
+use Rattle.std.proofs.lemmas.Option.{none-some, cond_some}
 use Rattle.word.specs.Overwrite.{part}
 use Rattle.layout.specs.Sizes.{mst_most, mfn_most, address_of, end_moved, record_length}
 use Rattle.layout.specs.Entry.{place_address}
@@ -199,14 +200,14 @@ pub record Tallied (mst xrf : List ℕ) (m named live : ℕ) : Type 0 where
 
 -- a tally tells its parts
 pub named_parts : (t : Bool) (n v : ℕ) (x : Tally) → cond t (Some (tally n v)) None ≡ Some x → (t ≡ true) × (n ≡ x.named) × (v ≡ x.live)
-named_parts true n v x e =
-    let q : tally n v ≡ x = cc in
-    (refl, ap (λ (y : Tally). y.named) q, ap (λ (y : Tally). y.live) q)
-named_parts false n v x e = let z : ◌≡◌ {A = ℕ} 0 1 = cc in absurd (omega arith)
+named_parts t n v x e =
+    let q = cond_some t (tally n v) x e in
+    (q.0, ap (λ (y : Tally). y.named) q.1, ap (λ (y : Tally). y.live) q.1)
 
-pub wrong_part : (t : Bool) (n v : ℕ) → cond t (Some (tally n v)) None ≡ None → t ≡ false
-wrong_part true n v e = let z : ◌≡◌ {A = ℕ} 0 1 = cc in absurd (omega arith)
-wrong_part false n v e = refl
+-- and where there is none, the test failed
+pub cond_none : {A : Type 0} (t : Bool) (x : A) → cond t (Some x) None ≡ None → t ≡ false
+cond_none true x e = absurd (none-some x (sym e))
+cond_none false x e = refl
 
 names_few : (mst : List ℕ) (e : Entry) → length (names_of mst e) ≤ 2
 unfolding names_of
@@ -252,8 +253,8 @@ module _ (mst xrf : List ℕ) where
     unfolding tally_of entries_fine entry_tally
     tally_wrong k g h lo hi =
         let n = open_next mst xrf k g in
-        let f = wrong_part (entry_fine mst m (entry_for (store mst xrf) m)) (length (names_of mst (entry_for (store mst xrf) m)))
-        (bit (is_live (entry_for (store mst xrf) m))) (sym e ∙ h) in
+        let f = cond_none (entry_fine mst m (entry_for (store mst xrf) m))
+        (tally (length (names_of mst (entry_for (store mst xrf) m))) (bit (is_live (entry_for (store mst xrf) m)))) (sym e ∙ h) in
         rw (sym (passed_fails (λ (i : ℕ). entry_fine mst i (entry_for (store mst xrf) i)) m (next_of mst - 1) lo (omega arith) f))
 
   pub tally_done : (m named live : ℕ) (k : Control) → gate_of (store mst xrf) ≡ Ok k → Tallied mst xrf m named live → m ≤ k.next.0 → k.next.0 ≤ m
@@ -370,14 +371,6 @@ pub record Walked (mst xrf : List ℕ) (end hits at : ℕ) : Type 0 where
   pub few : hits ≤ at
   pub near : at ≤ end + 12
 
-some_part : (t : Bool) (x y : ℕ) → cond t (Some x) None ≡ Some y → y ≡ x
-some_part true x y e = cc
-some_part false x y e = let z : ◌≡◌ {A = ℕ} 0 1 = cc in absurd (omega arith)
-
-none_part : (t : Bool) (x : ℕ) → cond t (Some x) None ≡ None → t ≡ false
-none_part true x e = let z : ◌≡◌ {A = ℕ} 0 1 = cc in absurd (omega arith)
-none_part false x e = refl
-
 module _ (mst xrf : List ℕ) (end : ℕ) where
   pub walk_none : (k : Control) → gate_of (store mst xrf) ≡ Ok k → k.end ≡ end → Walked mst xrf end 0 64
   walk_none k g q =
@@ -406,7 +399,7 @@ module _ (mst xrf : List ℕ) (end : ℕ) where
       module _ (t : Option ℕ) (e : t ≡ step_of mst at) where
         stepped : (next : ℕ) → t ≡ Some next → next ≡ next_step mst at
         unfolding step_of
-        stepped next h = some_part (step_right mst at) (next_step mst at) next (sym e ∙ h)
+        stepped next h = sym (cond_some (step_right mst at) (next_step mst at) next (sym e ∙ h)).1
 
         pub walk_more : (next r : ℕ) (b : Bool) → t ≡ Some next → r ≡ bool_byte b → b ≡ hit (store mst xrf) at → Walked mst xrf end (hits + r) next
         walk_more next r b h q n = rw (q, byte_bit b, n) (walked_on next (stepped next h))
@@ -418,7 +411,7 @@ module _ (mst xrf : List ℕ) (end : ℕ) where
         pub walk_astray : (named : ℕ) → t ≡ None → false ≡ walk_of (store mst xrf) named
         unfolding walk_of step_of next_step
         walk_astray named h =
-            let q : step_right mst at ≡ false = none_part (step_right mst at) (next_step mst at) (sym e ∙ h) in
+            let q : step_right mst at ≡ false = cond_none (step_right mst at) (next_step mst at) (sym e ∙ h) in
             let past : next_step mst at ≡ end_of mst + 1 = rw q in
             let lost : arrives mst 64 ≡ false =
             w.way ∙ arrives_more mst at room ∙ ap (arrives mst) past ∙ arrives_end mst (end_of mst + 1) (omega arith)
