@@ -21,18 +21,18 @@ use Rattle.store.specs.declared.answer.Refusal.{Refusal}
 use Rattle.store.proofs.Gates.{Refusing, refusing, done_number, after_done, after_refused, refused_is, done_is, given_refused, given_done, holds, gate_done, gate_shut, open_from, gate_open, open_xrf}
 use Rattle.soundness.specs.Sound.{bit, heads_right, rest_free, steps, is_live, live_count, count_right, body_apart, body_sound, check_answer}
 use Rattle.soundness.specs.Recount.{recount_answer, recounted_mst, recount_leaves}
-use Rattle.soundness.specs.Passes.{entries_fine, named_total, tally_of, walk_of, apart_of, counted_of}
+use Rattle.soundness.specs.Passes.{entries_fine, named_total, tally, tally_of, walk_of, apart_of, counted_of}
 use Rattle.soundness.specs.declared.passes.Tally.{Tally}
 use Rattle.soundness.proofs.Sums.{sum_few}
 use Rattle.soundness.proofs.Counting.{bit_le}
 use Rattle.soundness.proofs.Deciding.{entries_wrong, walk_decides}
-use Rattle.soundness.proofs.PassAnswers.{open_next, open_low, named_parts, wrong_part}
+use Rattle.soundness.proofs.PassAnswers.{open_next, open_low, named_parts, cond_none}
 use Rattle.store.specs.Store.{Store, store}
 
 module _ (mst xrf : List ℕ) (t : Option Tally) (e : t ≡ tally_of (store mst xrf)) where
   not_fine : t ≡ None → entries_fine (store mst xrf) ≡ false
   unfolding tally_of
-  not_fine h = wrong_part (entries_fine (store mst xrf)) (named_total (store mst xrf)) (live_count (store mst xrf)) (sym e ∙ h)
+  not_fine h = cond_none (entries_fine (store mst xrf)) (tally (named_total (store mst xrf)) (live_count (store mst xrf))) (sym e ∙ h)
 
   tally_both : (x : Tally) → t ≡ Some x
       → (entries_fine (store mst xrf) ≡ true) × (named_total (store mst xrf) ≡ x.named) × (live_count (store mst xrf) ≡ x.live)

@@ -6,13 +6,14 @@ use Prim.Native.Nat.{ℕ, zero, suc, ◌+◌, ◌-◌, ◌≤◌, ◌<◌}
 use native.Mathlib.Omega.{arith}
 use native.Mathlib.Decide.{ℕ_discrete}
 use mathlib.Core.Path.{◌≡◌, refl, sym, ap, ◌∙◌}
-use mathlib.Core.Bool.{Bool, true, false, ◌&&◌, ◌||◌}
+use mathlib.Core.Bool.{Bool, true, false, ◌&&◌, ◌||◌, and-true, and_assoc}
 use mathlib.Core.List.{List, [], ◌∷◌}
-use lib.Dec.{eqb, eqb-suc-suc}
+use lib.Dec.{eqb, leb, eqb-suc-suc}
 use lib.ListN.{length}
-use borrow.Author.Tests.{eqb-true, eqb-false, eq-eqb, ne_eqb}
+use Rattle.std.specs.List.{list_all, range_with_len}
+use borrow.Author.Tests.{eqb-true, eqb-false, eq-eqb, ne_eqb, le-leb, lt-leb}
 use Rattle.word.proofs.Tests.{and_iff, false_true}
-use Rattle.soundness.specs.Sound.{bit, sum_to, all_to, elem}
+use Rattle.soundness.specs.Sound.{bit, sum_to, all_to, elem, implies}
 use Rattle.soundness.specs.Passes.{count}
 use Rattle.soundness.proofs.Stepping.{Ascends}
 use Rattle.soundness.proofs.Sums.{sum_none, sum_add, sum_one, sum_equal}
@@ -85,6 +86,32 @@ module _ (p : ℕ → Bool) where
   passed_done m n h lo hi =
       let e : m - 1 ≡ n = omega arith in
       sym (rw e at h.all)
+
+-- the same said of the numbers of a range: q below it, and in it p, which is q there
+ranged : (p q : ℕ → Bool) (n a : ℕ) → ((m : ℕ) → a < m → q m ≡ p m) → (all_to a q && list_all p (range_with_len (suc a) n)) ≡ all_to (a + n) q
+unfolding all_to
+ranged p q zero a h =
+    let e : a + 0 ≡ a = omega arith in
+    rw e (and-true (all_to a q))
+ranged p q (suc n) a h =
+    let e : suc a + 1 ≡ suc (suc a) = omega arith in
+    let f : a + suc n ≡ suc a + n = omega arith in
+    rw (e, f, ← ranged p q n (suc a) (λ m l. h m (omega arith)), h (suc a) (omega arith))
+    (sym (and_assoc (all_to a q) (p (suc a)) (list_all p (range_with_len (suc (suc a)) n))))
+
+pub ranged_all : (p : ℕ → Bool) (n : ℕ) → list_all p (range_with_len 1 n) ≡ all_to n p
+unfolding all_to
+ranged_all p n =
+    let e : 0 + n ≡ n = omega arith in
+    rw e at (ranged p p n 0 (λ m l. refl))
+
+pub ranged_from : (p : ℕ → Bool) (next last n : ℕ) → 1 ≤ next → next + n ≡ last + 1 → list_all p (range_with_len next n) ≡ all_to last (λ m. implies (leb next m) (p m))
+ranged_from p next last n lo e =
+    let q : ℕ → Bool = λ m. implies (leb next m) (p m) in
+    let f : suc (next - 1) ≡ next = omega arith in
+    let g : next - 1 + n ≡ last = omega arith in
+    let before : all_to (next - 1) q ≡ true = (passed_before q next (λ i a b. rw (lt-leb next i b))).all in
+    rw (f, g, before) at (ranged p q n (next - 1) (λ m l. rw (le-leb next m (omega arith))))
 
 -- ---- a list
 

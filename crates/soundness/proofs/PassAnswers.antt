@@ -7,14 +7,15 @@ use native.Mathlib.Omega.{arith}
 use mathlib.Core.Path.{◌≡◌, refl, sym, ap, ◌∙◌}
 use mathlib.Core.Bool.{Bool, true, false, not, ◌&&◌, cond, and-false, or-false}
 use mathlib.Core.List.{List, [], ◌∷◌}
-use lib.Dec.{eqb, leb}
+use lib.Dec.{eqb}
 use lib.ListN.{length}
 use borrow.Author.Tests.{le-leb, lt-leb, le-ltb, eq-eqb, ne_eqb, not-true, not-false}
 use mir.Val.{bool_byte}
+use Rattle.std.proofs.lemmas.Option.{none-some, cond_some}
 use Rattle.word.specs.Overwrite.{part}
-use Rattle.layout.specs.Sizes.{mst_most, mfn_most, capacity_of, address_of, end_moved, record_length}
+use Rattle.layout.specs.Sizes.{mst_most, mfn_most, address_of, end_moved, record_length}
 use Rattle.layout.specs.Entry.{place_address}
-use Rattle.files.specs.CrossReference.{slot_free, entry_at}
+use Rattle.files.specs.CrossReference.{entry_at}
 use Rattle.files.specs.Control.{next_of, end_of}
 use Rattle.layout.specs.Leader.{leader_of}
 use Rattle.layout.specs.declared.entry.Mark.TheVariants.{Changed}
@@ -33,12 +34,12 @@ use Rattle.store.specs.declared.answer.Refusal.{Refusal}
 use Rattle.store.specs.declared.answer.Refusal.TheVariants.{BadLength, BadControl, BadDraft, NoMfn, NoSlot, BadEntry, Gone as GoneRefusal, BadRecord, Deleted, NotPending, NeverSettled, NoField, NoRoom, NotSound, FewerFields, NoRoomInList}
 use Rattle.store.specs.declared.gate.Record.{Record}
 use Rattle.store.proofs.Gates.{gate_open, open_end, open_end_in, open_xrf, open_capacity, open_known, open_entry, fine_facts, back_changed}
-use Rattle.soundness.specs.Sound.{bit, sum_to, all_to, elem, implies, rest_free, mfrl_at, step_right, next_step, steps, arrives, is_live, live_count}
+use Rattle.soundness.specs.Sound.{bit, sum_to, elem, mfrl_at, step_right, next_step, steps, arrives, is_live, live_count}
 use Rattle.soundness.specs.Passes.{count, names_of, entry_fine, entries_fine, named_total, tally, tally_of, entry_tally, named_under, step_of, mfn_at, hit, walk_of, Names}
 use Rattle.soundness.specs.declared.passes.Tally.{Tally}
 use Rattle.soundness.proofs.Stepping.{next_up, next_near, steps_more, steps_end, arrives_more, arrives_end}
 use Rattle.soundness.proofs.Sums.{sum_more}
-use Rattle.soundness.proofs.Counting.{Passed, passed_before, passed_none, passed_more, passed_fails, passed_done, bit_le, eqb_sym}
+use Rattle.soundness.proofs.Counting.{Passed, passed_none, passed_more, passed_fails, passed_done, bit_le, eqb_sym}
 use Rattle.soundness.proofs.Deciding.{entry_fine_lem}
 use Rattle.store.proofs.Marks.{mark_other, mark_changed}
 use Rattle.store.specs.Store.{store}
@@ -68,50 +69,6 @@ module _ (mst : List ℕ) (end s : ℕ) (h : end ≡ end_of mst) (l : Leader) (u
       next_on q k a f = rw (f, ← mfrl_is, ← r, not-false t q, le-leb (s + n) (end_of mst) (omega arith))
 
 pub ruleset step_answers = (next_wrong, next_outside, next_on, arith)
-
--- ---- the XRF
-
-module _ (p : ℕ → Bool) (m : ℕ) (t : Bool) (e : t ≡ p m) where
-  pub one_more : 1 ≤ m → Passed p m → not t ≡ false → Passed p (m + 1)
-  one_more lo h q = passed_more p m lo h (sym e ∙ not-false t q)
-
-  pub one_last : (n : ℕ) → 1 ≤ m → m ≤ n → n ≤ m → Passed p m → not t ≡ false → true ≡ all_to n p
-  one_last n lo hi end h q = passed_done p (m + 1) n (one_more lo h q) (omega arith) (omega arith)
-
-  pub one_fails : (n : ℕ) → 1 ≤ m → m ≤ n → not t ≡ true → false ≡ all_to n p
-  one_fails n lo hi q = passed_fails p m n lo hi (sym e ∙ not-true t q)
-
--- the slots before m are 0, of those from NXTMFN on
-pub record FreeBefore (xrf : List ℕ) (next m : ℕ) : Type 0 where
-  pub all : Passed (λ (i : ℕ). implies (leb next i) (slot_free xrf i)) m
-
-module _ (xrf : List ℕ) (next : ℕ) where
-  pub free_none : FreeBefore xrf next next
-  free_none = record { all = passed_before (λ (i : ℕ). implies (leb next i) (slot_free xrf i)) next (λ i lo hi. rw (lt-leb next i hi)) }
-
-  module _ (m : ℕ) (late : next ≤ m) (t : Bool) (e : t ≡ slot_free xrf m) where
-    asked : t ≡ implies (leb next m) (slot_free xrf m)
-    asked = rw (le-leb next m late) e
-
-    pub free_more : 1 ≤ m → FreeBefore xrf next m → not t ≡ false → FreeBefore xrf next (m + 1)
-    free_more lo h q = record { all = one_more (λ (i : ℕ). implies (leb next i) (slot_free xrf i)) m t asked lo h.all q }
-
-    pub free_last : (last : ℕ) → last ≡ capacity_of (length xrf) → 1 ≤ m → m ≤ last → last ≤ m → FreeBefore xrf next m → not t ≡ false → true ≡ rest_free xrf next
-    unfolding rest_free
-    free_last last c lo hi end h q =
-        one_last (λ (i : ℕ). implies (leb next i) (slot_free xrf i)) m t asked (capacity_of (length xrf)) lo (omega arith) (omega arith) h.all q
-
-    pub free_fails : (last : ℕ) → last ≡ capacity_of (length xrf) → 1 ≤ m → m ≤ last → not t ≡ true → false ≡ rest_free xrf next
-    unfolding rest_free
-    free_fails last c lo hi q =
-        one_fails (λ (i : ℕ). implies (leb next i) (slot_free xrf i)) m t asked (capacity_of (length xrf)) lo (omega arith) q
-
-  pub free_done : (m last : ℕ) → FreeBefore xrf next m → last ≡ capacity_of (length xrf) → last < m → m ≤ last + 1 → true ≡ rest_free xrf next
-  unfolding rest_free
-  free_done m last h c lo hi =
-      passed_done (λ (i : ℕ). implies (leb next i) (slot_free xrf i)) m (capacity_of (length xrf)) h.all (omega arith) (omega arith)
-
-pub ruleset free_answers = (free_none, free_more, free_last, free_fails, free_done, arith)
 
 -- ---- behind an open gate
 
@@ -243,14 +200,14 @@ pub record Tallied (mst xrf : List ℕ) (m named live : ℕ) : Type 0 where
 
 -- a tally tells its parts
 pub named_parts : (t : Bool) (n v : ℕ) (x : Tally) → cond t (Some (tally n v)) None ≡ Some x → (t ≡ true) × (n ≡ x.named) × (v ≡ x.live)
-named_parts true n v x e =
-    let q : tally n v ≡ x = cc in
-    (refl, ap (λ (y : Tally). y.named) q, ap (λ (y : Tally). y.live) q)
-named_parts false n v x e = let z : ◌≡◌ {A = ℕ} 0 1 = cc in absurd (omega arith)
+named_parts t n v x e =
+    let q = cond_some t (tally n v) x e in
+    (q.0, ap (λ (y : Tally). y.named) q.1, ap (λ (y : Tally). y.live) q.1)
 
-pub wrong_part : (t : Bool) (n v : ℕ) → cond t (Some (tally n v)) None ≡ None → t ≡ false
-wrong_part true n v e = let z : ◌≡◌ {A = ℕ} 0 1 = cc in absurd (omega arith)
-wrong_part false n v e = refl
+-- and where there is none, the test failed
+pub cond_none : {A : Type 0} (t : Bool) (x : A) → cond t (Some x) None ≡ None → t ≡ false
+cond_none true x e = absurd (none-some x (sym e))
+cond_none false x e = refl
 
 names_few : (mst : List ℕ) (e : Entry) → length (names_of mst e) ≤ 2
 unfolding names_of
@@ -296,8 +253,8 @@ module _ (mst xrf : List ℕ) where
     unfolding tally_of entries_fine entry_tally
     tally_wrong k g h lo hi =
         let n = open_next mst xrf k g in
-        let f = wrong_part (entry_fine mst m (entry_for (store mst xrf) m)) (length (names_of mst (entry_for (store mst xrf) m)))
-        (bit (is_live (entry_for (store mst xrf) m))) (sym e ∙ h) in
+        let f = cond_none (entry_fine mst m (entry_for (store mst xrf) m))
+        (tally (length (names_of mst (entry_for (store mst xrf) m))) (bit (is_live (entry_for (store mst xrf) m)))) (sym e ∙ h) in
         rw (sym (passed_fails (λ (i : ℕ). entry_fine mst i (entry_for (store mst xrf) i)) m (next_of mst - 1) lo (omega arith) f))
 
   pub tally_done : (m named live : ℕ) (k : Control) → gate_of (store mst xrf) ≡ Ok k → Tallied mst xrf m named live → m ≤ k.next.0 → k.next.0 ≤ m
@@ -414,14 +371,6 @@ pub record Walked (mst xrf : List ℕ) (end hits at : ℕ) : Type 0 where
   pub few : hits ≤ at
   pub near : at ≤ end + 12
 
-some_part : (t : Bool) (x y : ℕ) → cond t (Some x) None ≡ Some y → y ≡ x
-some_part true x y e = cc
-some_part false x y e = let z : ◌≡◌ {A = ℕ} 0 1 = cc in absurd (omega arith)
-
-none_part : (t : Bool) (x : ℕ) → cond t (Some x) None ≡ None → t ≡ false
-none_part true x e = let z : ◌≡◌ {A = ℕ} 0 1 = cc in absurd (omega arith)
-none_part false x e = refl
-
 module _ (mst xrf : List ℕ) (end : ℕ) where
   pub walk_none : (k : Control) → gate_of (store mst xrf) ≡ Ok k → k.end ≡ end → Walked mst xrf end 0 64
   walk_none k g q =
@@ -450,7 +399,7 @@ module _ (mst xrf : List ℕ) (end : ℕ) where
       module _ (t : Option ℕ) (e : t ≡ step_of mst at) where
         stepped : (next : ℕ) → t ≡ Some next → next ≡ next_step mst at
         unfolding step_of
-        stepped next h = some_part (step_right mst at) (next_step mst at) next (sym e ∙ h)
+        stepped next h = sym (cond_some (step_right mst at) (next_step mst at) next (sym e ∙ h)).1
 
         pub walk_more : (next r : ℕ) (b : Bool) → t ≡ Some next → r ≡ bool_byte b → b ≡ hit (store mst xrf) at → Walked mst xrf end (hits + r) next
         walk_more next r b h q n = rw (q, byte_bit b, n) (walked_on next (stepped next h))
@@ -462,7 +411,7 @@ module _ (mst xrf : List ℕ) (end : ℕ) where
         pub walk_astray : (named : ℕ) → t ≡ None → false ≡ walk_of (store mst xrf) named
         unfolding walk_of step_of next_step
         walk_astray named h =
-            let q : step_right mst at ≡ false = none_part (step_right mst at) (next_step mst at) (sym e ∙ h) in
+            let q : step_right mst at ≡ false = cond_none (step_right mst at) (next_step mst at) (sym e ∙ h) in
             let past : next_step mst at ≡ end_of mst + 1 = rw q in
             let lost : arrives mst 64 ≡ false =
             w.way ∙ arrives_more mst at room ∙ ap (arrives mst) past ∙ arrives_end mst (end_of mst + 1) (omega arith)

@@ -26,12 +26,8 @@ pub(crate) fn heads_right(xrf: &[u8]) -> bool
     requires { length xrf.now ≤ xrf_most }
     ensures { result ≡ heads_right xrf.now }
 {
-    for k in 1..=xrf.len() / 512 {
-        if !files::cross_reference::head_right(xrf, k) {
-            return false;
-        }
-    }
-    true
+    let n = xrf.len() / 512;
+    (1..n + 1).all(|k| files::cross_reference::head_right(xrf, k))
 }
 
 // Whether every slot from NXTMFN on holds 0.
@@ -39,13 +35,8 @@ pub(crate) fn rest_free(xrf: &[u8], next: Mfn) -> bool
     requires { (1 ≤ next.0) × (next.0 ≤ capacity_of (length xrf.now) + 1) × (length xrf.now ≤ xrf_most) }
     ensures { result ≡ rest_free xrf.now next.0 }
 {
-    let last = layout::sizes::capacity(xrf.len()) as u32;
-    for m in next.0..=last {
-        if !files::cross_reference::slot_free(xrf, Mfn(m)) {
-            return false;
-        }
-    }
-    true
+    let past = layout::sizes::capacity(xrf.len()) as u32 + 1;
+    (next.0..past).all(|m| files::cross_reference::slot_free(xrf, Mfn(m)))
 }
 
 // How many steps a place names: its own, and under the changed mark its back place.

@@ -1,24 +1,18 @@
--- `heads_right`: the first integers of the blocks before k are right.
 use native.Mathlib.Omega.{arith}
+use Prim.Native.Nat.{◌+◌, ◌/◌}
+use mathlib.Core.Path.{◌∙◌}
+use lib.ListN.{length}
+use Rattle.std.proofs.Common.{rules, tests}
+use Rattle.std.proofs.lemmas.Iterator.{YieldsList-from_range}
+use Rattle.std.proofs.lemmas.Iterator.Search.{all_from_yields_List}
+use Rattle.files.specs.CrossReference.{head_right}
 use Rattle.soundness.specs.Sound.{heads_right}
-use Rattle.soundness.proofs.Counting.{passed_none, passed_done}
-use Rattle.soundness.proofs.PassAnswers.{one_more, one_last, one_fails}
+use Rattle.soundness.proofs.Counting.{ranged_all}
 use Rattle.soundness.proofs.passes.heads_right.Goals as goal
-
-pub loop-k-init : goal.loop-k-init
-loop-k-init c = (omega arith, omega arith, passed_none _)
-
-pub returns-then-not-head_right : goal.returns-then-not-head_right
-unfolding heads_right
-returns-then-not-head_right c = search (one_fails, arith)
-
-pub loop-k-preserved : goal.loop-k-preserved
-loop-k-preserved c = search (one_more, arith)
 
 pub returns : goal.returns
 unfolding heads_right
-returns c = search (passed_done, arith)
-
-pub returns-else-not-head_right : goal.returns-else-not-head_right
-unfolding heads_right
-returns-else-not-head_right c = search (one_last, arith)
+returns c =
+    let n = length c.args.xrf.now / 512 in
+    all_from_yields_List (head_right c.args.xrf.now) _ _ _ c.all.ensures.ran (YieldsList-from_range 1 (n + 1) n (cc) (omega arith)) (λ x b q k. search (rules, tests))
+    ∙ ranged_all (head_right c.args.xrf.now) n
