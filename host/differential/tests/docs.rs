@@ -106,6 +106,14 @@ fn begins(line: &str, name: &str) -> bool {
     })
 }
 
+/// Whether a line of a source file begins the methods of a type.
+fn of_kind(line: &str, kind: &str) -> bool {
+    line.starts_with("impl")
+        && line
+            .split(|c: char| !(c.is_alphanumeric() || c == '_'))
+            .any(|word| word == kind)
+}
+
 /// Why a name points nowhere, if it does. A word that is no name of this kind is left alone.
 fn missing(word: &str) -> Option<String> {
     let has = |file: String, found: &dyn Fn(&str) -> bool| match text(Path::new(&file)) {
@@ -141,6 +149,11 @@ fn missing(word: &str) -> Option<String> {
             [krate, module, name] => has(format!("crates/{krate}/src/{module}.rt"), &|line| {
                 begins(line, name)
             }),
+            [krate, module, kind, name] => {
+                let file = format!("crates/{krate}/src/{module}.rt");
+                has(file.clone(), &|line| of_kind(line, kind))
+                    .or_else(|| has(file, &|line| begins(line, name)))
+            }
             [name] if bare(name) && !names().contains(name) => {
                 Some(format!("{word}: no file has this name or names it"))
             }
