@@ -92,7 +92,8 @@ fn unread(c: Cursor) -> Head
     }
 }
 
-// The head of the postings behind a cursor.
+// The head of the postings behind a cursor. It is seldom called: inlined, it takes the registers of the loop around it.
+#[inline(never)]
 fn refill(ifp: &[u8], start: Cursor) -> Head
     requires { InBlock ifp.now start × (stands_right ifp.now start ≡ true) }
     ensures { Headed ifp.now (rest_of ifp.now start) result }
