@@ -4,7 +4,7 @@ ghost use Rattle.std.specs.Prelude.{◌≡◌, true, false, cond, ◌+◌, ◌�
 ghost use Rattle.word.specs.Overwrite.{overwrite};
 ghost use Rattle.postings.specs.Cursor.{InBlock, rest_of, stands_right};
 ghost use Rattle.merging.specs.Merge.{mfns_of, merged};
-ghost use Rattle.merging.specs.Heads.{unread_of, Headed, Reads, behind_of, leading_of, gives_of, writes_from, most_of};
+ghost use Rattle.merging.specs.Heads.{unread_of, Headed, Reads, behind_of, leading_of, gives_of, writes_of, most_of};
 ghost use Rattle.postings.specs.Calls.{given, given_of, given_out};
 ghost use Rattle.merging.specs.Calls.{both_of, mfns_given, mfns_out};
 
@@ -45,16 +45,14 @@ impl Which {
         }
     }
 
-    // How many MFNs a turn gives at least that writes. Of joined lists an MFN is written also where it is not given: then it stands there. A number,
-    // with 2 for none: `put` and whether one is given, asked in each turn, take a merge a tenth longer.
-    #[tactic(auto, unfolding(crate::specs::Heads::writes_from))]
-    fn floor(self, put: bool) -> usize
-        ensures { result ≡ writes_from put (both_of self) }
+    // Whether a turn writes its MFN. Of joined lists it does also where it gives none: then the MFN stands there.
+    #[tactic(auto, unfolding(crate::specs::Heads::writes_of))]
+    fn writes(self, put: bool, given: bool) -> bool
+        ensures { result ≡ writes_of put (both_of self) given }
     {
-        if put {
-            usize::from(self == Which::Common)
-        } else {
-            2
+        match self {
+            Which::Common => put & given,
+            Which::Joined => put,
         }
     }
 
@@ -130,7 +128,6 @@ fn take(ifp: &[u8], a: Cursor, b: Cursor, which: Which, put: bool, out: &mut [u3
     ensures counts { result ≡ length (merged (both_of which) (mfns_of (rest_of ifp.now a)) (mfns_of (rest_of ifp.now b))) }
     ensures writes { out.new ≡ cond put (overwrite out.old 0 (merged (both_of which) (mfns_of (rest_of ifp.now a)) (mfns_of (rest_of ifp.now b)))) out.old }
 {
-    let floor = which.floor(put);
     let mut x = unread(a);
     let mut y = unread(b);
     let mut last: u32 = 16777216;
@@ -155,9 +152,9 @@ fn take(ifp: &[u8], a: Cursor, b: Cursor, which: Which, put: bool, out: &mut [u3
             let behind_x = behind(ifp, x.at, x.end);
             let behind_y = behind(ifp, y.at, y.end);
             let m = p.min(q);
-            let given = usize::from(which.gives(p, q, last, m));
-            i += given;
-            if floor <= given {
+            let given = which.gives(p, q, last, m);
+            i += usize::from(given);
+            if which.writes(put, given) {
                 out[i - 1] = m;
             }
             // A selection by "below" is one step of a processor, one by "below or equal" may be two.
