@@ -15,7 +15,7 @@ x-filled : (c : Joined-y) → Filled c.args.ifp.now c.loop-x.last c.loop-x.x c.i
 x-filled c =
     let s = c.loop-x in
     elim c.if-x.branch [
-      | then-x w ↦ rw w.x-is (filled_read _ s.last s.x s.invariant.x_right s.invariant.x_rises w.if-x.true _ w.refill-r.ensures)
+      | then-x w ↦ rw w.x-is (filled_read _ s.last s.x s.invariant.x_right s.invariant.x_rises w.if-x.true _ w.refill-x.ensures)
       | else-x w ↦ rw w.x-is (filled_none _ s.last s.x s.invariant.x_right s.invariant.x_rises w.if-x.false)
     ]
 
@@ -23,7 +23,7 @@ y-filled : (c : Joined-y) → Filled c.args.ifp.now c.loop-x.last c.loop-x.y c.i
 y-filled c =
     let s = c.loop-x in
     elim c.if-y.branch [
-      | then-y w ↦ rw w.y-is (filled_read _ s.last s.y s.invariant.y_right s.invariant.y_rises w.if-y.true _ w.refill-r-then-y.ensures)
+      | then-y w ↦ rw w.y-is (filled_read _ s.last s.y s.invariant.y_right s.invariant.y_rises w.if-y.true _ w.refill-y.ensures)
       | else-y w ↦ rw w.y-is (filled_none _ s.last s.y s.invariant.y_right s.invariant.y_rises w.if-y.false)
     ]
 
@@ -85,11 +85,11 @@ loop-x-init c =
     let p = c.requires in
     standing_none _ _ _ _ _ p.0 p.1 _ p.3 _ _ c.unread-x.ensures c.unread-y.ensures
 
-pub refill-r-requires : goal.refill-r-requires
-refill-r-requires c = let g = c.loop-x.invariant.x_right in (g.in_block, g.stands)
+pub refill-x-requires : goal.refill-x-requires
+refill-x-requires c = let g = c.loop-x.invariant.x_right in (g.in_block, g.stands)
 
-pub refill-r-requires-then-y : goal.refill-r-requires-then-y
-refill-r-requires-then-y c = let g = c.loop-x.invariant.y_right in (g.in_block, g.stands)
+pub refill-y-requires : goal.refill-y-requires
+refill-y-requires c = let g = c.loop-x.invariant.y_right in (g.in_block, g.stands)
 
 pub shape_of-out-then-leading-ge16777216 : goal.shape_of-out-then-leading-ge16777216
 shape_of-out-then-leading-ge16777216 c = took_length _ _ _ _ _ _ c.loop-x.invariant.took
