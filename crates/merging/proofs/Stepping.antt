@@ -13,7 +13,7 @@ use Rattle.std.specs.Int.{from_bool}
 use Rattle.postings.specs.Cursor.{rest_of}
 use Rattle.postings.specs.declared.cursor.Cursor.{Cursor}
 use Rattle.merging.specs.Merge.{mfns_of, common, joined, merged}
-use Rattle.merging.specs.Heads.{rest_head, head_after, head_size, unread_of, HeadRight, lowest, Rises, Reads, bit, leading_of, gives_of, writes_from}
+use Rattle.merging.specs.Heads.{rest_head, head_after, head_size, unread_of, HeadRight, lowest, Rises, Reads, bit, leading_of, gives_of, writes_of}
 use Rattle.merging.specs.declared.merge.Head.{Head}
 use Rattle.merging.proofs.Taking.{Took, took_none, took_same}
 use Rattle.merging.proofs.Writing.{Held, before, Giving, bit_small, write_first, write_index, took_written, held_written, took_unwritten, held_unwritten}
@@ -173,32 +173,29 @@ module _ (f : List ℕ) (both put : Bool) (x₀ y₀ : Head) (l₀ : ℕ) (out�
     pub turn_count : (w d : List ℕ) → Took put w (items both f l₀ x₀ y₀) d out₀ i₀ → i + n ≤ length w + 1
     turn_count w d k = rw q (omega (arith, (t.took w d k).count, bit_small (gives_of both x.mfn y.mfn l m)))
 
-    module _ (fl : ℕ) (z : fl ≡ writes_from put both) where
-      floor_le : fl ≤ n → writes_from put both ≤ bit (gives_of both x.mfn y.mfn l m)
-      floor_le h = rw (← z, ← q) h
-
-      floor_lt : n < fl → bit (gives_of both x.mfn y.mfn l m) < writes_from put both
-      floor_lt h = rw (← z, ← q) h
+    module _ (wr : Bool) (z : wr ≡ writes_of put both gv) where
+      asked : (a : Bool) → wr ≡ a → writes_of put both (gives_of both x.mfn y.mfn l m) ≡ a
+      asked a h = ap (writes_of put both) (sym given) ∙ sym z ∙ h
 
       module _ (w d : List ℕ) (k : Took put w (items both f l₀ x₀ y₀) d out₀ i₀) where
-        pub turn_first : fl ≤ n → 1 ≤ i + n
-        turn_first h = rw q (write_first w (items both f m x y) d out i l m put both _ (giving w d k) (floor_le h))
+        pub turn_first : wr ≡ true → 1 ≤ i + n
+        turn_first h = rw q (write_first w (items both f m x y) d out i l m put both _ (giving w d k) (asked _ h))
 
-        pub turn_index : fl ≤ n → i + n - 1 < length out
-        turn_index h = rw q (write_index w (items both f m x y) d out i l m put both _ (giving w d k) (floor_le h))
+        pub turn_index : wr ≡ true → i + n - 1 < length out
+        turn_index h = rw q (write_index w (items both f m x y) d out i l m put both _ (giving w d k) (asked _ h))
 
       module _ (x' y' : Head) (p : Passed f m x x') (r : Passed f m y y') where
         items_passed : items both f m x' y' ≡ items both f m x y
         items_passed = rw (p.after, r.after)
 
-        took_next : fl ≤ n → (w d : List ℕ) → Took put w (items both f l₀ x₀ y₀) d out₀ i₀
+        took_next : wr ≡ true → (w d : List ℕ) → Took put w (items both f l₀ x₀ y₀) d out₀ i₀
             → Took put w (items both f m x' y') d (set out (i + n - 1) m) (i + n)
         took_next h w d k =
-            rw (items_passed, q) (took_written w (items both f m x y) d out i l m put both _ (giving w d k) (floor_le h))
+            rw (items_passed, q) (took_written w (items both f m x y) d out i l m put both _ (giving w d k) (asked _ h))
 
-        took_over : n < fl → (w d : List ℕ) → Took put w (items both f l₀ x₀ y₀) d out₀ i₀ → Took put w (items both f m x' y') d out (i + n)
+        took_over : wr ≡ false → (w d : List ℕ) → Took put w (items both f l₀ x₀ y₀) d out₀ i₀ → Took put w (items both f m x' y') d out (i + n)
         took_over h w d k =
-            rw (items_passed, q) (took_unwritten w (items both f m x y) d out i l m put both _ (giving w d k) (floor_lt h))
+            rw (items_passed, q) (took_unwritten w (items both f m x y) d out i l m put both _ (giving w d k) (asked _ h))
 
         pub turn_less : head_size f x' + head_size f y' < head_size f x + head_size f y
         turn_less =
@@ -214,17 +211,17 @@ module _ (f : List ℕ) (both put : Bool) (x₀ y₀ : Head) (l₀ : ℕ) (out�
             (λ h. omega (arith, r.read (omega arith) u))
             (lt_or_ge x.mfn y.mfn)
 
-        pub wrote : (w d : List ℕ) → Took put w (items both f l₀ x₀ y₀) d out₀ i₀ → fl ≤ n
+        pub wrote : (w d : List ℕ) → Took put w (items both f l₀ x₀ y₀) d out₀ i₀ → wr ≡ true
             → Wrote f both put x₀ y₀ l₀ out₀ i₀ (set out (i + n - 1) m) x' y' m (i + n)
         wrote w d k h =
             record {
               took = took_next h;
-              held = rw q (held_written w (items both f m x y) d out i l m put both _ (giving w d k) (floor_le h));
+              held = rw q (held_written w (items both f m x y) d out i l m put both _ (giving w d k) (asked _ h));
             }
 
-        pub wrote_none : n < fl → Wrote f both put x₀ y₀ l₀ out₀ i₀ out x' y' m (i + n)
+        pub wrote_none : wr ≡ false → Wrote f both put x₀ y₀ l₀ out₀ i₀ out x' y' m (i + n)
         wrote_none h =
-            record { took = took_over h; held = rw q (held_unwritten [] [] [] out i l m put both (gives_of both x.mfn y.mfn l m) (floor_lt h)) }
+            record { took = took_over h; held = rw q (held_unwritten [] [] [] out i l m put both (gives_of both x.mfn y.mfn l m) (asked _ h)) }
 
         pub turn_less_all : head_size f x' + head_size f y' < head_size f x₀ + head_size f y₀
         turn_less_all = omega (arith, turn_less, t.size)

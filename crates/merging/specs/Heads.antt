@@ -87,9 +87,9 @@ leading_of both a b = cond both (max a b) (min a b)
 unfoldable pub gives_of : Bool → ℕ → ℕ → ℕ → ℕ → Bool
 gives_of both a b l m = not (eqb m l) && cond both (eqb a b) true
 
--- how many MFNs a turn gives at least that writes
-unfoldable pub writes_from : Bool → Bool → ℕ
-writes_from put both = cond put (bit both) 2
+-- whether a turn writes its MFN, where it gives that or not: of either list it does also where it gives none
+unfoldable pub writes_of : Bool → Bool → Bool → Bool
+writes_of put both gives = cond both (put && gives) put
 
 -- the most MFNs of two lists of so many postings
 unfoldable pub most_of : Bool → ℕ → ℕ → ℕ
