@@ -1,7 +1,7 @@
 -- The walk over a record's fields. A walk hands out the record's fields, in directory order, and no more; what stands at an index is the
 -- field of that number, or nothing; and it lies in the record. Then the laws that the steps' own proofs are made of.
 use Prim.Native.Nat.{ℕ, zero, suc, ◌+◌, ◌*◌, ◌-◌, ◌<◌, ◌≤◌}
-use native.Mathlib.Nat.{add-zero, zero-add, le_refl}
+use native.Mathlib.Nat.{add-zero, sub-zero, zero-add, le_refl}
 use native.Mathlib.Numerals.{add-one}
 use native.Mathlib.Omega.{arith}
 use mathlib.Core.Path.{◌≡◌, refl, ap, ◌∙◌}
@@ -168,6 +168,9 @@ pub left_is : (rec : List ℕ) (k : ℕ) → spots_from rec k 0 ≡ spots_before
 unfolding spots_from spots_before
 left_is rec zero = refl
 left_is rec (suc k) = rw (left_more rec k 0, left_is rec k, zero-add k)
+
+pub walk_new : (rec : List ℕ) (n : ℕ) → n ≡ (leader_of rec).nvf → spots_from rec (n - 0) 0 ≡ spots_of rec
+walk_new rec n e = rw (sub-zero n, e, left_is)
 
 -- numbered from n on, the one at j is that of index i + j
 numbered_at : (rec : List ℕ) (k n i j : ℕ) (d : ℕ × Spot) → j < k → get_or (enumerate_from n (spots_from rec k i)) j d ≡ (n + j, spot_at rec (i + j))
