@@ -9,7 +9,7 @@ use mathlib.Core.Bool.{Bool, true, false, not, ◌&&◌, cond, and-false, or-fal
 use mathlib.Core.List.{List, [], ◌∷◌}
 use lib.Dec.{eqb}
 use lib.ListN.{length}
-use borrow.Author.Tests.{le-leb, lt-leb, le-ltb, eq-eqb, ne_eqb, not-true, not-false}
+use borrow.Author.Tests.{le-leb, lt-leb, le-ltb, eq-eqb, ne_eqb, not-true}
 use mir.Val.{bool_byte}
 use Rattle.std.proofs.lemmas.Option.{none-some, cond_some}
 use Rattle.word.specs.Overwrite.{part}
@@ -64,9 +64,9 @@ module _ (mst : List ℕ) (end s : ℕ) (h : end ≡ end_of mst) (l : Leader) (u
       unfolding step_of step_right
       next_outside q = rw (← mfrl_is, lt-leb (s + n) (end_of mst) (omega arith), and-false)
 
-      pub next_on : not t ≡ false → s + n ≤ end → (a : ℕ) → a ≡ end_moved (s + n) → Some a ≡ step_of mst s
+      pub next_on : t ≡ true → s + n ≤ end → (a : ℕ) → a ≡ end_moved (s + n) → Some a ≡ step_of mst s
       unfolding step_of next_step step_right
-      next_on q k a f = rw (f, ← mfrl_is, ← r, not-false t q, le-leb (s + n) (end_of mst) (omega arith))
+      next_on q k a f = rw (f, ← mfrl_is, ← r, q, le-leb (s + n) (end_of mst) (omega arith))
 
 pub ruleset step_answers = (next_wrong, next_outside, next_on, arith)
 

@@ -10,6 +10,7 @@ use store::answer::Refusal;
 use store::gate::OpenStore;
 
 // How many entries are live, where the store is sound apart from RECCNT.
+#[tactic(auto, using(crate::proofs::CheckAnswers::body_answers))]
 fn sound_apart(opened: &OpenStore) -> Option<u32>
     ensures { result ≡ apart_of (store opened.now.mst.now opened.now.xrf.now) }
 {
@@ -26,6 +27,7 @@ fn sound_apart(opened: &OpenStore) -> Option<u32>
 }
 
 // What the check and the recount ask alike, 1, 2, and 14 apart from RECCNT: how many entries are live.
+#[tactic(auto, using(crate::proofs::CheckAnswers::counted_answers))]
 fn count_live(mst: &[u8], xrf: &[u8]) -> Result<u32, Refusal>
     ensures { result ≡ counted_of (store mst.now xrf.now) }
 {
@@ -34,6 +36,7 @@ fn count_live(mst: &[u8], xrf: &[u8]) -> Result<u32, Refusal>
 }
 
 // 1, 2, 14 or 0: passes exactly the sound stores.
+#[tactic(auto, using(crate::proofs::CheckAnswers::check_answers))]
 pub fn check(mst: &[u8], xrf: &[u8]) -> Result<(), Refusal>
     ensures { result ≡ check_answer (store mst.now xrf.now) }
 {

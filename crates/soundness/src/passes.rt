@@ -47,6 +47,7 @@ fn named_under(mark: Mark) -> u32
 }
 
 // The tally of one entry, where it is right: of those with no record only 7, physically deleted.
+#[tactic(auto, using(crate::proofs::PassAnswers::tally_answers))]
 fn tally_entry(opened: &OpenStore, m: Mfn) -> Option<Tally>
     requires { (1 ≤ m.0) × (m.0 < opened.now.control.next.0) }
     ensures { result ≡ entry_tally opened.now.mst.now m.0 (entry_for (store opened.now.mst.now opened.now.xrf.now) m.0) }
@@ -76,6 +77,7 @@ pub(crate) fn tally_entries(opened: &OpenStore) -> Option<Tally>
 }
 
 // Whether the place `p`, or its back place, is the step `s`.
+#[tactic(auto, using(crate::proofs::PassAnswers::hit_answers))]
 fn place_hit(mst: &[u8], end: usize, p: Place, s: usize) -> bool
     requires { Names mst.now end p }
     ensures { result ≡ elem s (names_of mst.now (At p)) }

@@ -5,6 +5,7 @@ ghost use Rattle.files.specs.Control.{end_of};
 ghost use Rattle.soundness.specs.Passes.{step_of};
 
 // The step after `s`, where MFRL is right.
+#[tactic(auto, using(crate::proofs::PassAnswers::step_answers))]
 pub(crate) fn next_step(mst: &[u8], end: usize, s: usize) -> Option<usize>
     requires { (s + 18 ≤ end) × (end ≡ end_of mst.now) × (end ≤ length mst.now) × (length mst.now ≤ mst_most) }
     ensures { result ≡ step_of mst.now s }

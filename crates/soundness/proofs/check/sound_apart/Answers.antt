@@ -2,12 +2,6 @@ use Rattle.soundness.proofs.CheckAnswers.{body_answers}
 use Rattle.soundness.proofs.check.sound_apart.Goals.{then-not-heads_right-via-then-not-heads_right, then-not-heads_right-via-else-not-heads_right+then-not-rest_free}
 use Rattle.soundness.proofs.check.sound_apart.Goals as goal
 
-pub heads_right-requires : goal.heads_right-requires
-heads_right-requires c = search body_answers
-
-pub rest_free-requires : goal.rest_free-requires
-rest_free-requires c = search body_answers
-
 pub returns-then-not-heads_right : goal.returns-then-not-heads_right
 returns-then-not-heads_right c =
     elim c.then-not-heads_right.branch [
@@ -15,14 +9,5 @@ returns-then-not-heads_right c =
       | then-not-heads_right-via-else-not-heads_right+then-not-rest_free w ↦ search body_answers
     ]
 
-pub returns-in_err-named : goal.returns-in_err-named
-returns-in_err-named c = rw c.from_residual.ensures (search (body_answers, c.in_err-named.was))
-
-pub walk_steps-requires : goal.walk_steps-requires
-walk_steps-requires c = search (body_answers, c.in_ok-named.was)
-
 pub returns-then-not-walk_steps : goal.returns-then-not-walk_steps
 returns-then-not-walk_steps c = search (body_answers, c.in_ok-named.was)
-
-pub returns : goal.returns
-returns c = search (body_answers, c.in_ok-named.was)

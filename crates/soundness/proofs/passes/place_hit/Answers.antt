@@ -1,11 +1,7 @@
-use Rattle.soundness.proofs.PassAnswers.{hit_answers}
+use Rattle.store.proofs.Marks.{mark_changed}
+use Rattle.soundness.proofs.PassAnswers.{hit_back}
 use Rattle.soundness.proofs.passes.place_hit.Goals as goal
 
-pub returns-then-at-s : goal.returns-then-at-s
-returns-then-at-s c = search hit_answers
-
-pub returns-then-ne : goal.returns-then-ne
-returns-then-ne c = search hit_answers
-
 pub returns : goal.returns
-returns c = search hit_answers
+returns c =
+    hit_back _ _ _ _ c.place_address-at.ensures c.if-at-s.false _ c.requires (mark_changed _ _ c.ne.ensures c.if-ne.false) _ c.read_leader-l.ensures _ c.address.ensures
