@@ -1,6 +1,7 @@
 -- From the store's own run to the ledger's words: what a run reports from a sound store, and after a format that is done, is what the ledger
 -- answers, by demand 3.
-use Rattle.std.specs.Prelude.{Ok}
+use Rattle.std.specs.Prelude.{Ok, Err}
+use Rattle.std.specs.Result.{is_err}
 use Prim.Native.Nat.{ℕ}
 use native.Mathlib.Omega.{arith}
 use mathlib.Core.Path.{◌≡◌, refl, sym, ◌∙◌}
@@ -11,8 +12,7 @@ use Rattle.store.specs.Reading.{lengths_permitted}
 use Rattle.writing.specs.Refusals.{format_answer}
 use Rattle.writing.specs.Calls.{format_leaves}
 use Rattle.store.specs.Answer.{Answer}
-use Rattle.writing.proofs.Plans.{not_done}
-use Rattle.store.proofs.Gates.{Refusing, refusing_not_done}
+use Rattle.store.proofs.Gates.{Refusing, refusing, refusing_not_done}
 use Rattle.store.specs.Store.{Store, store}
 use Rattle.ledger.specs.Call.{format, Outcome}
 use Rattle.ledger.specs.StoreRun.{next_s, after_s, result_s}
@@ -42,6 +42,15 @@ runs {s} {p = p} {r = r} f =
 
 -- ---- a replay, from the buffers that format left
 
+-- the code asks whether format is refused
+done_where : (a : Answer) → is_err a ≡ false → a ≡ Ok tt
+done_where (Ok tt) e = refl
+done_where (Err r) e = absurd (false_true (sym e))
+
+refusing_where : (a : Answer) → is_err a ≡ true → Refusing a
+refusing_where (Ok tt) e = absurd (false_true e)
+refusing_where (Err r) e = refusing r
+
 module _ (mst xrf mst₁ xrf₁ : List ℕ) (a : Answer) (ea : a ≡ format_answer (store mst xrf)) (el : store mst₁ xrf₁ ≡ format_leaves (store mst xrf)) where
   formatted_is : store mst₁ xrf₁ ≡ next_s (store mst xrf) format
   unfolding next_s result_s
@@ -64,9 +73,10 @@ module _ (mst xrf mst₁ xrf₁ : List ℕ) (a : Answer) (ea : a ≡ format_answ
       go false k = k
 
   -- it is done, and the list is run
-  pub replay_ran : (answers shown : List ℕ) (p : Script) (r : Replayed) (mst' xrf' answers' shown' : List ℕ) → a ≡ Ok tt
+  pub replay_ran : (b : Bool) (answers shown : List ℕ) (p : Script) (r : Replayed) (mst' xrf' answers' shown' : List ℕ) → b ≡ is_err a → b ≡ false
       → Runs (store mst₁ xrf₁) p answers shown r (store mst' xrf') answers' shown' → Replays (store mst xrf) p answers shown r (store mst' xrf') answers' shown'
-  replay_ran answers shown p r mst' xrf' answers' shown' d f =
+  replay_ran b answers shown p r mst' xrf' answers' shown' e n f =
+      let d : a ≡ Ok tt = done_where a (sym e ∙ n) in
       let g : Runs (next_s (store mst xrf) format) p answers shown r (store mst' xrf') answers' shown' = rw (← formatted_is) f in
       record {
         refused = λ n. absurd (false_true (sym n ∙ done_permitted d));
@@ -76,12 +86,11 @@ module _ (mst xrf mst₁ xrf₁ : List ℕ) (a : Answer) (ea : a ≡ format_answ
       }
 
   -- it is refused, and nothing is run
-  pub replay_refused : (answers shown : List ℕ) (p : Script)
-      → (a ≡ Ok tt → ⊥)
+  pub replay_refused : (b : Bool) (answers shown : List ℕ) (p : Script) → b ≡ is_err a → b ≡ true
       → Replays (store mst xrf) p answers shown (record { stop = BadLength; calls = 0 }) (store mst₁ xrf₁) answers shown
   unfolding after_s
-  replay_refused answers shown p v =
-      let h : lengths_permitted (store mst xrf) ≡ false = refusing_permitted (not_done a v) in
+  replay_refused b answers shown p e v =
+      let h : lengths_permitted (store mst xrf) ≡ false = refusing_permitted (refusing_where a (sym e ∙ v)) in
       record {
         refused = λ n. record { stop = refl; calls = refl; numbers = refl; fields = refl };
         ledger = λ k. absurd (false_true (sym h ∙ k));

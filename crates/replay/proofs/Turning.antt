@@ -1,15 +1,14 @@
 -- What the functions of one turn promise, one law for each way that they return: its premises are what is known there, the callees' promises and
 -- the tests on the way. In the order of the code, from the inside: what a call answers and leaves (`Wrote`), that it is reported where there is
 -- room (`Ran`), and that it is the first call of what is left (`Turned`).
-use Rattle.std.specs.Prelude.{Ok, Err}
 use Prim.Native.Nat.{ℕ, ◌+◌, ◌*◌, ◌-◌, ◌≤◌, ◌<◌}
 use native.Mathlib.Nat.{add-sub_cancel_left}
 use native.Mathlib.Omega.{arith}
-use mathlib.Core.Logic.{⊎_elim}
 use mathlib.Core.Path.{◌≡◌, refl, sym, ap, ◌∙◌}
-use mathlib.Core.Bool.{Bool, true, false}
-use Rattle.std.specs.Prelude.{Option, Some, None, Result, Ok, Err, MatchResult}
+use mathlib.Core.Bool.{Bool, true, false, not}
+use Rattle.std.specs.Prelude.{Option, Some, None, Result, Ok, Err, IfOk, MatchResult}
 use Rattle.std.specs.Option.{ok_or}
+use Rattle.std.specs.Result.{ResultUnwrapsOrElse}
 use Rattle.std.proofs.lemmas.Bool.{eqb-true}
 use Rattle.std.proofs.lemmas.List.{take_all, get_or-take}
 use Rattle.word.proofs.Tests.{false_true}
@@ -22,34 +21,33 @@ use Rattle.word.specs.Overwrite.{overwrite, part}
 use Rattle.word.proofs.Overwrite.{part_length, overwrite_none}
 use Rattle.script.proofs.Numbers.{before_part}
 use borrow.Rule.Slice.PartMut.{mid_of, put_mid}
-use Rattle.store.specs.Answer.{number_of, after, Answer}
-use Rattle.store.specs.Reading.{lengths_permitted}
-use Rattle.views.specs.Views.{view_answer, settled_view_answer, found_length, shown_at, view_of, settled_view_of}
-use Rattle.store.specs.declared.answer.Refusal.TheVariants.{BadLength, NoRoomInList}
+use Rattle.store.specs.Answer.{refusal_number, number_of, after, refuse, lowest, Answer}
+use Rattle.store.specs.Reading.{lengths_permitted, control_fine}
+use Rattle.views.specs.Views.{Shown, shown, occurrences_told, view_answer, settled_view_answer, shown_at, view_of, settled_view_of}
+use Rattle.record.specs.declared.fields.Span.{Span}
+use Rattle.store.specs.declared.answer.Refusal.{Refusal}
+use Rattle.store.specs.declared.answer.Refusal.TheVariants.{BadLength, BadControl, NotSound, NoRoomInList}
 use Rattle.drafts.specs.Draft.{Draft, draft}
 use Rattle.writing.specs.Refusals.{format_answer, update_answer, delete_answer, settle_answer, revert_answer}
-use Rattle.writing.specs.Calls.{format_leaves, create_of, create_leaves, update_leaves, delete_leaves, settle_leaves, revert_leaves}
-use Rattle.writing.specs.declared.create.Created.{Created}
-use Rattle.views.specs.declared.views.Shown.{Shown}
-use Rattle.store.proofs.Gates.{Refusing, after_cases, holds, lengths_facts}
+use Rattle.writing.specs.Calls.{created, format_leaves, create_of, create_leaves, update_leaves, delete_leaves, settle_leaves, revert_leaves}
+use Rattle.store.proofs.Gates.{Refusing, holds, lengths_facts}
 use Rattle.layout.specs.Sizes.{mst_most}
 use Rattle.layout.specs.declared.sizes.Mfn.{Mfn}
 use Rattle.layout.specs.declared.sizes.Tag.{Tag}
-use Rattle.record.specs.Fields.{find_of}
-use Rattle.soundness.specs.Sound.{check_answer}
+use Rattle.soundness.specs.Sound.{body_sound, check_answer}
 use Rattle.migrating.specs.Migrate.{migrate_answer, migrate_leaves}
 use Rattle.soundness.specs.Recount.{recount_answer, recount_leaves}
 use Rattle.settling.specs.SettleList.{settle_each_answers, lists_right, settle_list_answer, settle_list_leaves, settle_list_tells}
 use Rattle.settling.proofs.Folding.{answers_count, lists_same, lists_short, lists_fine}
 use Rattle.store.specs.Store.{Store, store}
-use Rattle.ledger.specs.Call.{Call, Outcome, listed}
-use Rattle.ledger.specs.StoreRun.{shown_outcome, answer_s, next_s, result_s}
+use Rattle.ledger.specs.Call.{Call, Outcome, plain, listed}
+use Rattle.ledger.specs.StoreRun.{shown_outcome, created_outcome, answer_s, next_s, result_s}
 use Rattle.script.specs.Ops.{call_size, mfns_of, no_draft, counts, taken_by, op_in}
 use Rattle.replay.specs.Calls.{Script, script, reading_call, writing_call, call_of, left_of, first_op}
 use Rattle.script.specs.Report.{outcome_size}
 use Rattle.replay.specs.Replay.{numbers_of, stop_at}
 use Rattle.script.specs.Cursor.{left_at, moved, DraftWithin, Within}
-use Rattle.replay.specs.Turns.{writing_at, settling_at, script_at, IsFirst, IsOver, without_mfn, Wrote, ListFits, ListReported, room_at, Ran, Turned}
+use Rattle.replay.specs.Turns.{writing_at, settling_at, script_at, IsFirst, IsOver, without_mfn, written, shown_numbers, created_numbers, Wrote, ListFits, ListReported, room_at, Ran, Turned}
 use Rattle.script.specs.declared.calls.Counts.{Counts}
 use Rattle.script.specs.declared.calls.Reading.{Reading}
 use Rattle.script.specs.declared.calls.Reading.TheVariants.{View, Settled, Check}
@@ -65,90 +63,120 @@ use Rattle.replay.proofs.Decoding.{first_fits, too_short, long_enough}
 
 -- ---- calls that read
 
-module _ (mst xrf : List ℕ) (r : Reading) (sh : Shown) where
-  pub view_asked : (m : Mfn) (tag : Tag) (occ : ℕ) → r ≡ View m tag occ → sh ≡ view_of (store mst xrf) m.0 tag.0 occ
-      → shown_outcome mst sh ≡ answer_s (store mst xrf) (reading_call r)
+module _ (mst xrf : List ℕ) (r : Reading) (found : Result Span Refusal) where
+  pub view_asked : (m : Mfn) (tag : Tag) (occ : ℕ) → r ≡ View m tag occ → shown found ≡ view_of (store mst xrf) m.0 tag.0 occ
+      → shown_outcome mst (shown found) ≡ answer_s (store mst xrf) (reading_call r)
   unfolding answer_s result_s
   view_asked m tag occ e f = rw (e, f)
 
-  pub settled_asked : (m : Mfn) (tag : Tag) (occ : ℕ) → r ≡ Settled m tag occ → sh ≡ settled_view_of (store mst xrf) m.0 tag.0 occ
-      → shown_outcome mst sh ≡ answer_s (store mst xrf) (reading_call r)
+  pub settled_asked : (m : Mfn) (tag : Tag) (occ : ℕ) → r ≡ Settled m tag occ → shown found ≡ settled_view_of (store mst xrf) m.0 tag.0 occ
+      → shown_outcome mst (shown found) ≡ answer_s (store mst xrf) (reading_call r)
   unfolding answer_s result_s
   settled_asked m tag occ e f = rw (e, f)
 
-pub check_asked : (mst xrf : List ℕ) (r : Reading) (a : Answer) → r ≡ Check → a ≡ check_answer (store mst xrf)
-    → shown_outcome mst (record { answer = a; start = 0; len = 0; occurrences = 0 }) ≡ answer_s (store mst xrf) (reading_call r)
+-- the number that an answer tells
+abbrev told_of : Answer → ℕ
+told_of (Ok tt) = 0
+told_of (Err r) = occurrences_told r
+
+-- a check tells none: it is never refused since a tag occurs too few times
+untold : (s : Store) (r : Refusal) → Err r ≡ check_answer s → occurrences_told r ≡ 0
+unfolding check_answer
+untold s r e = go (lengths_permitted s) (control_fine s) (body_sound s) e
+  where
+    go : (x y z : Bool) → Err r ≡ lowest (refuse BadLength (not x) ∷ refuse BadControl (not y) ∷ refuse NotSound (not z) ∷ []) → occurrences_told r ≡ 0
+    go false y z e = ap told_of e
+    go true false z e = ap told_of e
+    go true true false e = ap told_of e
+    go true true true e = ap told_of e
+
+pub check_passed : (mst xrf : List ℕ) (r : Reading) (a : Answer) (s : Span) → r ≡ Check → a ≡ check_answer (store mst xrf) → a ≡ Ok tt → s.start ≡ 0 → s.len ≡ 0
+    → shown_outcome mst (shown (Ok s)) ≡ answer_s (store mst xrf) (reading_call r)
 unfolding answer_s result_s
-check_asked mst xrf r a e f = rw (e, f)
+check_passed mst xrf r a s e f g x y = rw (e, ← f, g, x, y)
 
-pub ruleset asked_answers = (view_asked, settled_asked, check_asked)
+pub check_refused : (mst xrf : List ℕ) (r : Reading) (a : Answer) (x : Refusal) → r ≡ Check → a ≡ check_answer (store mst xrf) → a ≡ Err x
+    → shown_outcome mst (shown (Err x)) ≡ answer_s (store mst xrf) (reading_call r)
+unfolding answer_s result_s
+check_refused mst xrf r a x e f g = let u : occurrences_told x ≡ 0 = untold (store mst xrf) x (sym g ∙ f) in rw (e, ← f, g, u)
 
--- a view that is done read a MST of permitted length; one that is refused shows nothing: either way what is shown has a length of 32 bits
+pub ruleset asked_answers = (view_asked, settled_asked, check_passed, check_refused)
+
+-- a view that is done read a MST of permitted length: what is shown has a length of 32 bits
 no_length : Refusing (Err BadLength)
 unfolding number_of
 no_length z = omega arith
 
-module _ (mst xrf : List ℕ) (sh : Shown) where
-  short : (a : Answer) (at : ℕ) (rec : List ℕ) (tag occ : ℕ) → sh ≡ shown_at a at rec tag occ → (a ≡ Ok tt → lengths_permitted (store mst xrf) ≡ true) → sh.start + sh.len ≤ length mst
-      → sh.len ≤ mst_most
+module _ (mst xrf : List ℕ) where
+  short : (a : Answer) (at : ℕ) (rec : List ℕ) (tag occ : ℕ) (s : Span) → shown (Ok s) ≡ shown_at a at rec tag occ → (a ≡ Ok tt → lengths_permitted (store mst xrf) ≡ true) → s.start + s.len ≤ length mst
+      → s.len ≤ mst_most
   unfolding shown_at
-  short a at rec tag occ e permitted within =
-      ⊎_elim
-      (λ d. let l = (lengths_facts mst xrf (permitted d.0)).mst_high in omega arith)
-      (λ n. let z : sh.len ≡ 0 = rw e n.1 in omega arith)
-      (after_cases a (found_length (find_of rec tag occ)) 0)
+  short a at rec tag occ s e permitted within = let d : a ≡ Ok tt = sym (ap (λ (x : Shown). x.answer) e) in let l = (lengths_facts mst xrf (permitted d)).mst_high in omega arith
 
-  pub view_short : (m tag occ : ℕ) → sh ≡ view_of (store mst xrf) m tag occ → sh.start + sh.len ≤ length mst → sh.len ≤ mst_most
+  pub view_short : (m tag occ : ℕ) (found : Result Span Refusal) → shown found ≡ view_of (store mst xrf) m tag occ → IfOk found (λ s. s.start + s.len ≤ length mst)
+      → IfOk found (λ s. s.len ≤ mst_most)
   unfolding view_of view_answer
-  view_short m tag occ e w = short (view_answer (store mst xrf) m tag occ) _ _ tag occ e (λ d. (holds (lengths_permitted (store mst xrf)) (Err BadLength) _ no_length d).0) w
+  view_short m tag occ (Ok s) e w = short (view_answer (store mst xrf) m tag occ) _ _ tag occ s e (λ d. (holds (lengths_permitted (store mst xrf)) (Err BadLength) _ no_length d).0) w
+  view_short m tag occ (Err r) e w = tt
 
-  pub settled_short : (m tag occ : ℕ) → sh ≡ settled_view_of (store mst xrf) m tag occ → sh.start + sh.len ≤ length mst → sh.len ≤ mst_most
+  pub settled_short : (m tag occ : ℕ) (found : Result Span Refusal) → shown found ≡ settled_view_of (store mst xrf) m tag occ → IfOk found (λ s. s.start + s.len ≤ length mst)
+      → IfOk found (λ s. s.len ≤ mst_most)
   unfolding settled_view_of settled_view_answer
-  settled_short m tag occ e w = short (settled_view_answer (store mst xrf) m tag occ) _ _ tag occ e (λ d. (holds (lengths_permitted (store mst xrf)) (Err BadLength) _ no_length d).0) w
+  settled_short m tag occ (Ok s) e w = short (settled_view_answer (store mst xrf) m tag occ) _ _ tag occ s e (λ d. (holds (lengths_permitted (store mst xrf)) (Err BadLength) _ no_length d).0) w
+  settled_short m tag occ (Err r) e w = tt
 
 pub ruleset short_answers = (view_short, settled_short)
 
 -- ---- calls that may write
 
 -- one law for each kind of call: its premises are the promises of the function that it is run by
-module _ (s s' : Store) (d : Draft) (w : Writing) (r : Created) where
-  pub create_writes : w ≡ Create → r ≡ create_of s d → s' ≡ create_leaves s d → Wrote s (writing_call d w) r s'
+module _ (s s' : Store) (d : Draft) (w : Writing) where
+  pub create_writes : (m : Mfn) → w ≡ Create → created (Ok m) ≡ create_of s d → s' ≡ create_leaves s d → Wrote s (writing_call d w) (written (Ok (Some m))) s'
   unfolding writing_call answer_s next_s result_s
-  create_writes k e f = record { outcome = rw (k, e); left = rw (k, f) }
+  create_writes m k e f = record { outcome = rw (k, ← e); left = rw (k, f) }
 
-  module _ (a : Answer) (i : r ≡ without_mfn a) where
-    pub format_writes : w ≡ Format → a ≡ format_answer s → s' ≡ format_leaves s → Wrote s (writing_call d w) r s'
+  pub create_refused : (q : Refusal) → w ≡ Create → created (Err q) ≡ create_of s d → s' ≡ create_leaves s d → Wrote s (writing_call d w) (written (Err q)) s'
+  unfolding writing_call answer_s next_s result_s
+  create_refused q k e f = record { outcome = rw (k, ← e); left = rw (k, f) }
+
+  -- with no MFN, the answer alone
+  plain_outcome : (a : Answer) → created_outcome (written (without_mfn a)) ≡ plain a
+  plain_outcome (Ok tt) = refl
+  plain_outcome (Err q) = refl
+
+  module _ (r : Result (Option Mfn) Refusal) (a : Answer) (i : r ≡ without_mfn a) where
+    pub format_writes : w ≡ Format → a ≡ format_answer s → s' ≡ format_leaves s → Wrote s (writing_call d w) (written r) s'
     unfolding writing_call answer_s next_s result_s
-    format_writes k e f = record { outcome = rw (k, i, e); left = rw (k, f) }
+    format_writes k e f = record { outcome = rw (k, i, ← e) (plain_outcome a); left = rw (k, f) }
 
-    pub update_writes : (m : Mfn) → w ≡ Update m → a ≡ update_answer s m.0 d → s' ≡ update_leaves s m.0 d → Wrote s (writing_call d w) r s'
+    pub update_writes : (m : Mfn) → w ≡ Update m → a ≡ update_answer s m.0 d → s' ≡ update_leaves s m.0 d → Wrote s (writing_call d w) (written r) s'
     unfolding writing_call answer_s next_s result_s
-    update_writes m k e f = record { outcome = rw (k, i, e); left = rw (k, f) }
+    update_writes m k e f = record { outcome = rw (k, i, ← e) (plain_outcome a); left = rw (k, f) }
 
-    pub delete_writes : (m : Mfn) → w ≡ Delete m → a ≡ delete_answer s m.0 → s' ≡ delete_leaves s m.0 → Wrote s (writing_call d w) r s'
+    pub delete_writes : (m : Mfn) → w ≡ Delete m → a ≡ delete_answer s m.0 → s' ≡ delete_leaves s m.0 → Wrote s (writing_call d w) (written r) s'
     unfolding writing_call answer_s next_s result_s
-    delete_writes m k e f = record { outcome = rw (k, i, e); left = rw (k, f) }
+    delete_writes m k e f = record { outcome = rw (k, i, ← e) (plain_outcome a); left = rw (k, f) }
 
-    pub settle_writes : (m : Mfn) → w ≡ Settle m → a ≡ settle_answer s m.0 → s' ≡ settle_leaves s m.0 → Wrote s (writing_call d w) r s'
+    pub settle_writes : (m : Mfn) → w ≡ Settle m → a ≡ settle_answer s m.0 → s' ≡ settle_leaves s m.0 → Wrote s (writing_call d w) (written r) s'
     unfolding writing_call answer_s next_s result_s
-    settle_writes m k e f = record { outcome = rw (k, i, e); left = rw (k, f) }
+    settle_writes m k e f = record { outcome = rw (k, i, ← e) (plain_outcome a); left = rw (k, f) }
 
-    pub revert_writes : (m : Mfn) → w ≡ Revert m → a ≡ revert_answer s m.0 → s' ≡ revert_leaves s m.0 → Wrote s (writing_call d w) r s'
+    pub revert_writes : (m : Mfn) → w ≡ Revert m → a ≡ revert_answer s m.0 → s' ≡ revert_leaves s m.0 → Wrote s (writing_call d w) (written r) s'
     unfolding writing_call answer_s next_s result_s
-    revert_writes m k e f = record { outcome = rw (k, i, e); left = rw (k, f) }
+    revert_writes m k e f = record { outcome = rw (k, i, ← e) (plain_outcome a); left = rw (k, f) }
 
-    pub migrate_writes : w ≡ Migrate → a ≡ migrate_answer s → s' ≡ migrate_leaves s → Wrote s (writing_call d w) r s'
+    pub migrate_writes : w ≡ Migrate → a ≡ migrate_answer s → s' ≡ migrate_leaves s → Wrote s (writing_call d w) (written r) s'
     unfolding writing_call answer_s next_s result_s
-    migrate_writes k e f = record { outcome = rw (k, i, e); left = rw (k, f) }
+    migrate_writes k e f = record { outcome = rw (k, i, ← e) (plain_outcome a); left = rw (k, f) }
 
-    pub recount_writes : w ≡ Recount → a ≡ recount_answer s → s' ≡ recount_leaves s → Wrote s (writing_call d w) r s'
+    pub recount_writes : w ≡ Recount → a ≡ recount_answer s → s' ≡ recount_leaves s → Wrote s (writing_call d w) (written r) s'
     unfolding writing_call answer_s next_s result_s
-    recount_writes k e f = record { outcome = rw (k, i, e); left = rw (k, f) }
+    recount_writes k e f = record { outcome = rw (k, i, ← e) (plain_outcome a); left = rw (k, f) }
 
-pub ruleset written_answers = (format_writes, create_writes, update_writes, delete_writes, settle_writes, revert_writes, migrate_writes, recount_writes)
+pub ruleset written_answers = (format_writes, create_writes, create_refused, update_writes, delete_writes, settle_writes, revert_writes, migrate_writes, recount_writes)
 
 -- the parts of three lists that are lent as a draft are the draft at the cursor
-pub written_at : (s s' : Store) (tags lens bytes : List ℕ) (at : Cursor) (n : Counts) (w : Writing) (r : Created)
+pub written_at : (s s' : Store) (tags lens bytes : List ℕ) (at : Cursor) (n : Counts) (w : Writing) (r : Result (Option Mfn) Refusal)
     → Wrote s
     (writing_call
     (draft
@@ -156,8 +184,8 @@ pub written_at : (s s' : Store) (tags lens bytes : List ℕ) (at : Cursor) (n : 
     (take (at.used.lens + n.lens - at.used.lens) (drop at.used.lens lens))
     (take (at.used.bytes + n.bytes - at.used.bytes) (drop at.used.bytes bytes)))
     w)
-    r s'
-    → Wrote s (writing_at tags lens bytes at n w) r s'
+    (written r) s'
+    → Wrote s (writing_at tags lens bytes at n w) (written r) s'
 unfolding writing_at
 written_at s s' tags lens bytes at n w r h =
     rw (add-sub_cancel_left at.used.tags n.tags, add-sub_cancel_left at.used.lens n.lens, add-sub_cancel_left at.used.bytes n.bytes) at h
@@ -179,17 +207,27 @@ module _ (s : Store) (c : Call) (n : Counts) (answers shown : List ℕ) (at : Cu
   pub no_numbers : length answers - at.numbers < outcome_size → Ran s c n answers shown at (Err NoRoom) s answers shown
   no_numbers h = full (rw (lt-leb (length (numbers_of (answer_s s c))) (length answers - at.numbers) (omega arith)))
 
--- a call that reads shows sh, and there is room for the five numbers
-module _ (mst xrf answers shown : List ℕ) (at : Cursor) (r : Reading) (sh : Shown)
-    (e : shown_outcome mst sh ≡ answer_s (store mst xrf) (reading_call r)) (w : sh.start + sh.len ≤ length mst) (h : outcome_size ≤ length answers - at.numbers) where
+-- where a call that reads found its field, or nowhere: so the code has it, and it lies in the MST
+pub spot_is : (found : Result Span Refusal) (x : Span) → ResultUnwrapsOrElse found (λ y. (y.start ≡ 0) × (y.len ≡ 0)) x → ((shown found).start ≡ x.start) × ((shown found).len ≡ x.len)
+spot_is (Ok s) x u = rw u (refl, refl)
+spot_is (Err r) x u = (sym u.0, sym u.1)
+
+shown_within : (mst : List ℕ) (found : Result Span Refusal) → IfOk found (λ s. s.start + s.len ≤ length mst) → (shown found).start + (shown found).len ≤ length mst
+shown_within mst (Ok s) w = w
+shown_within mst (Err r) w = omega arith
+
+-- it is reported, where there is room for the five numbers
+module _ (mst xrf answers shown₀ : List ℕ) (at : Cursor) (r : Reading) (found : Result Span Refusal) (x : Span)
+    (e : shown_outcome mst (shown found) ≡ answer_s (store mst xrf) (reading_call r)) (w : IfOk found (λ s. s.start + s.len ≤ length mst))
+    (spot : ((shown found).start ≡ x.start) × ((shown found).len ≡ x.len)) (h : outcome_size ≤ length answers - at.numbers) where
   abbrev s : Store
   s = store mst xrf
 
   abbrev o : Outcome
   o = answer_s s (reading_call r)
 
-  shown_length : length o.shown ≡ sh.len
-  shown_length = rw (← e) (part_length mst sh.start sh.len w)
+  shown_length : length o.shown ≡ x.len
+  shown_length = rw (← e) (part_length mst (shown found).start (shown found).len (shown_within mst found w) ∙ spot.1)
 
   -- it lists no answers
   numbers_size : length (numbers_of o) ≡ outcome_size
@@ -198,35 +236,37 @@ module _ (mst xrf answers shown : List ℕ) (at : Cursor) (r : Reading) (sh : Sh
   numbers_fit : leb (length (numbers_of o)) (length answers - at.numbers) ≡ true
   numbers_fit = rw numbers_size (le-leb outcome_size (length answers - at.numbers) h)
 
-  pub no_bytes : length shown - at.shown < sh.len → Ran s (reading_call r) no_draft answers shown at (Err NoRoom) s answers shown
-  no_bytes k = full s (reading_call r) no_draft answers shown at (rw (numbers_fit, shown_length, lt-leb sh.len (length shown - at.shown) k))
+  pub no_bytes : length shown₀ - at.shown < x.len → Ran s (reading_call r) no_draft answers shown₀ at (Err NoRoom) s answers shown₀
+  no_bytes k = full s (reading_call r) no_draft answers shown₀ at (rw (numbers_fit, shown_length, lt-leb x.len (length shown₀ - at.shown) k))
 
-  pub asked_next : (answers' shown' : List ℕ) (a m l : ℕ) (n : Counts) (at' : Cursor) → sh.len ≤ length shown - at.shown
-      → a ≡ number_of sh.answer → m ≡ 0 → l ≡ 0 → answers' ≡ overwrite answers at.numbers (a ∷ m ∷ sh.len ∷ sh.occurrences ∷ l ∷ [])
-      → shown' ≡ overwrite shown at.shown (part mst sh.start (sh.start + sh.len - sh.start))
-      → n.mfns ≡ 0 → n.tags ≡ 0 → n.lens ≡ 0 → n.bytes ≡ 0 → at' ≡ moved at n outcome_size sh.len
-      → Ran s (reading_call r) no_draft answers shown at (Ok at') s answers' shown'
-  asked_next answers' shown' a m l n at' k ea em el en ef nm nt nl nb at'-is =
-      let b : room_at answers shown at o ≡ true = rw (numbers_fit, shown_length, le-leb sh.len (length shown - at.shown) k) in
+  pub asked_next : (answers' shown' five : List ℕ) (n : Counts) (at' : Cursor) → x.len ≤ length shown₀ - at.shown
+      → five ≡ shown_numbers (shown found) → answers' ≡ overwrite answers at.numbers five
+      → shown' ≡ overwrite shown₀ at.shown (part mst x.start (x.start + x.len - x.start))
+      → n.mfns ≡ 0 → n.tags ≡ 0 → n.lens ≡ 0 → n.bytes ≡ 0 → at' ≡ moved at n outcome_size x.len
+      → Ran s (reading_call r) no_draft answers shown₀ at (Ok at') s answers' shown'
+  asked_next answers' shown' five n at' k f en ef nm nt nl nb at'-is =
+      let b : room_at answers shown₀ at o ≡ true = rw (numbers_fit, shown_length, le-leb x.len (length shown₀ - at.shown) k) in
+      let bytes : o.shown ≡ part mst x.start x.len = rw (← e, spot.0, spot.1) in
+      let numbers : numbers_of o ≡ five = let size : length (part mst (shown found).start (shown found).len) ≡ (shown found).len = part_length mst (shown found).start (shown found).len (shown_within mst found w) in rw (f, ← e, size) in
       record {
         turn = rw (b, numbers_size, shown_length, at'-is, nm, nt, nl, nb);
         left = rw (b, reading_keeps s r);
-        numbers = rw (b, shown_length, ← e, ← ea) (rw (em, el) at en);
-        fields = rw (b, ← e) (rw (add-sub_cancel_left sh.start sh.len) at ef);
+        numbers = rw (b, numbers) en;
+        fields = rw (b, bytes) (rw (add-sub_cancel_left x.start x.len) at ef);
       }
 
 -- a call that may write is run where there is room for the five numbers: it shows nothing and lists nothing
-pub wrote_next : (s s' : Store) (tags lens bytes : List ℕ) (r : Created) (answers answers' : List ℕ) (a x y z : ℕ) (at at' : Cursor) (k : Writing) (n : Counts)
-    → Wrote s (writing_at tags lens bytes at n k) r s' → outcome_size ≤ length answers - at.numbers
-    → a ≡ number_of r.answer → x ≡ 0 → y ≡ 0 → z ≡ 0 → answers' ≡ overwrite answers at.numbers (a ∷ r.mfn.0 ∷ x ∷ y ∷ z ∷ [])
+pub wrote_next : (s s' : Store) (tags lens bytes : List ℕ) (r : Result (Option Mfn) Refusal) (answers answers' five : List ℕ) (at at' : Cursor) (k : Writing) (n : Counts)
+    → Wrote s (writing_at tags lens bytes at n k) (written r) s' → outcome_size ≤ length answers - at.numbers
+    → five ≡ created_numbers (written r) → answers' ≡ overwrite answers at.numbers five
     → at' ≡ moved at n outcome_size 0
     → (shown : List ℕ) → Ran s (writing_at tags lens bytes at n k) n answers shown at (Ok at') s' answers' shown
-wrote_next s s' tags lens bytes r answers answers' a x y z at at' k n w h ea ex ey ez en m shown =
+wrote_next s s' tags lens bytes r answers answers' five at at' k n w h ef en m shown =
     let b : room_at answers shown at (answer_s s (writing_at tags lens bytes at n k)) ≡ true = rw (← w.outcome, le-leb outcome_size (length answers - at.numbers) h, le-leb 0 (length shown - at.shown) (omega arith)) in
     record {
       turn = rw (b, ← w.outcome, m);
       left = rw (b, w.left);
-      numbers = rw (b, ← w.outcome, ← ea) (rw (ex, ey, ez) at en);
+      numbers = rw (b, ← w.outcome) (rw ef at en);
       fields = rw (b, ← w.outcome) (sym (overwrite_none shown at.shown));
     }
 
@@ -249,10 +289,11 @@ module _ (s : Store) (mfns answers : List ℕ) (at : Cursor) (n lent : ℕ) (i :
   refused_left h = rw (mfns_length, h)
 
   pub list_refused : (answers' : List ℕ) (a x y z v t l q : ℕ) (at' : Cursor) (b : Bool) → b ≡ lists_right n lent → b ≡ false
-      → outcome_size ≤ length answers - at.numbers → a ≡ number_of (Err NoRoomInList) → x ≡ 0 → y ≡ 0 → z ≡ 0 → v ≡ 0
+      → outcome_size ≤ length answers - at.numbers → a ≡ refusal_number NoRoomInList → x ≡ 0 → y ≡ 0 → z ≡ 0 → v ≡ 0
       → answers' ≡ overwrite answers at.numbers (a ∷ x ∷ y ∷ z ∷ v ∷ [])
       → t ≡ 0 → l ≡ 0 → q ≡ 0 → at' ≡ moved at (counts n t l q) outcome_size 0
       → (shown : List ℕ) → Ran s c (mfns_of n) answers shown at (Ok at') s answers' shown
+  unfolding number_of
   list_refused answers' a x y z v t l q at' b e f h ea ex ey ez ev en et el eq m shown =
       let w : lists_right n lent ≡ false = sym e ∙ f in
       let o = refused_outcome w in

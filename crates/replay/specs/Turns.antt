@@ -1,12 +1,15 @@
 -- Inner: serves the functions below `run`, no part of what is promised. What one call does, where a run
 -- stands in its list and in its two rooms.
-use Rattle.std.specs.Prelude.{ℕ, ◌+◌, ◌*◌, ◌-◌, ◌≤◌, ◌≡◌, Bool, cond, List, length, take, drop, Some, None, Result, Ok, Err}
+use Rattle.std.specs.Prelude.{ℕ, ◌+◌, ◌*◌, ◌-◌, ◌≤◌, ◌≡◌, Bool, cond, List, [], ◌∷◌, length, take, drop, Option, Some, None, Result, Ok, Err}
 use Rattle.word.specs.Overwrite.{overwrite}
-use Rattle.writing.specs.declared.create.Created.{Created}
+use Rattle.writing.specs.Calls.{Created, created}
+use Rattle.views.specs.Views.{Shown}
+use Rattle.layout.specs.declared.sizes.Mfn.{Mfn}
+use Rattle.store.specs.declared.answer.Refusal.{Refusal}
 use Rattle.store.specs.Store.{Store}
 use Rattle.ledger.specs.Call.{Call, settle_list, Outcome}
 use Rattle.ledger.specs.StoreRun.{created_outcome, answer_s, next_s, answers_s, after_s}
-use Rattle.store.specs.Answer.{Answer}
+use Rattle.store.specs.Answer.{Answer, number_of}
 use Rattle.script.specs.Ops.{call_size, mfn_of, taken_of}
 use Rattle.replay.specs.Calls.{Script, script, writing_call, front_draft, call_by, first_op, first_call, on_call, calls_of}
 use Rattle.script.specs.Report.{outcome_size}
@@ -53,9 +56,23 @@ pub record IsOver (rest : Script) (s : Stop) : Type 0 where
 unfoldable pub settling_at : List ℕ → Cursor → ℕ → ℕ → Call
 settling_at mfns at n lent = settle_list (take n (drop at.used.mfns mfns)) lent
 
--- what a call other than create returns
-abbrev pub without_mfn : Answer → Created
-without_mfn a = record { answer = a; mfn = mfn_of 0 }
+-- what a call other than create gives
+abbrev pub without_mfn : Answer → Result (Option Mfn) Refusal
+without_mfn (Ok _) = Ok None
+without_mfn (Err r) = Err r
+
+-- what a call that may write gives, as its answer and the MFN that it returns: 0 where it returns none
+abbrev pub written : Result (Option Mfn) Refusal → Created
+written (Ok (Some m)) = created (Ok m)
+written (Ok None) = record { answer = Ok tt; mfn = mfn_of 0 }
+written (Err r) = created (Err r)
+
+-- the five numbers of what is shown, and of what a call that may write returns
+abbrev pub shown_numbers : Shown → List ℕ
+shown_numbers s = number_of s.answer ∷ 0 ∷ s.len ∷ s.occurrences ∷ 0 ∷ []
+
+abbrev pub created_numbers : Created → List ℕ
+created_numbers c = number_of c.answer ∷ c.mfn.0 ∷ 0 ∷ 0 ∷ 0 ∷ []
 
 -- what a call that may write answers and leaves
 pub record Wrote (s : Store) (c : Call) (r : Created) (s' : Store) : Type 0 where

@@ -7,7 +7,6 @@ use crate::turns;
 use script::cursor::Cursor;
 use script::lists::Script;
 use script::report::{Replayed, Stop};
-use store::answer::Answer;
 
 // Runs a list of calls on two buffers, up to its end, to what is no call, or to the first whose outcome has no room: five numbers in `answers` and
 // the answers that it lists, and the bytes shown in `shown`. Where the buffers hold a sound store, the outcomes are THE LEDGER's.
@@ -45,8 +44,7 @@ pub fn replay(
 ) -> Replayed
     ensures { Replays (store mst.old xrf.old) (script_of list.now) answers.old shown.old result (store mst.new xrf.new) answers.new shown.new }
 {
-    let a = writing::format::format(mst, xrf);
-    let Answer::Done = a else {
+    if writing::format::format(mst, xrf).is_err() {
         return Replayed {
             stop: Stop::BadLength,
             calls: 0,

@@ -1,28 +1,30 @@
 // One call of a list: it is run, and what it answers is written down, where there is room.
-ghost use Rattle.std.specs.Prelude.{◌≡◌, List, ℕ, ◌+◌, ◌*◌, ◌≤◌, length, MatchResult};
+ghost use Rattle.std.specs.Prelude.{◌≡◌, List, ℕ, ◌+◌, ◌*◌, ◌≤◌, length, IfOk, MatchResult};
 ghost use Rattle.layout.specs.Sizes.{mst_most};
-ghost use Rattle.drafts.specs.Draft.{draft};
+ghost use Rattle.drafts.specs.Lent.{lent};
 ghost use Rattle.store.specs.Store.{store};
+ghost use Rattle.views.specs.Views.{shown};
 ghost use Rattle.ledger.specs.StoreRun.{shown_outcome, answer_s};
 ghost use Rattle.script.specs.Ops.{call_size, mfns_of, no_draft};
+ghost use Rattle.script.specs.Report.{five_of};
 ghost use Rattle.script.specs.Cursor.{UsedWithin, DraftWithin, NumbersWithin, RoomWithin, Within};
 ghost use Rattle.replay.specs.Calls.{script_of, left_of, reading_call, writing_call};
-ghost use Rattle.replay.specs.Turns.{writing_at, settling_at, script_at, IsFirst, IsOver, without_mfn, Wrote, ListFits, ListReported, Ran, Turned};
+ghost use Rattle.replay.specs.Turns.{writing_at, settling_at, script_at, IsFirst, IsOver, without_mfn, written, shown_numbers, created_numbers, Wrote, ListFits, ListReported, Ran, Turned};
 
+use drafts::draft::Draft;
 use layout::sizes::Mfn;
+use record::fields::Span;
 use script::calls::{CALL_SIZE, Counts, Op, Reading, Writing};
 use script::cursor::Cursor;
 use script::lists::Script;
 use script::report::{OUTCOME_SIZE, Outcome, Stop};
-use store::answer::Answer;
-use views::views::Shown;
-use writing::create::Created;
+use store::answer::Refusal;
 
-// Runs a call that only reads.
-fn ask(mst: &[u8], xrf: &[u8], r: Reading) -> Shown
-    ensures is { shown_outcome mst.now result ≡ answer_s (store mst.now xrf.now) (reading_call r) }
-    ensures within { result.start + result.len ≤ length mst.now }
-    ensures short { result.len ≤ mst_most }
+// Runs a call that only reads, and gives where in the MST its field lies: nowhere, for a check.
+fn ask(mst: &[u8], xrf: &[u8], r: Reading) -> Result<Span, Refusal>
+    ensures is { shown_outcome mst.now (shown result) ≡ answer_s (store mst.now xrf.now) (reading_call r) }
+    ensures within { IfOk result (λ s. s.start + s.len ≤ length mst.now) }
+    ensures short { IfOk result (λ s. s.len ≤ mst_most) }
 {
     match r {
         Reading::View {
@@ -35,42 +37,55 @@ fn ask(mst: &[u8], xrf: &[u8], r: Reading) -> Shown
             tag,
             occurrence,
         } => views::views::view_settled(mst, xrf, mfn, tag, occurrence),
-        Reading::Check => Shown {
-            answer: soundness::check::check(mst, xrf),
-            start: 0,
-            len: 0,
-            occurrences: 0,
+        Reading::Check => {
+            soundness::check::check(mst, xrf)?;
+            Ok(Span::default())
+        }
+    }
+}
+
+// The numbers of what a call that only reads gives.
+#[tactic(auto, unfolding(store::specs::Answer::number_of))]
+fn shown_numbers(found: Result<Span, Refusal>) -> Outcome
+    requires { IfOk found (λ s. s.len ≤ mst_most) }
+    ensures { five_of result ≡ shown_numbers (shown found) }
+{
+    match found {
+        Ok(span) => Outcome {
+            len: span.len as u32,
+            ..Outcome::default()
+        },
+        Err(refusal) => Outcome {
+            answer: u32::from(refusal),
+            count: views::views::occurrences_told(refusal),
+            ..Outcome::default()
         },
     }
 }
 
-// The answer of a call that returns no MFN.
-fn without_mfn(answer: Answer) -> Created
-    ensures { result ≡ without_mfn answer }
+// What a call that returns no MFN gives.
+fn without_mfn(done: Result<(), Refusal>) -> Result<Option<Mfn>, Refusal>
+    ensures { result ≡ without_mfn done }
 {
-    Created {
-        answer,
-        mfn: Mfn(0),
-    }
+    done.map(|()| None)
 }
 
-// Runs a call that may write, with its draft.
+// Runs a call that may write, with its draft, and gives the MFN that it returns.
 fn write(
     mst: &mut [u8],
     xrf: &mut [u8],
     w: Writing,
-    tags: &[u16],
-    lens: &[u16],
-    data: &[u8],
-) -> Created
-    ensures { Wrote (store mst.old xrf.old) (writing_call (draft tags.now lens.now «data».now) w) result (store mst.new xrf.new) }
+    draft: Draft<'_>,
+) -> Result<Option<Mfn>, Refusal>
+    ensures { Wrote (store mst.old xrf.old) (writing_call (lent draft.entry) w) (written result) (store mst.new xrf.new) }
 {
     match w {
         Writing::Format => without_mfn(writing::format::format(mst, xrf)),
-        Writing::Create => writing::create::create(mst, xrf, tags, lens, data),
-        Writing::Update(m) => {
-            without_mfn(updating::changes::update(mst, xrf, m, tags, lens, data))
+        Writing::Create => {
+            let mfn = writing::create::create(mst, xrf, draft)?;
+            Ok(Some(mfn))
         }
+        Writing::Update(m) => without_mfn(updating::changes::update(mst, xrf, m, draft)),
         Writing::Delete(m) => without_mfn(updating::changes::delete(mst, xrf, m)),
         Writing::Settle(m) => without_mfn(writing::settling::settle(mst, xrf, m)),
         Writing::Revert(m) => without_mfn(writing::settling::revert(mst, xrf, m)),
@@ -87,21 +102,37 @@ fn write_at(
     list: &Script,
     at: Cursor,
     n: Counts,
-) -> Created
+) -> Result<Option<Mfn>, Refusal>
     requires { DraftWithin list.now.tags.now list.now.lens.now list.now.bytes.now at n }
-    ensures { Wrote (store mst.old xrf.old) (writing_at list.now.tags.now list.now.lens.now list.now.bytes.now at n w) result (store mst.new xrf.new) }
+    ensures { Wrote (store mst.old xrf.old) (writing_at list.now.tags.now list.now.lens.now list.now.bytes.now at n w) (written result) (store mst.new xrf.new) }
 {
     let t = at.used.tags;
     let l = at.used.lens;
     let d = at.used.bytes;
-    write(
-        mst,
-        xrf,
-        w,
-        &list.tags[t..t + n.tags],
-        &list.lens[l..l + n.lens],
-        &list.bytes[d..d + n.bytes],
-    )
+    let draft = Draft {
+        tags: &list.tags[t..t + n.tags],
+        lens: &list.lens[l..l + n.lens],
+        data: &list.bytes[d..d + n.bytes],
+    };
+    write(mst, xrf, w, draft)
+}
+
+// The numbers of what a call that may write gives.
+#[tactic(auto, unfolding(store::specs::Answer::number_of))]
+fn written_numbers(done: Result<Option<Mfn>, Refusal>) -> Outcome
+    ensures { five_of result ≡ created_numbers (written done) }
+{
+    match done {
+        Ok(Some(mfn)) => Outcome {
+            mfn: mfn.0,
+            ..Outcome::default()
+        },
+        Ok(None) => Outcome::default(),
+        Err(refusal) => Outcome {
+            answer: u32::from(refusal),
+            ..Outcome::default()
+        },
+    }
 }
 
 // Runs and reports a call that only reads, where there is room.
@@ -120,23 +151,15 @@ fn ask_turn(
     if answers.len() - i < OUTCOME_SIZE {
         return Err(Stop::NoRoom);
     }
-    let s = ask(mst, xrf, r);
+    let found = ask(mst, xrf, r);
+    let Span { start, len } = found.unwrap_or_default();
     let b = at.shown;
-    let len = s.len;
     if shown.len() - b < len {
         return Err(Stop::NoRoom);
     }
     let next = at.moved(Counts::default(), OUTCOME_SIZE, len);
-    let outcome = Outcome {
-        answer: store::answer::number(s.answer),
-        len: len as u32,
-        count: s.occurrences,
-        ..Outcome::default()
-    };
-    outcome.put(answers, i);
-    let start = s.start;
-    let end = start + len;
-    word::bytes::copy_to(shown, b, &mst[start..end]);
+    shown_numbers(found).put(answers, i);
+    word::bytes::copy_to(shown, b, &mst[start..start + len]);
     Ok(next)
 }
 
@@ -160,13 +183,8 @@ fn write_turn(
         return Err(Stop::NoRoom);
     }
     let next = at.moved(n, OUTCOME_SIZE, 0);
-    let c = write_at(mst, xrf, w, list, at, n);
-    let outcome = Outcome {
-        answer: store::answer::number(c.answer),
-        mfn: c.mfn.0,
-        ..Outcome::default()
-    };
-    outcome.put(answers, i);
+    let done = write_at(mst, xrf, w, list, at, n);
+    written_numbers(done).put(answers, i);
     Ok(next)
 }
 
@@ -185,14 +203,14 @@ fn settle_at(
     let m = at.used.mfns;
     let i = at.numbers;
     let from = i + OUTCOME_SIZE;
-    let a = settling::settle_list::settle_list(
+    let done = settling::settle_list::settle_list(
         mst,
         xrf,
         &mfns[m..m + n],
         &mut answers[from..from + n],
     );
     let outcome = Outcome {
-        answer: store::answer::number(a),
+        answer: store::answer::number(done),
         listed: n as u32,
         ..Outcome::default()
     };
@@ -226,7 +244,7 @@ fn settle_turn(
     if !settling::settle_list::lists_right(n, lent) {
         let next = at.moved(taken, OUTCOME_SIZE, 0);
         let outcome = Outcome {
-            answer: store::answer::number(Answer::NoRoomInList),
+            answer: u32::from(Refusal::NoRoomInList),
             ..Outcome::default()
         };
         outcome.put(answers, i);
