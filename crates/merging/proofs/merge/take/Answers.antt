@@ -85,15 +85,6 @@ loop-x-init c =
     let p = c.requires in
     standing_none _ _ _ _ _ p.0 p.1 _ p.3 _ _ c.unread-x.ensures c.unread-y.ensures
 
-pub refill-x-requires : goal.refill-x-requires
-refill-x-requires c = let g = c.loop-x.invariant.x_right in (g.in_block, g.stands)
-
-pub refill-y-requires : goal.refill-y-requires
-refill-y-requires c = let g = c.loop-x.invariant.y_right in (g.in_block, g.stands)
-
-pub shape_of-out-then-leading-ge16777216 : goal.shape_of-out-then-leading-ge16777216
-shape_of-out-then-leading-ge16777216 c = took_length _ _ _ _ _ _ c.loop-x.invariant.took
-
 pub returns-then-leading-ge16777216 : goal.returns-then-leading-ge16777216
 returns-then-leading-ge16777216 c =
     let d = (goal.at.returns-then-leading-ge16777216 c).Joined-y in
@@ -108,12 +99,6 @@ pub loop-out-init : goal.loop-out-init
 loop-out-init c =
     let d = (goal.at.loop-out-init c).Joined-y in
     turning_none _ _ _ _ _ _ _ _ _ _ c.loop-x.invariant _ _ (x-filled d) (y-filled d) (rw (← c.leading.ensures) c.if-leading-ge16777216.false)
-
-pub behind-behind_x-requires : goal.behind-behind_x-requires
-behind-behind_x-requires c = let g = c.loop-out.invariant.x_right in λ h. omega (arith, h, g.whole, g.inside)
-
-pub behind-behind_y-requires : goal.behind-behind_y-requires
-behind-behind_y-requires c = let g = c.loop-out.invariant.y_right in λ h. omega (arith, h, g.whole, g.inside)
 
 pub overflow_add-i : goal.overflow_add-i
 overflow_add-i c =
@@ -135,16 +120,6 @@ offset_bounds-out-i c =
     let d = (goal.at.offset_bounds-out-i c).Joined-y in
     let b = turn_index _ _ _ _ _ _ _ _ _ _ _ _ _ c.loop-out.invariant _ c.min-m.ensures _ c.gives-given.ensures _ c.from-i.ensures _ c.writes.ensures _ _ (entered d) c.if-writes.true in
     omega (arith, b, took_length _ _ _ _ _ _ (c.loop-out.invariant.took _ _ (entered d)), c.well_formed.1.1.1.1.1.0.1)
-
-pub overflow_add-x : goal.overflow_add-x
-overflow_add-x c =
-    let g = c.loop-out.invariant in
-    omega (arith, g.x_right.low (omega (arith, c.if-not-q-p.true, g.some)), g.x_right.inside, c.well_formed.0.1)
-
-pub overflow_add-y : goal.overflow_add-y
-overflow_add-y c =
-    let g = c.loop-out.invariant in
-    omega (arith, g.y_right.low (omega (arith, c.if-not-p-q.true, g.some)), g.y_right.inside, c.well_formed.0.1)
 
 pub loop-x-smaller-then-x-2 : goal.loop-x-smaller-then-x-2
 loop-x-smaller-then-x-2 c =

@@ -1,9 +1,6 @@
 use Rattle.postings.proofs.Cursors.{moved_none, settle_over, settle_none, settle_bad, settle_enter, settle_on}
 use Rattle.postings.proofs.cursor.settle.Goals as goal
 
-pub loop-c-init : goal.loop-c-init
-loop-c-init c = moved_none _ _ c.requires
-
 pub returns-then-is_end : goal.returns-then-is_end
 returns-then-is_end c =
     settle_over _ _ _ c.loop-c.invariant c.loop-c-test.true _ c.is_end.ensures c.if-is_end.true
