@@ -112,10 +112,12 @@ fn over_node(
     if left == 0 || !nodes.keeps_rules(n) || !ascends(nodes, n) {
         return Err(BadIndex);
     }
+    let own = Nodes { file: nodes.file, shape: nodes.shape };
+    let met = Leaves { file: leaves.file, shape: leaves.shape };
     let mut after = before;
-    for i in 0..nodes.count(n) {
-        let key = nodes.key(n, i);
-        after = match child_of(nodes.punt(n, i)) {
+    for i in 0..own.count(n) {
+        let key = own.key(n, i);
+        after = match child_of(own.punt(n, i)) {
             Child::Node(m) if begins(nodes, m, key) => over_node(
                 nodes,
                 leaves,
@@ -123,7 +125,7 @@ fn over_node(
                 m,
                 after,
             )?,
-            Child::Leaf(m) if begins(leaves, m, key) => over_leaf(leaves, m, after)?,
+            Child::Leaf(m) if begins(&met, m, key) => over_leaf(&met, m, after)?,
             _ => return Err(BadIndex),
         };
     }

@@ -1,4 +1,4 @@
--- After i turns the first 8 * i bytes agree.
+-- Before turn i the first 8 * i bytes agree, and in any case the first 8.
 use Prim.Native.Nat.{◌*◌}
 use Rattle.terms.proofs.Chunks.{Agree}
 use Rattle.terms.proofs.key.deciding.Given as goal
