@@ -121,8 +121,14 @@ pub fn read_part(cnt: &[u8], kind: Kind) -> Option<Tree>
         return None;
     }
     Some(Tree {
-        nodes: Shape { kind, most: 2 * usize::from(ordn) },
-        leaves: Shape { kind, most: 2 * usize::from(ordf) },
+        nodes: Shape {
+            kind,
+            most: 2 * usize::from(ordn),
+        },
+        leaves: Shape {
+            kind,
+            most: 2 * usize::from(ordf),
+        },
         root: u32_at(cnt, at + 12),
     })
 }

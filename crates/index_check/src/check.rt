@@ -112,8 +112,14 @@ fn over_node(
     if left == 0 || !nodes.keeps_rules(n) || !ascends(nodes, n) {
         return Err(BadIndex);
     }
-    let own = Nodes { file: nodes.file, shape: nodes.shape };
-    let met = Leaves { file: leaves.file, shape: leaves.shape };
+    let own = Nodes {
+        file: nodes.file,
+        shape: nodes.shape,
+    };
+    let met = Leaves {
+        file: leaves.file,
+        shape: leaves.shape,
+    };
     let mut after = before;
     for i in 0..own.count(n) {
         let key = own.key(n, i);
