@@ -21,6 +21,7 @@ use script::report::{OUTCOME_SIZE, Outcome, Stop};
 use store::answer::Refusal;
 
 // Runs a call that only reads, and gives where in the MST its field lies: nowhere, for a check.
+#[tactic(auto, using(crate::proofs::Turning::asked_answers, crate::proofs::Turning::short_answers))]
 fn ask(mst: &[u8], xrf: &[u8], r: Reading) -> Result<Span, Refusal>
     ensures is { shown_outcome mst.now (shown result) ≡ answer_s (store mst.now xrf.now) (reading_call r) }
     ensures within { IfOk result (λ s. s.start + s.len ≤ length mst.now) }
