@@ -26,7 +26,8 @@ fn sound_apart(opened: &OpenStore) -> Option<u32>
     Some(live)
 }
 
-// What the check and the recount ask alike, 1, 2, and 14 apart from RECCNT: how many entries are live.
+// What the check and the recount ask alike: how many entries are live, where 1, 2, and 14
+// apart from RECCNT, do not apply.
 #[tactic(auto, using(crate::proofs::CheckAnswers::counted_answers))]
 fn count_live(mst: &[u8], xrf: &[u8]) -> Result<u32, Refusal>
     ensures { result ≡ counted_of (store mst.now xrf.now) }

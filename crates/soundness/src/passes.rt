@@ -115,6 +115,7 @@ pub(crate) fn walk_steps(opened: &OpenStore, named: usize) -> bool
 {
     let mut hits: usize = 0;
     let mut at: usize = 64;
+    // each address is read from the record at the one before, so no range or chain names them
     while at + 18 <= opened.control.end {
         hits += usize::from(step_hit(opened, at));
         let Some(next) = crate::steps::next_step(opened.mst, opened.control.end, at) else {
