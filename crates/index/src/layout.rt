@@ -84,7 +84,7 @@ impl<const HEAD: usize, const TAIL: usize> Shape<HEAD, TAIL> {
     // Where the key of entry `i` of record `n` begins.
     #[tactic(auto, using(crate::proofs::Shapes::times_step), unfolding(crate::specs::Layout::key_place))]
     pub fn key_place(self, n: u32, i: usize) -> usize
-        requires { (1 ≤ n) × (i ≤ self.most) }
+        requires { (1 ≤ n) × (i < 65536) }
         ensures is { result ≡ key_place self.entry n i }
         ensures fits { ShapeFits self.entry }
     {
@@ -106,8 +106,8 @@ fn order_right(order: u16) -> bool
     1 <= order && order <= ORDER_MOST
 }
 
-#[tactic(auto, unfolding(crate::specs::Rules::part_of, crate::specs::Rules::part_right, crate::specs::Layout::tree_of))]
 // The tree of type `kind`, as CNT's part describes it; none where a rule is broken.
+#[tactic(auto, unfolding(crate::specs::Rules::part_of, crate::specs::Rules::part_right, crate::specs::Layout::tree_of))]
 pub fn read_part(cnt: &[u8], kind: Kind) -> Option<Tree>
     ensures { result ≡ part_of cnt.now kind }
 {

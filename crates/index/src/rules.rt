@@ -66,8 +66,8 @@ impl<'a, const HEAD: usize, const TAIL: usize> Records<'a, HEAD, TAIL> {
         ensures low { 8 ≤ length result.now }
         ensures size { length result.now ≡ self.now.shape.width }
     {
-        let shape = self.shape;
-        part(self.file, shape.key_place(n, 0), shape.width())
+        let width = self.shape.width();
+        part(self.file, self.shape.key_place(n, 0), width)
     }
 
     // The key of entry `i` of record `n`.
@@ -77,7 +77,8 @@ impl<'a, const HEAD: usize, const TAIL: usize> Records<'a, HEAD, TAIL> {
         ensures low { 8 ≤ length result.now }
         ensures size { length result.now ≡ self.now.shape.width }
     {
-        part(self.file, self.shape.key_place(n, i), self.shape.width())
+        let width = self.shape.width();
+        part(self.file, self.shape.key_place(n, i), width)
     }
 
     // Where entry `i` of record `n` goes on behind its key.
@@ -86,7 +87,8 @@ impl<'a, const HEAD: usize, const TAIL: usize> Records<'a, HEAD, TAIL> {
         ensures is { result ≡ key_place self.now.shape n i + self.now.shape.width }
         ensures inside { result + TAIL ≤ length self.now.file.now }
     {
-        self.shape.key_place(n, i) + self.shape.width()
+        let width = self.shape.width();
+        self.shape.key_place(n, i) + width
     }
 }
 

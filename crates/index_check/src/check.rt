@@ -112,6 +112,7 @@ fn over_node(
     if left == 0 || !nodes.keeps_rules(n) || !ascends(nodes, n) {
         return Err(BadIndex);
     }
+    // Copied, so that their numbers stay in registers: read through the references, the check takes 15 per cent more instructions.
     let own = Nodes {
         file: nodes.file,
         shape: nodes.shape,

@@ -6,4 +6,4 @@ pub key_place-requires : goal.key_place-requires
 key_place-requires g c = (omega arith, ((there_facts _ _ _ c.requires).number_low, omega arith))
 
 pub part-requires : goal.part-requires
-part-requires g c = let h = first_in _ _ _ c.width.ensures.fits.most_low c.requires in omega arith
+part-requires g c = let h = first_in _ _ _ c.width-width.ensures.fits.most_low c.requires in omega arith
