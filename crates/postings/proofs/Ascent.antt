@@ -18,12 +18,6 @@ use Rattle.postings.proofs.Cursors.{rest_taken, stands_taken, length_taken, less
 -- ---- the loop over a run
 
 module _ (f : List ℕ) (start n first : ℕ) where
-  pub climb_none : above (suc first) (row f n start) ≡ above (suc first) (row f (n - 0) (start + 8 * 0))
-  climb_none =
-      let e : n - 0 ≡ n = omega arith in
-      let a : start + 8 * 0 ≡ start = omega arith in
-      rw (e, a)
-
   module _ (last i : ℕ) (h : i < n) (e : above (suc first) (row f n start) ≡ above (suc last) (row f (n - i) (start + 8 * i)))
       (p : ℕ) (is : p ≡ posting_at f (start + 8 * i)) where
     turn : above (suc first) (row f n start) ≡ (leb (suc last) p && above (suc p) (row f (n - (i + 1)) (start + 8 * (i + 1))))

@@ -1,4 +1,4 @@
-use Rattle.postings.proofs.Cursors.{moved_none, settle_over, settle_none, settle_bad, settle_enter, settle_on}
+use Rattle.postings.proofs.Cursors.{settle_over, settle_none, settle_bad, settle_enter, settle_on}
 use Rattle.postings.proofs.cursor.settle.Goals as goal
 
 pub returns-then-is_end : goal.returns-then-is_end
