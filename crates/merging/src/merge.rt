@@ -114,7 +114,7 @@ fn refill(ifp: &[u8], start: Cursor) -> Head
     }
 }
 
-// The MFN of the posting at `at`; 2^24 where the run is over there.
+// The MFN of the posting at `at`; 2^24 where the run is over there: with an Option a merge took a third longer.
 fn behind(ifp: &[u8], at: usize, end: usize) -> u32
     requires { at < end → at + 8 ≤ length ifp.now }
     ensures { (result ≡ behind_of ifp.now at end) × (at < end → result < 16777216) }
@@ -134,6 +134,7 @@ fn take(ifp: &[u8], a: Cursor, b: Cursor, which: Which, put: bool, out: &mut [u3
     // No MFN is 2^24. With an Option for the last one a merge takes a quarter to a half longer.
     let mut last: u32 = 16777216;
     let mut i: usize = 0;
+    // two walks in step, by which head is lower: no index is counted, `i` is how many MFNs were given
     loop {
         if x.end < x.at {
             x = refill(ifp, x.cursor);

@@ -22,6 +22,7 @@ pub fn settle(ifp: &[u8], start: Cursor) -> Result<Option<Cursor>, Refusal>
     ensures { SettledFrom ifp.now start result }
 {
     let mut c = start;
+    // a walk along links: each segment says where the next one is, so no range or chain names them
     while c.left == 0 {
         if c.next.is_end() {
             return Ok(None);

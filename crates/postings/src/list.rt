@@ -102,6 +102,7 @@ pub fn right(ifp: &[u8], list: Opened) -> bool
     let mut c = list.cursor;
     let mut due = list.total;
     let mut last = None;
+    // run by run, as the cursor finds them: how many runs there are, nothing tells before
     loop {
         let Ok(reached) = settle(ifp, c) else {
             return false;
