@@ -90,24 +90,20 @@ fn last_punt(nodes: &Nodes, key: &[u8], n: u32) -> Option<u32>
     None
 }
 
-// The leaf that the way from a root leads to.
+// The leaf that the way from node `n` leads to, over at most `left` nodes.
 #[tactic(auto, using(crate::proofs::Shapes::node_record, crate::proofs::Finding::way_none, crate::proofs::Finding::way_broken, crate::proofs::Finding::way_absent, crate::proofs::Finding::way_leaf, crate::proofs::Finding::way_node))]
-fn leaf_for(nodes: &Nodes, key: &[u8], root: u32) -> Result<u32, Refusal>
+fn leaf_for(nodes: &Nodes, key: &[u8], left: u32, n: u32) -> Result<u32, Refusal>
     requires { length key.now ≡ nodes.now.shape.width }
-    ensures { result ≡ way_end nodes.now.file.now nodes.now.shape key.now nodes_most root }
+    ensures { result ≡ way_end nodes.now.file.now nodes.now.shape key.now left n }
 {
-    let mut n = root;
-    for _i in 0..NODES_MOST {
-        if !nodes.keeps_node_rules(n) {
-            return Err(Refusal::BadIndex);
-        }
-        let punt = last_punt(nodes, key, n).ok_or(Refusal::NoTerm)?;
-        match child_of(punt) {
-            Child::Node(next) => n = next,
-            Child::Leaf(leaf) => return Ok(leaf),
-        }
+    if left == 0 || !nodes.keeps_node_rules(n) {
+        return Err(Refusal::BadIndex);
     }
-    Err(Refusal::BadIndex)
+    let punt = last_punt(nodes, key, n).ok_or(Refusal::NoTerm)?;
+    match child_of(punt) {
+        Child::Node(next) => leaf_for(nodes, key, left - 1, next),
+        Child::Leaf(leaf) => Ok(leaf),
+    }
 }
 
 // A term that is no longer than the keys of the tree of type `kind`, in that tree.
@@ -128,7 +124,7 @@ fn lookup_in(index: &Index, kind: Kind, term: &[u8]) -> Result<Place, Refusal>
     let mut padded = [SPACE; TERM_MOST];
     copy_to(&mut padded, 0, term);
     let key = part(&padded, 0, kind.width());
-    let leaf = leaf_for(&nodes, key, tree.root)?;
+    let leaf = leaf_for(&nodes, key, NODES_MOST, tree.root)?;
     leaf_answer(&leaves, key, leaf)
 }
 

@@ -7,8 +7,8 @@ use mathlib.Core.List.{List, ◌++◌}
 use lib.ListN.{length, get_or, take, drop}
 use lib.Seq.{get_or-take, get_or-drop}
 use Rattle.word.specs.Integer.{u16_at, u32_at, le}
-use Rattle.word.specs.Overwrite.{overwrite, part}
-use Rattle.word.proofs.Overwrite.{part_add, overwrite_next}
+use Rattle.word.specs.Overwrite.{part}
+use Rattle.word.proofs.Overwrite.{part_add}
 use Rattle.word.proofs.Integers.{Bytes, u16_same, u32_same, u32_le, u16_le_at, u32_le_at, u16_back, u32_back}
 use Rattle.layout.specs.Leader.{leader_bytes, leader_of}
 use Rattle.layout.specs.declared.leader.Leader.{Leader}
@@ -106,27 +106,3 @@ bytes_of_leader s small h =
     (u16_back s 14 small (omega arith))
     (u16_back s 16 small (omega arith))
     ∙ sym (parts s)
-
--- ---- a leader put field by field, each behind the one before
-
-pub leader_put : (s a b c d e f g : List ℕ) (l : Leader) → a ≡ overwrite s 0 (le 4 l.mfn.0) → b ≡ overwrite a 4 (le 2 l.mfrl)
-    → c ≡ overwrite b 6 (le 4 l.mfbwb.0) → d ≡ overwrite c 10 (le 2 l.mfbwp) → e ≡ overwrite d 12 (le 2 l.base)
-    → f ≡ overwrite e 14 (le 2 l.nvf) → g ≡ overwrite f 16 (le 2 l.status) → g ≡ overwrite s 0 (leader_bytes l)
-unfolding leader_bytes
-leader_put s a b c d e f g l p q r t u v w =
-    let z : 0 ≤ length s = omega arith in
-    rw (
-      w,
-      v,
-      u,
-      t,
-      r,
-      q,
-      p,
-      overwrite_next s 0 (le 4 l.mfn.0) (le 2 l.mfrl) z,
-      overwrite_next s 0 (le 4 l.mfn.0 ++ le 2 l.mfrl) (le 4 l.mfbwb.0) z,
-      overwrite_next s 0 (le 4 l.mfn.0 ++ le 2 l.mfrl ++ le 4 l.mfbwb.0) (le 2 l.mfbwp) z,
-      overwrite_next s 0 (le 4 l.mfn.0 ++ le 2 l.mfrl ++ le 4 l.mfbwb.0 ++ le 2 l.mfbwp) (le 2 l.base) z,
-      overwrite_next s 0 (le 4 l.mfn.0 ++ le 2 l.mfrl ++ le 4 l.mfbwb.0 ++ le 2 l.mfbwp ++ le 2 l.base) (le 2 l.nvf) z,
-      overwrite_next s 0 (le 4 l.mfn.0 ++ le 2 l.mfrl ++ le 4 l.mfbwb.0 ++ le 2 l.mfbwp ++ le 2 l.base ++ le 2 l.nvf) (le 2 l.status) z,
-    )

@@ -55,15 +55,18 @@ pub fn open_gate(mst: &[u8], xrf: &[u8]) -> Result<Control, Refusal>
     files::control::read_control(mst, capacity).ok_or(Refusal::BadControl)
 }
 
-// The place of an entry that has one.
+// The place of an entry that has one; of the two other kinds each has its refusal.
 fn place_of(entry: Entry) -> Result<Place, Refusal>
     ensures { result ≡ place_given entry }
 {
-    match entry {
-        Entry::Gone => Err(Refusal::Gone),
-        Entry::Malformed => Err(Refusal::BadEntry),
-        Entry::At(place) => Ok(place),
-    }
+    let Entry::At(place) = entry else {
+        return Err(if matches!(entry, Entry::Gone) {
+            Refusal::Gone
+        } else {
+            Refusal::BadEntry
+        });
+    };
+    Ok(place)
 }
 
 // Whether the back pointer is right, and under the changed mark not the record's own place.
