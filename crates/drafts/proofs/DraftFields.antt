@@ -4,16 +4,15 @@ use Prim.Native.Nat.{ℕ, zero, suc, ◌+◌, ◌*◌, ◌%◌, ◌<◌, ◌≤�
 use native.Mathlib.Nat.{add-zero, zero-add, add_assoc, add-le-add, le_refl, le_of_suc-le-suc, not-suc-le-zero}
 use native.Mathlib.Numerals.{add-one}
 use native.Mathlib.Omega.{arith}
-use mathlib.Core.Path.{◌≡◌, refl}
+use mathlib.Core.Path.{◌≡◌, refl, ap}
 use mathlib.Core.Bool.{false, and-false}
 use mathlib.Core.List.{List, [], ◌∷◌, ◌++◌}
 use lib.ListN.{length, get_or, take, drop, length-drop}
-use lib.Seq.{length-take-le}
+use lib.Seq.{length-take-le, take_all}
 use borrow.Author.Tests.{lt-leb}
 use Rattle.layout.specs.Sizes.{record_most, fields_most, tag_permitted}
 use Rattle.drafts.specs.Draft.{sum, tags_permitted, need_of, draft_right, draft_fields}
-use Rattle.std.specs.List.{list_all, sum as total_of}
-use Rattle.std.proofs.lemmas.List.Sums.{sum_by-cons}
+use Rattle.std.specs.List.{list_all}
 use Rattle.drafts.specs.Bytes.{entry_bytes, directory_bytes}
 
 -- ---- sums
@@ -36,11 +35,12 @@ sum_take_le (suc i) (n ∷ ns) = add-le-add (le_refl n) (sum_take_le i ns)
 pub total_more : (ns : List ℕ) (s i : ℕ) → s ≡ sum (take i ns) → i < length ns → s + get_or ns i 0 ≡ sum (take (i + 1) ns)
 total_more ns s i inv h = omega (arith, sum_more i ns h)
 
--- it is the library's
-pub sum_is : (ns : List ℕ) → sum ns ≡ total_of ns
+pub sum_none : 0 ≡ sum []
 unfolding sum
-sum_is [] = refl
-sum_is (n ∷ ns) = rw (sum_by-cons (λ (x : ℕ). x) n ns, sum_is ns)
+sum_none = refl
+
+pub sum_whole : (ns : List ℕ) → sum (take (length ns) ns) ≡ sum ns
+sum_whole ns = ap sum (take_all (length ns) ns (le_refl (length ns)))
 
 -- ---- tags
 

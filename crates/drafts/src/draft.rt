@@ -7,21 +7,30 @@ ghost use Rattle.drafts.specs.Lent.{lent};
 
 use layout::sizes::{FIELDS_MOST, RECORD_MOST, Tag};
 
-// The sum of the lengths.
-#[tactic(auto, using(crate::proofs::DraftFields::sum_is))]
+// The sum of the lengths. By index: a chain over the slice, compiled for a key's core, whose addresses
+// have 32 bits, refused every draft with a field (`board/tests`).
+#[tactic(auto, using(crate::proofs::DraftFields::total_more, crate::proofs::DraftFields::sum_whole))]
 fn total(lens: &[u16]) -> usize
     requires { length lens.now ≤ fields_most }
     ensures { result ≡ sum lens.now }
 {
-    lens.iter().map(|&len| usize::from(len)).sum()
+    let mut total = 0;
+    for i in 0..lens.len() {
+        total += usize::from(lens[i]);
+    }
+    total
 }
 
-// Whether every tag is in range.
+// Whether every tag is in range. By index, likewise.
 fn tags_permitted(tags: &[u16]) -> bool
     ensures { result ≡ list_all tag_permitted tags.now }
 {
-    tags.iter()
-        .all(|&tag| layout::sizes::tag_permitted(Tag(tag)))
+    for i in 0..tags.len() {
+        if !layout::sizes::tag_permitted(Tag(tags[i])) {
+            return false;
+        }
+    }
+    true
 }
 
 // The bytes that a record of so many fields and so much data needs.
