@@ -88,10 +88,6 @@ unfolding posting_at quad_at items
 posting_high s at =
     rw (add_assoc at 1 1, add_assoc at 2 1, add_assoc at 3 1, add_assoc at 4 1, add_assoc at 4 2, add_assoc at 4 3, add_assoc at 5 1, add_assoc at 6 1) (omega arith)
 
-quad_high : (s : List ℕ) (at : ℕ) → quad_at s at ≡ high_first 0 (items s at 4)
-unfolding quad_at items
-quad_high s at = rw (add_assoc at 1 1, add_assoc at 2 1) (omega arith)
-
 module _ (s : List ℕ) (b : Bytes s) where
   quad_small : (at : ℕ) → quad_at s at < 4294967296
   unfolding quad_at

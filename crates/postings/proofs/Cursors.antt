@@ -110,9 +110,6 @@ pub record Moved (f : List ℕ) (start c : Cursor) : Type 0 where
   pub rest : rest_of f c ≡ rest_of f start
   pub right : stands_right f c ≡ stands_right f start
 
-pub moved_none : (f : List ℕ) (start : Cursor) → InBlock f start → Moved f start start
-moved_none f start b = record { in_block = b; rest = refl; right = refl }
-
 module _ (f : List ℕ) (start c : Cursor) (m : Moved f start c) where
   pub settle_on : (c.left ≡ 0 → ⊥) → Reached f start c
   settle_on n = record { some = omega (arith, n); in_block = m.in_block; rest = m.rest; right = m.right }

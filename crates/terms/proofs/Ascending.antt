@@ -1,6 +1,6 @@
 -- The turns of the loop that asks whether keys ascend.
-use Prim.Native.Nat.{ℕ, suc, ◌+◌, ◌*◌, ◌-◌, ◌<◌, ◌≤◌}
-use native.Mathlib.Nat.{suc-mul, add-zero, mul-le-mul_right}
+use Prim.Native.Nat.{ℕ, suc, ◌+◌, ◌-◌, ◌≤◌}
+use native.Mathlib.Nat.{add-zero}
 use native.Mathlib.Omega.{arith}
 use mathlib.Core.Path.{◌≡◌, refl, sym, ap, ◌∙◌}
 use mathlib.Core.Bool.{Bool, true, false, ◌&&◌}
@@ -9,12 +9,6 @@ use Rattle.word.specs.Overwrite.{part}
 use Rattle.word.proofs.Overwrite.{part_part}
 use Rattle.terms.specs.Key.{below, ascending, ascending_after}
 use Rattle.terms.specs.Inner.{big, keys_run}
-
--- the key behind the one at `key`, which is key i - 1, lies in the file
-pub next_in : (at step i count size key : ℕ) → key + step ≡ at + i * step → i < count → at + count * step ≤ size → key + step + step ≤ size
-next_in at step i count size key e h l =
-    let m : suc i * step ≤ count * step = mul-le-mul_right step h in
-    omega (arith, suc-mul i step)
 
 -- the number of a key's first 8 bytes, of the key alone
 pub front_big : (f : List ℕ) (at width x : ℕ) → 8 ≤ width → x ≡ big (part f at 8) → x ≡ big (part (part f at width) 0 8)
