@@ -214,13 +214,13 @@ pub overwrite_more : (d : List ℕ) (at : ℕ) (xs : List ℕ) (v : ℕ) → at 
 overwrite_more d at xs v h =
     overwrite_one (overwrite d at xs) (at + length xs) v (rw (overwrite_length d at xs (omega arith)) h) ∙ overwrite_next d at xs (v ∷ []) (omega arith)
 
--- the next turn of a copy of s: its first i bytes are written, and byte i is stored behind them
-pub copy_more : {cur : List ℕ} (d : List ℕ) (at i : ℕ) (s : List ℕ) → cur ≡ overwrite d at (take i s) → i < length s → at + length s ≤ length d
-    → set cur (at + i) (get_or s i 0) ≡ overwrite d at (take (i + 1) s)
-copy_more d at i s e h k =
-    let n : length (take i s) ≡ i = length-take-le i s (omega arith) in
-    let m : set (overwrite d at (take i s)) (at + i) (get_or s i 0) ≡ overwrite d at (take i s ++ (get_or s i 0 ∷ [])) =
-        ap (λ j. set (overwrite d at (take i s)) (at + j) (get_or s i 0)) (sym n) ∙ overwrite_more d at (take i s) (get_or s i 0) (omega arith) in
+-- the next turn of a copy of s over d: its first i bytes are written, and byte i is stored behind them
+pub copy_more : {cur : List ℕ} (d s : List ℕ) (i : ℕ) → cur ≡ overwrite d 0 (take i s) → i < length s → length s ≤ length d
+    → set cur i (get_or s i 0) ≡ overwrite d 0 (take (i + 1) s)
+copy_more d s i e h k =
+    let n : 0 + length (take i s) ≡ i = omega (arith, length-take-le i s (omega arith)) in
+    let m : set (overwrite d 0 (take i s)) i (get_or s i 0) ≡ overwrite d 0 (take i s ++ (get_or s i 0 ∷ [])) =
+    ap (λ j. set (overwrite d 0 (take i s)) j (get_or s i 0)) (sym n) ∙ overwrite_more d 0 (take i s) (get_or s i 0) (omega arith) in
     rw (e, add-one, take-suc s i 0 h) m
 
 -- ---- a lent part of a slice, as the borrow checker has it: mid_of a k d is lent, and when it is back with ys the slice is put_mid a k d ys

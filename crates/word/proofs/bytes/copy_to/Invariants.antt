@@ -5,4 +5,4 @@ use Rattle.word.specs.Overwrite.{overwrite}
 use Rattle.word.proofs.bytes.copy_to.Given as goal
 
 abbrev pub invariant-loop-i : goal.invariant-loop-i
-invariant-loop-i l = (length l.d ≡ length l.initial.d) × (l.d ≡ overwrite l.initial.d l.at (take l.i l.src))
+invariant-loop-i l = (length l.to ≡ length l.src) × (l.to ≡ overwrite l.initial.to 0 (take l.i l.src))
