@@ -46,11 +46,11 @@
  * The one for x86-64 is compiled for x86-64-v2: the processor has SSE4.2 and POPCNT.
  * Lengths have 64 bits on every one of them, see isis_size. What it needs from
  * the program that it is linked into:
- *   x86-64     memcpy memmove memset
- *   aarch64    memcpy memmove memset
- *   cortex-m0  __aeabi_lmul __aeabi_memclr __aeabi_memcpy __aeabi_memmove __aeabi_uidiv __aeabi_uldivmod
- *   cortex-m3  __aeabi_memclr __aeabi_memcpy __aeabi_memmove __aeabi_uldivmod
- *   cortex-m4  __aeabi_memclr __aeabi_memcpy __aeabi_memmove __aeabi_uldivmod
+ *   x86-64     memcpy memset
+ *   aarch64    memcpy memset
+ *   cortex-m0  __aeabi_lmul __aeabi_memclr __aeabi_memcpy __aeabi_uidiv __aeabi_uldivmod
+ *   cortex-m3  __aeabi_memclr __aeabi_memcpy __aeabi_uldivmod
+ *   cortex-m4  __aeabi_memclr __aeabi_memcpy __aeabi_uldivmod
  * The C library and the compiler's own have them. The code for cortex-m3 and
  * cortex-m4 reads and writes words at any address, so UNALIGN_TRP stays 0, as it
  * is after reset.

@@ -30,4 +30,8 @@ module _ (mst xrf : List ℕ) (m : ℕ) (r : Result Reached Refusal) (p : r ≡ 
       let f = (reached_facts mst xrf m t (sym p ∙ q)).1 in
       rw (f.gate.lengths, f.gate.control, f.found.known, f.found.entry, f.found.record_fine_lem)
 
+-- the same of a refusal that a `match` or an `if let` took out
+pub state_told_refused : (mst xrf : List ℕ) (m : ℕ) (e : Refusal) → Err e ≡ reached_of (store mst xrf) m → state_told (Err e) ≡ state_of (store mst xrf) m
+state_told_refused mst xrf m e p = state_refused mst xrf m (Err e) p e refl
+
 pub ruleset state_answers = (state_refused, state_found)

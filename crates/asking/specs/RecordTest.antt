@@ -1,8 +1,7 @@
 -- The record test on one record alone. Request C-16. A record is read from its first byte up to the
 -- store's end; its back pointer is not asked, since that needs the mark and the addresses.
 use Rattle.std.specs.Prelude.{ℕ, Bool, not, cond, List, eqb, Result, Ok, Err}
-use Rattle.record.specs.Record.{record_right, broken_entry}
-use Rattle.record.specs.Inner.{number_told}
+use Rattle.record.specs.Record.{record_right, broken_entry, number_told}
 use Rattle.record.specs.declared.test.Broken.{Broken}
 use Rattle.store.specs.Answer.{Answer}
 use Rattle.store.specs.declared.answer.Refusal.TheVariants.{BadRecord}

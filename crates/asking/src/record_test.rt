@@ -1,7 +1,7 @@
 // The record test on one record alone, for who has its bytes and no card: which entry of its
 // directory breaks a rule.
 ghost use Rattle.std.specs.Prelude.{◌≡◌};
-ghost use Rattle.record.specs.Inner.{number_told};
+ghost use Rattle.record.specs.Record.{number_told};
 ghost use Rattle.asking.specs.RecordTest.{tested, record_test_of};
 
 use layout::sizes::Mfn;

@@ -25,6 +25,7 @@ pub fn next_free(mst: &[u8], xrf: &[u8]) -> Result<Control, Refusal>
 }
 
 // How the record of MFN `m` stands.
+#[tactic(auto, using(crate::proofs::StateAnswers::state_told_refused))]
 pub fn state(mst: &[u8], xrf: &[u8], m: Mfn) -> Result<Standing, Refusal>
     ensures { state_told result ≡ state_of (store mst.now xrf.now) m.0 }
 {

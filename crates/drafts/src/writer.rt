@@ -1,5 +1,5 @@
 // The record writer: leader, directory, data and zeros, into the front of a lent slice.
-ghost use Rattle.std.specs.Prelude.{◌≡◌, true, ◌+◌, ◌*◌, ◌≤◌, length, replicate};
+ghost use Rattle.std.specs.Prelude.{◌≡◌, true, [], ◌∷◌, ◌+◌, ◌*◌, ◌≤◌, ◌<◌, length, replicate};
 ghost use Rattle.word.specs.Overwrite.{overwrite};
 ghost use Rattle.layout.specs.Sizes.{fields_most};
 ghost use Rattle.layout.specs.Leader.{leader_of};
@@ -83,6 +83,15 @@ pub fn used_by(rec: &[u8]) -> usize
     ensures { (result ≡ used_by (fields_of rec.now)) × (18 ≤ result) × (result ≤ (leader_of rec.now).mfrl) }
 {
     usize::from(word::integer::u16_at(rec, 12)) + record::fields::data_length(rec)
+}
+
+// Writes one byte of a record.
+#[tactic(auto, using(word::proofs::Overwrite::overwrite_one))]
+pub fn put_byte(out: &mut [u8], at: usize, b: u8)
+    requires { at < length out.old }
+    ensures { out.new ≡ overwrite out.old at (b ∷ []) }
+{
+    out[at] = b;
 }
 
 // Rewrites the record at the front of `rec` in place, with its own fields, under the leader `l`.

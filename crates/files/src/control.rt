@@ -68,6 +68,7 @@ fn end_right(mst: &[u8], rule: Rule) -> bool
 }
 
 // Whether the control record is right by a rule, for a capacity.
+#[inline(always)]
 #[tactic(auto, using(crate::proofs::Answers::control_short), unfolding(crate::specs::Control::control_right_from))]
 fn control_right(mst: &[u8], capacity: usize, rule: Rule) -> bool
     ensures { result ≡ control_right_from (offsets_by rule) mst.now capacity }

@@ -90,19 +90,24 @@ fn last_punt(nodes: &Nodes, key: &[u8], n: u32) -> Option<u32>
     None
 }
 
-// The leaf that the way from node `n` leads to, over at most `left` nodes.
+// Where the way from node `n` ends, over at most `left` nodes: the leaf that it leads to, or why it leads to none. That stands in `end`, whose place is handed on
+// from node to node, so that the compiler makes a loop of the recursion: a `Result` given back would take stack for each node again.
 #[tactic(auto, using(crate::proofs::Shapes::node_record, crate::proofs::Finding::way_none, crate::proofs::Finding::way_broken, crate::proofs::Finding::way_absent, crate::proofs::Finding::way_leaf, crate::proofs::Finding::way_node))]
-fn leaf_for(nodes: &Nodes, key: &[u8], left: u32, n: u32) -> Result<u32, Refusal>
+fn leaf_for(nodes: &Nodes, key: &[u8], left: u32, n: u32, end: &mut Result<u32, Refusal>)
     requires { length key.now ≡ nodes.now.shape.width }
-    ensures { result ≡ way_end nodes.now.file.now nodes.now.shape key.now left n }
+    ensures { end.new ≡ way_end nodes.now.file.now nodes.now.shape key.now left n }
 {
     if left == 0 || !nodes.keeps_node_rules(n) {
-        return Err(Refusal::BadIndex);
+        *end = Err(Refusal::BadIndex);
+        return;
     }
-    let punt = last_punt(nodes, key, n).ok_or(Refusal::NoTerm)?;
+    let Some(punt) = last_punt(nodes, key, n) else {
+        *end = Err(Refusal::NoTerm);
+        return;
+    };
     match child_of(punt) {
-        Child::Node(next) => leaf_for(nodes, key, left - 1, next),
-        Child::Leaf(leaf) => Ok(leaf),
+        Child::Node(next) => leaf_for(nodes, key, left - 1, next, end),
+        Child::Leaf(leaf) => *end = Ok(leaf),
     }
 }
 
@@ -124,7 +129,9 @@ fn lookup_in(index: &Index, kind: Kind, term: &[u8]) -> Result<Place, Refusal>
     let mut padded = [SPACE; TERM_MOST];
     copy_to(&mut padded, 0, term);
     let key = part(&padded, 0, kind.width());
-    let leaf = leaf_for(&nodes, key, NODES_MOST, tree.root)?;
+    let mut end = Err(Refusal::BadIndex);
+    leaf_for(&nodes, key, NODES_MOST, tree.root, &mut end);
+    let leaf = end?;
     leaf_answer(&leaves, key, leaf)
 }
 

@@ -7,8 +7,8 @@ use Rattle.std.proofs.Common.{Option, Some, None, Ok, Err}
 use Rattle.index.specs.declared.layout.Tree.{Tree}
 use Rattle.index.specs.Layout.{nodes_most}
 use Rattle.index_check.specs.Walk.{walk}
-use Rattle.index_check.specs.Sound.{tree_sound}
-use Rattle.index_check.specs.Passes.{Progress, pass, ended, tree_with, verdict}
+use Rattle.index_check.specs.Sound.{tree_sound, verdict}
+use Rattle.index_check.specs.Passes.{Progress, pass, ended, tree_with}
 use Rattle.index_check.specs.declared.check.BadIndex.{BadIndex}
 use Rattle.index_check.proofs.Passing.{pass_rootless}
 use Rattle.index_check.proofs.Sound.{pass_sound}

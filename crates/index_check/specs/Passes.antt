@@ -3,22 +3,18 @@
 use Rattle.std.specs.Prelude.{ℕ, ◌+◌, ◌-◌, ◌≤◌, Bool, true, false, ◌&&◌, cond, List, [], ◌∷◌, eqb, length, Option, Some, None, Result, Ok, Err}
 use Rattle.word.specs.Overwrite.{part}
 use Rattle.terms.specs.Key.{below, ascending}
-use Rattle.index.specs.Files.{Index}
 use Rattle.index.specs.Shape.{Shape}
 use Rattle.index.specs.Layout.{ock_at, key_place, key_at, ps_at, keys_of}
 use Rattle.index.specs.Rules.{record_right, node_right}
 use Rattle.index.specs.Reading.{Met, Node, Leaf, TooDeep}
 use Rattle.index.specs.declared.layout.Tree.{Tree}
-use Rattle.index_check.specs.Sound.{pointers_right, sound_of}
+use Rattle.index_check.specs.Sound.{pointers_right, broken}
 use Rattle.index_check.specs.declared.check.After.{After}
 use Rattle.index_check.specs.declared.check.BadIndex.{BadIndex}
 
 -- how far a pass is: stopped at a broken rule, before the first leaf, or after a leaf
 abbrev pub Progress : Type 0
 Progress = Result (Option After) BadIndex
-
-abbrev pub broken : BadIndex
-broken = record {}
 
 abbrev pub stopped : Progress
 stopped = Err broken
@@ -70,11 +66,3 @@ module _ (nodes leaves : List ℕ) (t : Tree) where
 -- the tree of two files' records; its root is of no account to a pass
 abbrev pub tree_with : Shape → Shape → Tree
 tree_with nodes leaves = record { nodes = nodes; leaves = leaves; root = 0 }
-
--- ---- the verdict
-
-abbrev pub verdict : Bool → Result Unit BadIndex
-verdict b = cond b (Ok tt) (Err broken)
-
-abbrev pub check_of : Index → Result Unit BadIndex
-check_of x = verdict (sound_of x)

@@ -1,6 +1,6 @@
 -- The sound index, sentence by sentence. Document 02, C-11: "in both trees no rule of 21 is broken, keys ascend strictly in nodes and along the leaves, each
 -- pointer's key is its target's first, and the walk from each root meets no leaf twice, in successor order, the last one's successor 0".
-use Rattle.std.specs.Prelude.{ℕ, zero, suc, Bool, true, false, not, ◌&&◌, cond, List, [], ◌∷◌, eqb, Option, Some, None}
+use Rattle.std.specs.Prelude.{ℕ, zero, suc, Bool, true, false, not, ◌&&◌, cond, List, [], ◌∷◌, eqb, Option, Some, None, Result, Ok, Err}
 use Rattle.terms.specs.Key.{same, ascending}
 use Rattle.terms.specs.declared.term.Kind.{Kind}
 use Rattle.terms.specs.declared.term.Kind.TheVariants.{Short, Long}
@@ -12,6 +12,7 @@ use Rattle.index.specs.Reading.{Met, Node, Leaf, TooDeep, leaves_among}
 use Rattle.index.specs.Shape.{Shape}
 use Rattle.index.specs.declared.layout.Tree.{Tree}
 use Rattle.index_check.specs.Walk.{met, keys_along}
+use Rattle.index_check.specs.declared.check.BadIndex.{BadIndex}
 
 -- ---- of each that is met
 
@@ -99,6 +100,16 @@ sound_in x kind = tree_sound (nodes_in x kind) (leaves_in x kind) (part_of x.cnt
 unfoldable pub sound_of : Index → Bool
 sound_of x = sound_in x Short && sound_in x Long
 
--- 0, or 21
+-- what the check gives: nothing, or that a rule is broken
+abbrev pub broken : BadIndex
+broken = record {}
+
+abbrev pub verdict : Bool → Result Unit BadIndex
+verdict b = cond b (Ok tt) (Err broken)
+
+abbrev pub check_of : Index → Result Unit BadIndex
+check_of x = verdict (sound_of x)
+
+-- its number: 0, or 21
 abbrev pub index_answer : Index → ℕ
 index_answer x = cond (sound_of x) 0 21

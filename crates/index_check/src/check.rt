@@ -7,8 +7,8 @@ ghost use Rattle.index.specs.Files.{nodes_in, leaves_in};
 ghost use Rattle.index.specs.Layout.{keys_of};
 ghost use Rattle.index.specs.Rules.{record_right, part_of};
 ghost use Rattle.index_check.specs.Walk.{walk};
-ghost use Rattle.index_check.specs.Sound.{begins, tree_sound};
-ghost use Rattle.index_check.specs.Passes.{follows, leaf_step, pass, Reached, tree_with, verdict, check_of};
+ghost use Rattle.index_check.specs.Sound.{begins, tree_sound, verdict, check_of};
+ghost use Rattle.index_check.specs.Passes.{follows, leaf_step, pass, Reached, tree_with};
 
 use index::files::Index;
 use index::layout::read_part;

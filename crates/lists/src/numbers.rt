@@ -10,19 +10,28 @@ pub struct Numbers<'a> {
 }
 
 impl<'a> Numbers<'a> {
-    // The next number; none at the end of the text.
+    // The next number; none at the end of the text, of which nothing is left then.
     pub fn next_number(&mut self) -> Option<u32>
         ensures some { IfSome result (λ _. length self.new.text.now < length self.old.text.now) }
-        ensures none { IfNone result (length self.new.text.now ≤ length self.old.text.now) }
+        ensures none { IfNone result (length self.new.text.now ≡ 0) }
     {
-        let start = self.text.iter().position(|b| b.is_ascii_digit())?;
+        let Some(start) = self.text.iter().position(|b| b.is_ascii_digit()) else {
+            self.text = &[];
+            return None;
+        };
         let behind = &self.text[start + 1..];
-        let end = behind.iter().position(|b| !b.is_ascii_digit());
-        let more = end.unwrap_or(behind.len());
-        let digits = &self.text[start..=start + more];
-        self.text = &behind[more..];
-        let values = digits.iter().filter_map(|&b| char::from(b).to_digit(10));
-        Some(values.fold(0, |n: u32, d| n.saturating_mul(10).saturating_add(d)))
+        let mut number = u32::from(self.text[start] - b'0');
+        for (i, b) in behind.iter().enumerate() {
+            if !b.is_ascii_digit() {
+                self.text = &behind[i..];
+                return Some(number);
+            }
+            number = number
+                .saturating_mul(10)
+                .saturating_add(u32::from(b - b'0'));
+        }
+        self.text = &[];
+        Some(number)
     }
 
     // The next number; 0 at the end of the text.

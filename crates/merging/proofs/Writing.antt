@@ -1,8 +1,8 @@
 -- What a turn writes: the MFN that it gives, or, where it gives none, the one that stands there.
-use Prim.Native.Nat.{ℕ, ◌+◌, ◌-◌, ◌≤◌, ◌<◌}
+use Prim.Native.Nat.{ℕ, ◌+◌, ◌*◌, ◌-◌, ◌≤◌, ◌<◌}
 use native.Mathlib.Omega.{arith}
 use mathlib.Core.Path.{◌≡◌, refl, sym, ap, ◌∙◌}
-use mathlib.Core.Bool.{Bool, true, false, cond, true≢false}
+use mathlib.Core.Bool.{Bool, true, false, ◌&&◌, cond, true≢false}
 use mathlib.Core.List.{List, ◌∷◌}
 use lib.ListN.{length, get_or, set}
 use lib.Seq.{set-get_or, get_or-set_same}
@@ -14,6 +14,12 @@ use Rattle.merging.proofs.Taking.{Took, took_index, took_put, took_counted}
 pub bit_small : (b : Bool) → bit b ≤ 1
 bit_small true = omega arith
 bit_small false = omega arith
+
+pub bit_times : (a b : Bool) → bit a * bit b ≡ bit (a && b)
+bit_times true true = refl
+bit_times true false = refl
+bit_times false true = refl
+bit_times false false = refl
 
 -- where all MFNs of either list are put, the last one stands before the place of the next
 abbrev pub Held : Bool → Bool → ℕ → List ℕ → ℕ → Type 0

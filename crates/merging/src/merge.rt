@@ -11,7 +11,7 @@ ghost use Rattle.merging.specs.Calls.{both_of, mfns_given, mfns_out};
 use posting::answer::Refusal;
 use posting::codec::mfn_at;
 use postings::cursor::{Cursor, past, run_size, settle};
-use postings::list::{open, right};
+use postings::list::{find, right};
 use postings::segment::Place;
 
 // Which MFNs of two lists are asked for.
@@ -200,8 +200,8 @@ pub fn mfns(ifp: &[u8], a: Place, b: Place, which: Which, out: &mut [u32]) -> Re
     ensures answers { given result ≡ mfns_given (both_of which) ifp.now a.block a.word b.block b.word out.old }
     ensures writes { out.new ≡ mfns_out (both_of which) ifp.now a.block a.word b.block b.word out.old }
 {
-    let x = open(ifp, a)?;
-    let y = open(ifp, b)?;
+    let x = find(ifp, a)?;
+    let y = find(ifp, b)?;
     if !right(ifp, x) || !right(ifp, y) {
         return Err(Refusal::Broken);
     }

@@ -35,7 +35,7 @@ impl Posting {
     }
 }
 
-// The posting at `at`. One load and one exchange of bytes, to the compiler.
+// The posting at `at`: the number of its eight bytes, the highest first. On x86-64 the compiler makes one load and one exchange of them.
 #[tactic(auto, unfolding(crate::specs::Posting::posting_at, crate::specs::Posting::quad_at))]
 pub fn posting_at(s: &[u8], at: usize) -> u64
     requires { at + 8 ≤ length s.now }

@@ -6,8 +6,11 @@ use mathlib.Core.Bool.{Bool, true, false, ◌&&◌, cond, and-false}
 use mathlib.Core.List.{List, ◌∷◌}
 use lib.ListN.{length}
 use borrow.Author.Tests.{lt-ltb, le-ltb, eqb-true}
-use Rattle.word.proofs.Tests.{and_iff}
-use Rattle.std.proofs.Common.{Option, Some, None}
+use Rattle.word.proofs.Tests.{false_true, and_iff}
+use Rattle.std.proofs.Common.{Option, Some, None, Result, Ok, Err, IfOk, IfErr}
+use Rattle.std.specs.Result.{result_unwrap_or}
+use Rattle.posting.specs.declared.answer.Refusal.{Refusal}
+use Rattle.posting.specs.declared.answer.Refusal.TheVariants as refusals
 use Rattle.postings.specs.declared.segment.Place.{Place}
 use Rattle.postings.specs.Segment.{is_end, next_of, total_of, count_of, first_of, header_inside, count_right, header_of, run_inside}
 use Rattle.postings.specs.Rules.{words_of, segments_from, ends_within, postings_of, headers_inside, counts_right, postings_inside, ascends, total_right, list_of, list_right}
@@ -15,7 +18,7 @@ use Rattle.postings.specs.Cursor.{segments_after, segments_right, rest_of, stand
 use Rattle.postings.specs.declared.segment.Segment.{Segment}
 use Rattle.postings.specs.declared.list.Opened.{Opened}
 use Rattle.postings.proofs.Headers.{header_told, header_none, header_facts, segment_of}
-use Rattle.postings.proofs.Cursors.{shuffle, first_in_block}
+use Rattle.postings.proofs.Cursors.{shuffle, first_in_block, over_rest}
 
 -- the segments of a list, of which the first is p
 module _ (f : List ℕ) (p : Place) (k : ℕ) (w : words_of f ≡ suc k) where
@@ -64,7 +67,7 @@ list_total : (f : List ℕ) (p : Place) → 2147483648 ≤ total_of f p → list
 unfolding list_right total_right
 list_total f p h = rw (le-ltb _ _ h, and-false)
 
--- ---- the ways through `open`
+-- ---- the ways through `find`
 
 abbrev opened_of : List ℕ → Segment → Opened
 opened_of f s =
@@ -111,6 +114,32 @@ module _ (f : List ℕ) (p : Place) (h : Option Segment) (r : h ≡ header_of f 
           right = ap (λ (x : Segment). keeps_rules f (opened_of f x).cursor x.total 0) (sym e) ∙ opened_right (omega arith);
           rest = λ _. ap (λ (x : Segment). rest_of f (opened_of f x).cursor) (sym e) ∙ opened_rest;
         }
+
+-- ---- `open`, also where no list is found
+
+-- what keeps no rule
+abbrev Broken : Opened → Type 0
+Broken o = (o.total ≡ 1) × (o.cursor.left ≡ 0) × (o.cursor.next.block ≡ 0) × (o.cursor.next.word ≡ 0) × (o.cursor.at ≡ 0)
+
+broken_keeps : (f : List ℕ) (o : Opened) → Broken o → keeps_rules f o.cursor o.total 0 ≡ false
+unfolding keeps_rules
+broken_keeps f o b =
+    let e : is_end o.cursor.next ≡ true = rw (b.2, b.3) in
+    rw (over_rest f o.cursor b.1 e, b.0, and-false)
+
+opened_broken : (f : List ℕ) (p : Place) (o : Opened) → Broken o → list_right f p ≡ false → OpensList f p o
+opened_broken f p o b l =
+    record {
+      in_block = (omega (arith, b.4), omega (arith, b.4));
+      right = rw l (broken_keeps f o b);
+      rest = λ t. absurd (false_true (sym l ∙ t));
+    }
+
+-- the list that was found, or else what keeps no rule
+pub found_or : (f : List ℕ) (p : Place) (r : Result Opened Refusal) (o x : Opened) → x ≡ result_unwrap_or r o → IfOk r (OpensList f p)
+    → IfErr r (λ (e : Refusal). (e ≡ refusals.Broken) × (list_right f p ≡ false)) → Broken o → OpensList f p x
+found_or f p (Ok found) o x e t _ _ = rw e t
+found_or f p (Err r) o x e _ b k = rw e (opened_broken f p o k b.1)
 
 -- ---- an opened list that is asked the rules
 

@@ -3,7 +3,7 @@
 ghost use Rattle.std.specs.Prelude.{◌≡◌, true, false, ◌&&◌, suc, ◌+◌, ◌*◌, ◌≤◌, ◌<◌, leb, length, IfOk, IfErr};
 ghost use Rattle.word.specs.Overwrite.{overwrite};
 ghost use Rattle.posting.specs.declared.answer.Refusal.TheVariants.{Broken};
-ghost use Rattle.postings.specs.Rules.{above, list_right};
+ghost use Rattle.postings.specs.Rules.{above, list_of, list_right};
 ghost use Rattle.postings.specs.Cursor.{InBlock, rest_of, stands_right, keeps_rules, floor_of, row, OpensList};
 ghost use Rattle.postings.specs.Calls.{given, postings_given, postings_out};
 
@@ -19,8 +19,8 @@ pub struct Opened {
     pub cursor: Cursor,
 }
 
-// Opens the list at a place, if its first header can be read and has a total.
-pub fn open(ifp: &[u8], place: Place) -> Result<Opened, Refusal>
+// Finds the list at a place, if its first header can be read and has a total.
+pub fn find(ifp: &[u8], place: Place) -> Result<Opened, Refusal>
     ensures opens { IfOk result (OpensList ifp.now place) }
     ensures broken { IfErr result (λ r. (r ≡ Broken) × (list_right ifp.now place ≡ false)) }
 {
@@ -36,6 +36,23 @@ pub fn open(ifp: &[u8], place: Place) -> Result<Opened, Refusal>
         }),
         _ => Err(Refusal::Broken),
     }
+}
+
+// Opens the list at a place. One that is not found is a list that keeps no rule: its total promises a posting, and there is none.
+pub fn open(ifp: &[u8], place: Place) -> Opened
+    ensures right { keeps_rules ifp.now result.cursor result.total 0 ≡ list_right ifp.now place }
+    ensures rest { list_right ifp.now place ≡ true → rest_of ifp.now result.cursor ≡ list_of ifp.now place }
+    ensures stands { InBlock ifp.now result.cursor }
+{
+    find(ifp, place).unwrap_or(Opened {
+        total: 1,
+        cursor: Cursor {
+            at: 0,
+            left: 0,
+            next: Place { block: 0, word: 0 },
+            fuel: 0,
+        },
+    })
 }
 
 // Whether a posting may come after the last one, if there is one.
@@ -154,7 +171,7 @@ pub fn postings(ifp: &[u8], place: Place, out: &mut [u64]) -> Result<usize, Refu
     ensures answers { given result ≡ postings_given ifp.now place.block place.word out.old }
     ensures writes { out.new ≡ postings_out ifp.now place.block place.word out.old }
 {
-    let list = open(ifp, place)?;
+    let list = find(ifp, place)?;
     if !right(ifp, list) {
         return Err(Refusal::Broken);
     }

@@ -12,8 +12,8 @@ use Rattle.layout.specs.declared.leader.Leader.{Leader}
 use Rattle.word.proofs.Tests.{tests}
 use Rattle.layout.proofs.Facts.{record_length_facts}
 use Rattle.record.specs.Directory.{tag_at, pos_at, len_at, entry_right, entries_right, directory_right}
-use Rattle.record.specs.Record.{leader_right, extent_right, base_right, fields_right, status_for, status_right, back_fine, well_formed, record_right, broken_entry, no_back, Readable}
-use Rattle.record.specs.Inner.{broken_of, number_told, test_of}
+use Rattle.record.specs.Record.{leader_right, extent_right, base_right, fields_right, status_for, status_right, back_fine, well_formed, record_right, broken_entry, number_told, no_back, Readable}
+use Rattle.record.specs.Inner.{broken_of, test_of}
 use Rattle.std.proofs.Common.{Ok, Err}
 use Rattle.record.specs.declared.test.Broken.{Broken}
 

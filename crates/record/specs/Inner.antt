@@ -7,14 +7,10 @@ use Rattle.layout.specs.declared.leader.Leader.{Leader}
 use Rattle.record.specs.declared.test.Broken.{Broken}
 use Rattle.record.specs.declared.test.Broken.TheVariants.{Leader as BadLeader, Entry as BadEntry}
 
--- what is broken, by the number that is told of it: 0 is the leader, and n entry n; and back
+-- what is broken, by the number that is told of it: 0 is the leader, and n entry n
 abbrev pub broken_of : ℕ → Broken
 broken_of zero = BadLeader
 broken_of (suc n) = BadEntry (suc n)
-
-abbrev pub number_told : Broken → ℕ
-number_told BadLeader = 0
-number_told (BadEntry n) = n
 
 -- what the test answers: the leader of a record that passes, or what is broken, the leader or the first entry that breaks a rule
 unfoldable pub test_of : List ℕ → ℕ → Bool → Result Leader Broken

@@ -8,6 +8,8 @@ use Rattle.layout.specs.declared.entry.Mark.TheVariants.{Settled, Changed, New}
 use Rattle.layout.specs.declared.entry.Place.{Place}
 use Rattle.layout.specs.declared.leader.Leader.{Leader}
 use Rattle.record.specs.Directory.{isis, directory_right, first_broken}
+use Rattle.record.specs.declared.test.Broken.{Broken}
+use Rattle.record.specs.declared.test.Broken.TheVariants.{Leader as BadLeader, Entry as BadEntry}
 
 -- the MFN field is m; MFRL is in range and the record stops at or before the end, `left` bytes on
 unfoldable pub extent_right : ℕ → ℕ → Leader → Bool
@@ -73,6 +75,11 @@ record_right rec m deleted = leader_right m deleted (length rec) (leader_of rec)
 -- the number of the first entry that breaks a rule, counted from 1; 0 if the record passes or its leader already fails
 unfoldable pub broken_entry : List ℕ → ℕ → Bool → ℕ
 broken_entry rec m deleted = cond (leader_right m deleted (length rec) (leader_of rec)) (fields_broken rec (leader_of rec)) 0
+
+-- the number that is told of what is broken: 0 is the leader, and n entry n
+abbrev pub number_told : Broken → ℕ
+number_told BadLeader = 0
+number_told (BadEntry n) = n
 
 -- ---- Inner: serves functions and proofs, no part of what is promised
 

@@ -63,6 +63,7 @@ fn past_entry(rec: &[u8], room: usize, i: usize, pos: usize) -> Result<usize, u3
 }
 
 // The same of the four entries from `i` on: the sum behind them, or the number of the first that breaks a rule.
+#[tactic(auto, unfolding(crate::specs::Inner::past))]
 fn past_four(rec: &[u8], room: usize, i: usize, pos: usize) -> Result<usize, u32>
     requires { (42 + 6 * i ≤ length rec.now) × (pos ≤ room) × (room ≤ 65535) × (i ≤ 65532) }
     ensures is { result ≡ past isis rec.now room 4 i pos }

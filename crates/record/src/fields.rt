@@ -1,5 +1,5 @@
 // The fields of a record that passed its test, and the search among them.
-ghost use Rattle.std.specs.Prelude.{◌≡◌, length};
+ghost use Rattle.std.specs.Prelude.{◌≡◌, ◌<◌, length, get_or};
 ghost use Rattle.record.specs.Fields.{fields_of, find_of, data_of};
 ghost use Rattle.record.specs.Record.{Readable};
 
@@ -47,6 +47,14 @@ pub fn find_field(rec: &[u8], tag: Tag, occurrence: u32) -> Result<Span, NotFoun
         0 => Err(NotFound::Missing),
         occurrences => Err(NotFound::Fewer { occurrences }),
     }
+}
+
+// One byte of a record.
+pub fn byte_at(rec: &[u8], i: usize) -> u8
+    requires { i < length rec.now }
+    ensures { result ≡ get_or rec.now i 0 }
+{
+    rec[i]
 }
 
 // How many bytes of data the fields have: the last entry's POS plus its LEN.

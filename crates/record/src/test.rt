@@ -48,6 +48,7 @@ fn right_leader(rec: &[u8], m: Mfn, deleted: bool) -> Option<Leader>
 }
 
 // Tests the record at the front of `rec`, which ends at the store's end, for MFN `m`, all but its back pointer.
+#[tactic(auto, using(crate::proofs::RecordTest::answer_wrong))]
 pub fn test_record(rec: &[u8], m: Mfn, deleted: bool) -> Result<Leader, Broken>
     ensures { result ≡ test_of rec.now m.0 deleted }
 {

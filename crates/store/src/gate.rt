@@ -109,6 +109,7 @@ fn settled_fine(mst: &[u8], end: usize, m: Mfn, at: usize) -> bool
 
 impl<'a> OpenStore<'a> {
     // Opens the gate.
+    #[inline(always)]
     pub fn open(mst: &'a [u8], xrf: &'a [u8]) -> Result<OpenStore<'a>, Refusal>
         ensures refused { IfErr result (λ r. gate_of (store mst.now xrf.now) ≡ Err r) }
         ensures lent { IfOk result (λ s. (s.mst.now ≡ mst.now) × (s.xrf.now ≡ xrf.now)) }

@@ -5,9 +5,9 @@ use native.Mathlib.Omega.{arith}
 use mathlib.Core.Path.{◌≡◌, ◌∙◌}
 use mathlib.Core.List.{List, ◌++◌}
 use lib.ListN.{length, take, drop}
-use borrow.Rule.Slice.PartMut.{mid_of, put_mid}
+use borrow.Rule.Slice.PartMut.{mid_of}
 use Rattle.word.specs.Overwrite.{overwrite, part}
-use Rattle.word.proofs.Overwrite.{part_short, part_length, part_take, overwrite_in_part, returned_part}
+use Rattle.word.proofs.Overwrite.{part_short, part_take, overwrite_in_part}
 use Rattle.record.specs.Fields.{fields_of}
 use Rattle.record.specs.Record.{Readable}
 use Rattle.record.proofs.Facts.{readable_facts}
@@ -15,14 +15,13 @@ use Rattle.drafts.specs.Bytes.{used_by, need_for}
 use Rattle.drafts.proofs.Draftable.{need_used, readable_used}
 
 -- the old body is copied from the part before the end into the part behind it, and both come back
-pub body_copied : (d before behind copied : List ℕ) (at end used : ℕ) → before ≡ take end d → behind ≡ drop end d
+pub body_copied : (d before behind copied last : List ℕ) (at end used : ℕ) → before ≡ take end d → behind ≡ drop end d
     → copied ≡ mid_of (at + 18) (at + used - (at + 18)) before → 18 ≤ used → at + used ≤ end → end + used ≤ length d
-    → before ++ put_mid 18 (used - 18) behind copied ≡ overwrite d (end + 18) (part d (at + 18) (used - 18))
-body_copied d before behind copied at end used b r c low inside room =
+    → last ≡ overwrite behind 18 copied → before ++ last ≡ overwrite d (end + 18) (part d (at + 18) (used - 18))
+body_copied d before behind copied last at end used b r c low inside room written =
     let n : at + used - (at + 18) ≡ used - 18 = omega arith in
     let is : copied ≡ part d (at + 18) (used - 18) = c ∙ rw (n, b) (part_take d end (at + 18) (used - 18) (omega arith)) in
-    let long : used ≡ 18 + length (part d (at + 18) (used - 18)) = omega (arith, part_length d (at + 18) (used - 18) (omega arith)) in
-    rw (b, returned_part behind 18 used (part d (at + 18) (used - 18)) is long, r) (overwrite_in_part d end 18 (part d (at + 18) (used - 18)))
+    rw (written, b, is, r) (overwrite_in_part d end 18 (part d (at + 18) (used - 18)))
 
 -- what the copy asks: the body lies before the end, and the new record has room for it
 pub body_in : (d : List ℕ) (at end room used : ℕ) → Readable (part d at (end - at)) → used ≡ used_by (fields_of (part d at (end - at))) → at ≤ end

@@ -14,7 +14,7 @@ fn copy_body(mst: &mut [u8], at: usize, end: usize, used: usize)
     ensures { mst.new ≡ overwrite mst.old (end + 18) (part mst.old (at + 18) (used - 18)) }
 {
     let (before, behind) = mst.split_at_mut(end);
-    behind[18..used].copy_from_slice(&before[at + 18..at + used]);
+    word::bytes::copy_to(behind, 18, &before[at + 18..at + used]);
 }
 
 // Writes the fields of the record at `at`, which stops at or before the end, as a record at the end

@@ -24,7 +24,7 @@ use Rattle.store.specs.Answer.{number_of, lowest, after, Answer}
 use Rattle.store.specs.Reading.{place_for, record_from, record_at}
 use Rattle.store.specs.declared.answer.Refusal.TheVariants.{NoField, FewerFields}
 use Rattle.store.proofs.Gates.{Refusing, refusing_not_done, after_cases}
-use Rattle.views.specs.Views.{on_current, on_settled, among_fields, view_answer, settled_view_answer, found_start, found_length, occurrences_with, shown_at, view_of, settled_address, settled_view_of, shown_bytes}
+use Rattle.views.specs.Views.{on_current, on_settled, among_fields, view_answer, settled_view_answer, found_start, found_length, occurrences_told, occurrences_with, shown_at, view_of, settled_address, settled_view_of, shown_bytes}
 use Rattle.views.specs.Versions.{ReadableAt}
 use Rattle.views.specs.Theorems.{SaysWhich, WhichMissing}
 use Rattle.views.proofs.VersionAnswers.{current_then, settled_then, current_low, settled_low, current_readable, settled_readable, settled_from}
@@ -33,6 +33,11 @@ use Rattle.views.proofs.ViewAnswers.{uncounted}
 -- two answers with different numbers
 apart : {a b : Answer} → (number_of a ≡ number_of b → ⊥) → a ≡ b → ⊥
 apart h e = h (ap number_of e)
+
+-- the number that an answer carries
+abbrev told_by : Answer → ℕ
+told_by (Ok done) = 0
+told_by (Err refusal) = occurrences_told refusal
 
 -- where the field is among the fields, what the search finds of it in the record at an address are
 -- its bytes
@@ -65,6 +70,7 @@ module _ (mst : List ℕ) (before : Answer) (at end tag occ : ℕ) (readable : b
       record {
         missing = ((λ e. absurd (apart (λ z. omega arith) e)), (λ q. absurd (no q.0)));
         fewer = λ n. ((λ e. absurd (apart (λ z. omega arith) e.0)), (λ q. absurd (no q.0)));
+        told = λ n e. absurd (apart (λ z. omega arith) e);
         done = ((λ e. absurd (no e)), (λ q. absurd (no q.0)));
         shows = λ e. absurd (no e);
         other = λ e. uncounted before (occurrences_of (fields_of rec) tag) low;
@@ -78,6 +84,7 @@ module _ (mst : List ℕ) (before : Answer) (at end tag occ : ℕ) (readable : b
         record {
           missing = ((λ e. (d, f)), (λ q. refl));
           fewer = λ n. ((λ e. absurd (apart (λ z. omega arith) e.0)), (λ q. absurd (⊎_elim (λ z. omega arith) (λ z. omega arith) f)));
+          told = λ n e. absurd (apart (λ z. omega arith) e);
           done = ((λ e. absurd (apart (λ z. omega arith) e)), (λ q. absurd (⊎_elim (λ z. omega arith) (λ z. omega arith) f)));
           shows = λ e. absurd (apart (λ z. omega arith) e);
           other = λ e. refl;
@@ -92,6 +99,7 @@ module _ (mst : List ℕ) (before : Answer) (at end tag occ : ℕ) (readable : b
           record {
             missing = ((λ e. absurd (apart (λ z. omega arith) e)), (λ q. absurd (⊎_elim (λ z. omega arith) (λ z. omega arith) q.1)));
             fewer = λ n. ((λ e. (d, (e.1, (omega (arith, e.1), omega (arith, e.1))))), (λ q. (rw q.1.0 refl, q.1.0)));
+            told = λ n e. ap told_by e;
             done = ((λ e. absurd (apart (λ z. omega arith) e)), (λ q. absurd (omega arith)));
             shows = λ e. absurd (apart (λ z. omega arith) e);
             other = λ e. absurd (e (occurrences_of (fields_of rec) tag) refl);
@@ -105,6 +113,7 @@ module _ (mst : List ℕ) (before : Answer) (at end tag occ : ℕ) (readable : b
           record {
             missing = ((λ e. absurd (apart (λ z. omega arith) e)), (λ q. absurd (⊎_elim (λ z. omega arith) (λ z. omega arith) q.1)));
             fewer = λ n. ((λ e. absurd (apart (λ z. omega arith) e.0)), (λ q. absurd (omega arith)));
+            told = λ n e. absurd (apart (λ z. omega arith) e);
             done = ((λ e. (d, (some.1, enough))), (λ q. refl));
             shows = λ e. shown_field mst at end tag occ (readable d) p f;
             other = λ e. refl;

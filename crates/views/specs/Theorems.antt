@@ -18,6 +18,8 @@ pub record SaysWhich (before : Answer) (mst : List ℕ) (fs : List Field) (tag o
   pub missing : (r.answer ≡ Err NoField) ↔ ((before ≡ Ok tt) × ((occurrences_of fs tag ≡ 0) ⊎ (occ ≡ 0)))
   -- 15 with n exactly if the tag occurs n times, 1 ≤ n < occurrence
   pub fewer : (n : ℕ) → ((r.answer ≡ Err (FewerFields n)) × (r.occurrences ≡ n)) ↔ ((before ≡ Ok tt) × ((occurrences_of fs tag ≡ n) × ((1 ≤ n) × (n < occ))))
+  -- the number that answer 15 carries is the one that is handed out
+  pub told : (n : ℕ) → r.answer ≡ Err (FewerFields n) → r.occurrences ≡ n
   -- 0 exactly if the occurrence is at least 1, and at most the number of occurrences
   pub done : (r.answer ≡ Ok tt) ↔ ((before ≡ Ok tt) × ((1 ≤ occ) × (occ ≤ occurrences_of fs tag)))
   -- and the bytes shown are those of the field that is asked for

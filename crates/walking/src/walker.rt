@@ -43,11 +43,11 @@ fn spot_at(rec: &[u8], count: usize, index: usize) -> Spot
 
 // A walk over the fields of a record that can be read: the record's bytes, how many fields it has, and the directory index that the walk
 // has come to. It hands out the fields in directory order.
-#[derive(Drop)]
+#[derive(Clone, Copy)]
 pub struct FieldWalker<'a> {
-    rec: &'a [u8],
-    count: usize,
-    index: usize,
+    pub rec: &'a [u8],
+    pub count: usize,
+    pub index: usize,
     ghost readable: { Readable rec.now },
     ghost counted: { count ≡ (leader_of rec.now).nvf },
 }

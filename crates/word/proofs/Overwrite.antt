@@ -12,7 +12,7 @@ use native.Mathlib.Numerals.{add-one}
 use native.Mathlib.Omega.{arith}
 use lib.Dec.{ltb}
 use lib.ListN.{length, get_or, take, drop, set, length-append, length-take, length-drop, take-append-drop, drop_of_length-le, get_or-append}
-use lib.Seq.{length-take-le, take_all, take-nil, take_at, drop_at, take-take, take-add, drop-drop, take-append-le, take-append-add, get_or-take, get_or-drop, set_split, sets, sets-eq}
+use lib.Seq.{length-take-le, take-suc, take_all, take-nil, take_at, drop_at, take-take, take-add, drop-drop, take-append-le, take-append-add, get_or-take, get_or-drop, set_split, sets, sets-eq}
 use borrow.Author.Tests.{ltb-true, ltb-false}
 use borrow.Rule.Slice.PartMut.{mid_of, put_mid}
 use Rattle.word.specs.Overwrite.{overwrite, part}
@@ -213,6 +213,15 @@ pub overwrite_more : (d : List ℕ) (at : ℕ) (xs : List ℕ) (v : ℕ) → at 
     → set (overwrite d at xs) (at + length xs) v ≡ overwrite d at (xs ++ (v ∷ []))
 overwrite_more d at xs v h =
     overwrite_one (overwrite d at xs) (at + length xs) v (rw (overwrite_length d at xs (omega arith)) h) ∙ overwrite_next d at xs (v ∷ []) (omega arith)
+
+-- the next turn of a copy of s over d: its first i bytes are written, and byte i is stored behind them
+pub copy_more : {cur : List ℕ} (d s : List ℕ) (i : ℕ) → cur ≡ overwrite d 0 (take i s) → i < length s → length s ≤ length d
+    → set cur i (get_or s i 0) ≡ overwrite d 0 (take (i + 1) s)
+copy_more d s i e h k =
+    let n : 0 + length (take i s) ≡ i = omega (arith, length-take-le i s (omega arith)) in
+    let m : set (overwrite d 0 (take i s)) i (get_or s i 0) ≡ overwrite d 0 (take i s ++ (get_or s i 0 ∷ [])) =
+    ap (λ j. set (overwrite d 0 (take i s)) j (get_or s i 0)) (sym n) ∙ overwrite_more d 0 (take i s) (get_or s i 0) (omega arith) in
+    rw (e, add-one, take-suc s i 0 h) m
 
 -- ---- a lent part of a slice, as the borrow checker has it: mid_of a k d is lent, and when it is back with ys the slice is put_mid a k d ys
 

@@ -17,7 +17,6 @@ use Rattle.store.specs.Store.{Store}
 use Rattle.store.specs.Answer.{Row, number_of, refuse, lowest, Answer}
 use Rattle.store.specs.Reading.{lengths_permitted, control_fine, place_for, is_settled, is_new, current_fields}
 use Rattle.store.specs.Refusals.{gated, named, both_fine}
-use Rattle.store.specs.declared.answer.Refusal.{Refusal}
 use Rattle.store.specs.declared.answer.Refusal.TheVariants.{BadLength, BadControl, BadDraft, NoSlot, BadEntry, NotPending, NeverSettled, NoRoom}
 use Rattle.store.proofs.Gates.{passed, gated_passes, gate_done}
 use Rattle.writing.specs.Refusals.{exceeds, gated_unless, none_of, delete_named, create_answer, delete_answer, revert_answer}
@@ -89,16 +88,16 @@ module _ (s : Store) where
 -- ---- delete
 
 -- a row that is given only where none of some others applies may stand behind them
-pub late : (r : Refusal) (c : Bool) (rows rest : List Row) → lowest (refuse r (c && none_of rows) ∷ (rows ++ rest)) ≡ lowest (rows ++ (refuse r c ∷ rest))
-late a c [] rest = ap (λ (b : Bool). cond b (Err a) (lowest rest)) (and_true c)
+pub late : (a : Answer) (c : Bool) (rows rest : List Row) → lowest (record { answer = a; applies = c && none_of rows } ∷ (rows ++ rest)) ≡ lowest (rows ++ (record { answer = a; applies = c } ∷ rest))
+late a c [] rest = ap (λ (b : Bool). cond b a (lowest rest)) (and_true c)
   where
     and_true : (b : Bool) → b && true ≡ b
     and_true true = refl
     and_true false = refl
 late a c (r ∷ rows) rest = go r.applies c (late a c rows rest)
   where
-    go : (t b : Bool) → cond (b && none_of rows) (Err a) (lowest (rows ++ rest)) ≡ lowest (rows ++ (refuse a c ∷ rest))
-        → cond (b && (not t && none_of rows)) (Err a) (cond t r.answer (lowest (rows ++ rest))) ≡ cond t r.answer (lowest (rows ++ (refuse a c ∷ rest)))
+    go : (t b : Bool) → cond (b && none_of rows) a (lowest (rows ++ rest)) ≡ lowest (rows ++ (record { answer = a; applies = c } ∷ rest))
+        → cond (b && (not t && none_of rows)) a (cond t r.answer (lowest (rows ++ rest))) ≡ cond t r.answer (lowest (rows ++ (record { answer = a; applies = c } ∷ rest)))
     go true true h = refl
     go true false h = refl
     go false b h = h
@@ -113,7 +112,7 @@ module _ (s : Store) (m : ℕ) where
   delete_late =
       unless_rows s (count_none s.mst && none_of (delete_named s m [])) (delete_named s m (room_row ∷ []))
       ∙ ap (λ (a : Answer). cond (not (lengths_permitted s)) (Err BadLength) (cond (not (control_fine s)) (Err BadControl) a))
-      (late BadControl (count_none s.mst) (delete_named s m []) (room_row ∷ []))
+      (late (Err BadControl) (count_none s.mst) (delete_named s m []) (room_row ∷ []))
 
   -- where RECCNT is above 0
   pub delete_clear : count_none s.mst ≡ false → delete_answer s m ≡ lowest (gated s (delete_named s m (room_row ∷ [])))

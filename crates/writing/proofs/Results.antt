@@ -11,7 +11,7 @@ use lib.ListN.{length}
 use borrow.Author.Tests.{eqb-false, ltb-false, not-false}
 use Rattle.layout.specs.Sizes.{mfn_most, mst_blocks, mst_permitted, xrf_permitted, capacity_of}
 use Rattle.layout.specs.Entry.{placed}
-use Rattle.files.specs.Control.{next_of, end_of, formatted_mst, counted_more}
+use Rattle.files.specs.Control.{next_of, end_of, formatted_mst, count_full, counted_more}
 use Rattle.files.specs.CrossReference.{xrf_block, head_right, slot_free, with_entry, formatted_xrf}
 use Rattle.layout.specs.declared.sizes.Mfn.{Mfn}
 use Rattle.layout.specs.declared.entry.Mark.{Mark}
@@ -27,10 +27,12 @@ use Rattle.writing.specs.Refusals.{exceeds, format_answer, create_answer, settle
 use Rattle.versions.specs.Written.{created_mst, created_xrf, settled_mst, settled_xrf, reverted_mst, reverted_xrf}
 use Rattle.writing.proofs.Counted.{create_through, revert_through}
 use Rattle.writing.specs.Calls.{created, format_leaves, create_of, create_leaves, settle_leaves, revert_leaves}
-use Rattle.store.specs.Gate.{reached_if}
+use Rattle.files.specs.declared.control.Control.{Control}
+use Rattle.store.specs.Gate.{gate_of, reached_if}
+use Rattle.writing.proofs.Plans.{count_in, create_full}
 use Rattle.writing.specs.Plans.{settle_plan, revert_plan, create_plan}
 use Rattle.versions.specs.Asked.{HasSlot, AtEnd, DraftFits, RecordRead}
-use Rattle.store.specs.declared.answer.Refusal.TheVariants.{BadLength, BadDraft, NoSlot, BadEntry, NotPending, NeverSettled, NoRoom}
+use Rattle.store.specs.declared.answer.Refusal.TheVariants.{BadLength, BadControl, BadDraft, NoSlot, BadEntry, NotPending, NeverSettled, NoRoom}
 use Rattle.store.specs.declared.answer.Refusal.{Refusal}
 use Rattle.writing.specs.declared.create.Creating.{Creating}
 use Rattle.store.specs.declared.gate.Reached.{Reached}
@@ -105,6 +107,23 @@ module _ (mst xrf tags lens bytes : List ℕ) (plan : Result Creating Refusal) (
         × (store m x ≡ create_leaves (store mst xrf) (draft tags lens bytes))
     unfolding create_of create_leaves after number_of
     create_done m x s t = let w = written in (rw (w.0, w.1), rw (w.0, s, t))
+
+-- what a create's end tells of its plan, for a return beside those that it has: a need is above 0, and RECCNT bars a call
+module _ (mst xrf tags lens bytes : List ℕ) where
+  pub create_needs : (plan : Result Creating Refusal) → plan ≡ create_plan (store mst xrf) (draft tags lens bytes) → (k : Creating) → plan ≡ Ok k → 18 ≤ k.need
+  create_needs plan p k q = rw (create_asks mst xrf tags lens bytes plan p k q).1.0.1 (need_low (length tags) (length bytes))
+
+  module _ (g : Result Control Refusal) (p : g ≡ gate_of (store mst xrf)) (k : Control) (q : g ≡ Ok k) (full : Bool) (w : full ≡ count_full mst) (h : full ≡ true) where
+    barred : (created (Err BadControl) ≡ create_of (store mst xrf) (draft tags lens bytes)) × (store mst xrf ≡ create_leaves (store mst xrf) (draft tags lens bytes))
+    barred = create_refused mst xrf tags lens bytes (Err BadControl) (create_full mst xrf tags lens bytes g p k q full w h) BadControl refl
+
+    pub create_barred : created (Err BadControl) ≡ create_of (store mst xrf) (draft tags lens bytes)
+    create_barred = barred.0
+
+    pub create_barred_left : store mst xrf ≡ create_leaves (store mst xrf) (draft tags lens bytes)
+    create_barred_left = barred.1
+
+pub ruleset create_returns = (count_in, create_needs, create_barred, create_barred_left)
 
 -- ---- settle and revert
 

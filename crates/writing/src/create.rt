@@ -59,6 +59,7 @@ fn plan_create(mst: &[u8], xrf: &[u8], draft: Draft<'_>) -> Result<Creating, Ref
 }
 
 // Writes a new record, and gives its MFN.
+#[tactic(auto, using(crate::proofs::Results::create_returns))]
 pub fn create(mst: &mut [u8], xrf: &mut [u8], draft: Draft<'_>) -> Result<Mfn, Refusal>
     ensures answers { created result ≡ create_of (store mst.old xrf.old) (lent draft.entry) }
     ensures left { store mst.new xrf.new ≡ create_leaves (store mst.old xrf.old) (lent draft.entry) }

@@ -23,7 +23,7 @@ returns-in_err-leaf c =
     let p = err_from_is_err_and c.from_residual-in_err-leaf.result c.from_residual-in_err-leaf.ensures.1 in
     let key = key_is _ _ _ _ _ c.requires c.width.ensures.is c.copy_to.ensures c.part-key.ensures.is in
     rw (p.1, p.2, ← c.nodes.ensures)
-    (search_err _ _ _ _ _ _ (sym c.read_part.ensures ∙ c.in_ok-tree.ensures.ok_part) key _ c.in_err-leaf.ensures)
+    (search_err _ _ _ _ _ _ (sym c.read_part.ensures ∙ c.in_ok-tree.ensures.ok_part) key _ (sym c.in_err-leaf.was ∙ c.leaf_for.ensures))
 
 pub leaf_answer-requires : goal.leaf_answer-requires
 leaf_answer-requires c =
@@ -34,4 +34,4 @@ unfolding lookup_in
 returns c =
     let key = key_is _ _ _ _ _ c.requires c.width.ensures.is c.copy_to.ensures c.part-key.ensures.is in
     rw (← c.nodes.ensures, ← c.leaves.ensures)
-    (search_ok _ _ _ _ _ _ (sym c.read_part.ensures ∙ c.in_ok-tree.ensures.ok_part) key _ _ c.in_ok-leaf.ensures c.leaf_answer.ensures)
+    (search_ok _ _ _ _ _ _ (sym c.read_part.ensures ∙ c.in_ok-tree.ensures.ok_part) key _ _ (sym c.in_ok-leaf.was ∙ c.leaf_for.ensures) c.leaf_answer.ensures)
