@@ -108,10 +108,14 @@ module _ (mst xrf tags lens bytes : List ℕ) (plan : Result Creating Refusal) (
     unfolding create_of create_leaves after number_of
     create_done m x s t = let w = written in (rw (w.0, w.1), rw (w.0, s, t))
 
--- what a create's end tells of its plan, for a return beside those that it has: a need is above 0, and RECCNT bars a call
+-- what a create's plan tells a return beside those that it has: a need is above 0, its MFN is what the call gives, and RECCNT bars a call
 module _ (mst xrf tags lens bytes : List ℕ) where
   pub create_needs : (plan : Result Creating Refusal) → plan ≡ create_plan (store mst xrf) (draft tags lens bytes) → (k : Creating) → plan ≡ Ok k → 18 ≤ k.need
   create_needs plan p k q = rw (create_asks mst xrf tags lens bytes plan p k q).1.0.1 (need_low (length tags) (length bytes))
+
+  pub create_told : (plan : Result Creating Refusal) → plan ≡ create_plan (store mst xrf) (draft tags lens bytes) → (k : Creating) → plan ≡ Ok k
+      → created (Ok k.next) ≡ create_of (store mst xrf) (draft tags lens bytes)
+  create_told plan p k q = (create_done mst xrf tags lens bytes plan p k q _ _ refl refl).0
 
   module _ (g : Result Control Refusal) (p : g ≡ gate_of (store mst xrf)) (k : Control) (q : g ≡ Ok k) (full : Bool) (w : full ≡ count_full mst) (h : full ≡ true) where
     barred : (created (Err BadControl) ≡ create_of (store mst xrf) (draft tags lens bytes)) × (store mst xrf ≡ create_leaves (store mst xrf) (draft tags lens bytes))
@@ -123,7 +127,7 @@ module _ (mst xrf tags lens bytes : List ℕ) where
     pub create_barred_left : store mst xrf ≡ create_leaves (store mst xrf) (draft tags lens bytes)
     create_barred_left = barred.1
 
-pub ruleset create_returns = (count_in, create_needs, create_barred, create_barred_left)
+pub ruleset create_returns = (count_in, create_needs, create_told, create_barred, create_barred_left)
 
 -- ---- settle and revert
 
