@@ -6,9 +6,10 @@ use mathlib.Core.Path.{◌≡◌}
 use mathlib.Core.Bool.{true}
 use mathlib.Core.List.{List}
 use lib.ListN.{length}
-use Rattle.index.specs.Layout.{size_of, place_of, key_place, ock_at}
-use Rattle.index.specs.Rules.{record_there, rest_right, record_right, node_right}
+use Rattle.index.specs.Layout.{size_of, place_of, key_place, ock_at, plain}
+use Rattle.index.specs.Rules.{record_there, rest_right, record_right, node_right, record_right_any}
 use Rattle.index.specs.Shape.{Shape, ShapeFits}
+use Rattle.index.specs.declared.layout.AnyShape.{AnyShape}
 use Rattle.word.proofs.Tests.{tests, and_left}
 
 -- ---- sizes
@@ -94,3 +95,21 @@ keys_in f s n e =
     let r = right_facts f s n e in
     let m : ock_at f s n * s.step ≤ s.most * s.step = mul-le-mul_right s.step r.count_high in
     omega (arith, r.whole, m)
+
+-- ---- a record of any widths that keeps its rules
+
+pub any_facts : (f : List ℕ) (s : AnyShape) (n : ℕ) → record_right_any f s n ≡ true → RightFacts f (plain s) n
+unfolding record_right_any
+any_facts f s n e =
+    let q = simp tests at e in
+    let t = there_facts f (plain s) n q.0.0.0 in
+    record { there = q.0.0.0; place_low = t.number_low; whole = t.inside; count_low = q.0.1.0; count_high = q.0.1.1 }
+
+pub any_there : (f : List ℕ) (s : AnyShape) (n : ℕ) → record_right_any f s n ≡ true → record_there f (plain s) n ≡ true
+any_there f s n e = (any_facts f s n e).there
+
+-- every active entry lies in the file
+pub any_in : (f : List ℕ) (s : AnyShape) (n i : ℕ) → record_right_any f s n ≡ true → i < ock_at f (plain s) n → key_place (plain s) n i + s.step ≤ length f
+any_in f s n i e h =
+    let r = any_facts f s n e in
+    omega (arith, entry_in (plain s) n i (omega arith))

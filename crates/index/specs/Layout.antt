@@ -11,7 +11,9 @@ use Rattle.word.specs.Integer.{u16_at, u32_at}
 use Rattle.word.specs.Overwrite.{part}
 use Rattle.terms.specs.Term.{number_of}
 use Rattle.terms.specs.declared.term.Kind.{Kind}
+use Rattle.terms.specs.declared.term.Kind.TheVariants.{Short}
 use Rattle.index.specs.Shape.{Shape, shape}
+use Rattle.index.specs.declared.layout.AnyShape.{AnyShape}
 use Rattle.index.specs.declared.layout.Tree.{Tree}
 
 -- ---- limits
@@ -63,6 +65,10 @@ tree_of cnt kind =
       leaves = leaf_shape kind (2 * ordf_at cnt kind);
       root = posrx_at cnt kind;
     }
+
+-- the records of a file of any widths: where their fields stand is no matter of their type, which may be any number, so here they have one of the two
+abbrev pub plain : AnyShape → Shape
+plain s = record { kind = Short; head = s.head; width = s.width; step = s.step; most = s.most }
 
 -- ---- a record, by its number
 

@@ -2,8 +2,9 @@
 use Rattle.std.specs.Prelude.{ℕ, zero, suc, ◌*◌, Bool, true, not, ◌&&◌, cond, List, eqb, leb, ltb, length, Option, Some, None}
 use Rattle.terms.specs.Term.{number_of}
 use Rattle.terms.specs.declared.term.Kind.{Kind}
-use Rattle.index.specs.Layout.{cnt_bytes, order_most, size_of, pos_at, ock_at, it_at, punt_at, idtype_at, ordn_at, ordf_at, tree_of}
+use Rattle.index.specs.Layout.{cnt_bytes, order_most, size_of, pos_at, ock_at, it_at, punt_at, idtype_at, ordn_at, ordf_at, tree_of, plain}
 use Rattle.index.specs.Shape.{Shape}
+use Rattle.index.specs.declared.layout.AnyShape.{AnyShape}
 use Rattle.index.specs.declared.layout.Tree.{Tree}
 
 -- ---- CNT
@@ -56,3 +57,13 @@ punts_right f s n (suc i) = punts_right f s n i && not (eqb (punt_at f s n i) 0)
 -- a node met: as every record, and no PUNT 0 among the active entries
 unfoldable pub node_right : List ℕ → Shape → ℕ → Bool
 node_right f s n = record_right f s n && punts_right f s n (ock_at f s n)
+
+-- ---- a record met in a file of any widths
+
+-- the rules for every record, its own type being the number that is given
+unfoldable pub record_right_any : List ℕ → AnyShape → ℕ → Bool
+record_right_any f s n = record_there f (plain s) n && number_right f (plain s) n && count_right f (plain s) n && eqb (it_at f (plain s) n) s.kind
+
+-- and for a node
+unfoldable pub node_right_any : List ℕ → AnyShape → ℕ → Bool
+node_right_any f s n = record_right_any f s n && punts_right f (plain s) n (ock_at f (plain s) n)

@@ -1,6 +1,6 @@
 // Where the fields of CNT's parts, of nodes and of leaves stand, over the tree's type.
 ghost use Rattle.std.specs.Prelude.{◌≡◌, ◌+◌, ◌≤◌, ◌<◌};
-ghost use Rattle.index.specs.Layout.{size_of, place_of, key_place};
+ghost use Rattle.index.specs.Layout.{size_of, place_of, key_place, plain};
 ghost use Rattle.index.specs.Rules.{part_of, order_right};
 ghost use Rattle.index.specs.Shape.{ShapeFits};
 
@@ -90,6 +90,28 @@ impl<const HEAD: usize, const TAIL: usize> Shape<HEAD, TAIL> {
     {
         self.place(n) + HEAD + i * self.step()
     }
+}
+
+// The records of a file of any widths, and of any type; those of the trees are `Shape`. The type, the bytes before the entries, the key's width, the bytes of an entry, and
+// how many entries there are.
+#[derive(Clone, Copy)]
+pub struct AnyShape {
+    pub kind: u16,
+    pub head: usize,
+    pub width: usize,
+    pub step: usize,
+    pub most: usize,
+}
+
+// The bytes of a record.
+#[tactic(auto, using(crate::proofs::Shapes::size_high), unfolding(crate::specs::Layout::size_of))]
+pub fn size(s: AnyShape) -> usize
+    requires { ShapeFits (plain s) }
+    ensures is { result ≡ size_of (plain s) }
+    ensures high { result ≤ 1228 }
+    ensures low { 8 ≤ result }
+{
+    s.head + s.most * s.step
 }
 
 // A tree: its two files' records, and its root.

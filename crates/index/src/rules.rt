@@ -1,10 +1,11 @@
 // The records of a node or a leaf file that was lent, and the rules of answer 21 that each one met has to keep.
 ghost use Rattle.std.specs.Prelude.{◌≡◌, true, ◌+◌, ◌<◌, ◌≤◌, length};
-ghost use Rattle.index.specs.Layout.{ock_at, key_at, key_place, ps_at, punt_at};
+ghost use Rattle.index.specs.Layout.{size_of, place_of, ock_at, key_at, key_place, ps_at, punt_at, plain};
 ghost use Rattle.index.specs.Inner.{child_of};
-ghost use Rattle.index.specs.Rules.{record_there, rest_right, record_right, punts_right, node_right};
+ghost use Rattle.index.specs.Rules.{record_there, rest_right, record_right, punts_right, node_right, record_right_any, node_right_any};
+ghost use Rattle.index.specs.Shape.{ShapeFits};
 
-use crate::layout::Shape;
+use crate::layout::{AnyShape, Shape, size};
 use word::bytes::part;
 use word::integer::{u16_at, u32_at};
 
@@ -150,4 +151,91 @@ impl<'a> Nodes<'a> {
     {
         self.keeps_rules(n) && self.punts_right(n)
     }
+}
+
+// ---- The records of a file of any widths.
+
+// Where record `n` begins.
+#[tactic(auto, using(crate::proofs::Shapes::times_size), unfolding(crate::specs::Layout::place_of))]
+fn place(s: AnyShape, n: u32) -> usize
+    requires { (ShapeFits (plain s)) × (1 ≤ n) }
+    ensures is { result ≡ place_of (plain s) n }
+    ensures low { 8 ≤ size_of (plain s) }
+    ensures high { result ≤ 5274219839488 }
+{
+    (n as usize - 1) * size(s)
+}
+
+// Where the key of entry `i` of record `n` begins.
+#[tactic(auto, using(crate::proofs::Shapes::times_step), unfolding(crate::specs::Layout::key_place))]
+fn key_place(s: AnyShape, n: u32, i: usize) -> usize
+    requires { (ShapeFits (plain s)) × (1 ≤ n) × (i < 65536) }
+    ensures { result ≡ key_place (plain s) n i }
+{
+    place(s, n) + s.head + i * s.step
+}
+
+// Whether all bytes of record `n` are in the file. Its number is compared before it is multiplied.
+#[tactic(auto, using(crate::proofs::Shapes::times_size), unfolding(crate::specs::Rules::record_there))]
+fn record_there(file: &[u8], s: AnyShape, n: u32) -> bool
+    requires { ShapeFits (plain s) }
+    ensures { result ≡ record_there file.now (plain s) n }
+{
+    1 <= n && n <= 2147483647 && n as usize * size(s) <= file.len()
+}
+
+// OCK of record `n`, as many keys as are active.
+fn count_at(file: &[u8], s: AnyShape, n: u32) -> usize
+    requires { (ShapeFits (plain s)) × (record_there file.now (plain s) n ≡ true) }
+    ensures is { result ≡ ock_at file.now (plain s) n }
+    ensures high { result < 65536 }
+{
+    usize::from(u16_at(file, place(s, n) + 4))
+}
+
+// Whether record `n` keeps the rules for every record.
+#[tactic(auto, unfolding(crate::specs::Rules::record_right_any))]
+pub fn record_right(file: &[u8], s: AnyShape, n: u32) -> bool
+    requires { ShapeFits (plain s) }
+    ensures { result ≡ record_right_any file.now s n }
+{
+    if !record_there(file, s, n) {
+        return false;
+    }
+    let at = place(s, n);
+    let count = count_at(file, s, n);
+    let number = u32_at(file, at);
+    let kind = u16_at(file, at + 6);
+    number == n && 1 <= count && count <= s.most && kind == s.kind
+}
+
+// PUNT of entry `i` of node `n`.
+fn punt_at(file: &[u8], s: AnyShape, n: u32, i: usize) -> u32
+    requires { (ShapeFits (plain s)) × (record_right_any file.now s n ≡ true) × (i < ock_at file.now (plain s) n) }
+    ensures { result ≡ punt_at file.now (plain s) n i }
+{
+    u32_at(file, key_place(s, n, i) + s.width)
+}
+
+// Whether no active PUNT of node `n` is 0.
+#[tactic(auto, using(crate::proofs::Shapes::any_there, crate::proofs::Nodes::punts_more), unfolding(crate::specs::Rules::punts_right))]
+fn punts_right(file: &[u8], s: AnyShape, n: u32) -> bool
+    requires { (ShapeFits (plain s)) × (record_right_any file.now s n ≡ true) }
+    ensures { result ≡ punts_right file.now (plain s) n (ock_at file.now (plain s) n) }
+{
+    for i in 0..count_at(file, s, n) {
+        if punt_at(file, s, n, i) == 0 {
+            return false;
+        }
+    }
+    true
+}
+
+// Whether record `n` keeps the rules for a node.
+#[tactic(auto, unfolding(crate::specs::Rules::node_right_any))]
+pub fn node_right(file: &[u8], s: AnyShape, n: u32) -> bool
+    requires { ShapeFits (plain s) }
+    ensures { result ≡ node_right_any file.now s n }
+{
+    record_right(file, s, n) && punts_right(file, s, n)
 }
